@@ -12,15 +12,16 @@ from map_words import number, option, shown, text, untagged, with_tag
 class Model(Entries):
     """Pairs in the order of their keys' bytes. A method for each call, of the words behind its name. Where `refuse` is
     a number, the removal by an extraction with this number, of those that make a node smaller, finds no memory, and so
-    does the insertion with this number of a call that makes several, of those of new keys."""
+    does the insertion with this number of a call that makes several, of those of new keys. For the first `room` pairs
+    that the next line puts in, the line before has made room, so that they are not counted."""
 
-    def __init__(self, is_ended, pairs=(), other=(), bag=(), refuse=None):
+    def __init__(self, is_ended, pairs=(), other=(), bag=(), refuse=None, room=0):
         self.pairs, self.other, self.bag = Pairs(pairs), Pairs(other), list(bag)
-        self.is_ended, self.refuse, self.changes = is_ended, refuse, 0
+        self.is_ended, self.refuse, self.changes, self.room = is_ended, refuse, 0, room
 
     def again(self):
         """The same pairs, with memory."""
-        return Model(self.is_ended, self.pairs, self.other, self.bag)
+        return Model(self.is_ended, self.pairs, self.other, self.bag, room=self.room)
 
     def size(self):
         return len(self.pairs) + len(self.other) + len(self.bag)
@@ -55,7 +56,9 @@ class Model(Entries):
             name, words = "fill", [call, *words]
         if call in PREFIX_FILLING:
             name, words = "fill_prefix", [call, *words]
-        return getattr(self, name)(*words)
+        told = getattr(self, name)(*words)
+        self.room = int(words[0]) if call == "reserve" else 0
+        return told
 
     # Look-ups.
     def call_len(self, *_):
@@ -179,6 +182,9 @@ class Model(Entries):
         self.pairs = Pairs()
         return "done"
 
+    def call_reserve(self, *_):
+        return "done"
+
     def take(self, key):
         return f"{shown(self.pairs.kept(key))} {self.pairs.pop(key)}" if key in self.pairs else "None"
 
@@ -232,12 +238,12 @@ class Model(Entries):
         self.other = Pairs()
         return "done"
 
-    def put_bag(self, pairs, any_key=False):
+    def put_bag(self, pairs, room=0):
         """Puts the bag's pairs into these, one by one, and tells which found no memory if one did: one with a new key,
-        or, where nodes wait for the next pair, any."""
+        behind so many for which there is room."""
         given, self.bag = self.bag, []
-        for key, value in given:
-            may_ask = any_key or key not in pairs
+        for at, (key, value) in enumerate(given):
+            may_ask = at >= room and key not in pairs
             self.changes += may_ask
             if may_ask and self.changes == self.refuse:
                 return f"memory {shown(key)} {value}"
@@ -245,11 +251,11 @@ class Model(Entries):
         return "done"
 
     def call_extend(self, *_):
-        return self.put_bag(self.pairs)
+        return self.put_bag(self.pairs, self.room)
 
     def call_from_vec(self, *_):
         made = Pairs()
-        told = self.put_bag(made, any_key=True)
+        told = self.put_bag(made)
         self.pairs = made if told == "done" else self.pairs
         return told
 

@@ -12,8 +12,9 @@ Under tests/refuse.c, which says what a window is, it runs
   must be as if it stood once. Only lines that may be refused by the definition may ask for memory.
 - each script of tests/maps, and the first lines of six that are made at random, line by line likewise, by play_map;
   and of all scripts that are made at random the lines whose calls are rare, while the maps are small. Behind each
-  refused line both maps are looked at by the checker, and gone along from both ends. Tables tell how many requests
-  each call and each line of the program made, and how often it was refused; they go to out/refusals.md.
+  refused line both maps are looked at by the checker, and gone along from both ends. A call that builds may do without
+  what it is refused, and succeed. Tables tell how many requests each call and each line of the program made, how often
+  it was refused, and how often a call did without; they go to out/refusals.md.
 """
 import collections
 import itertools
@@ -35,6 +36,12 @@ SCENARIOS, PROGRAM, REFUSED, CONFLICT = "refusals", "art_index", b"memory\n", b"
 NO_MEMORY = "takes_no_memory"
 # Calls of the map that take out or put in several pairs, one by one, and calls that take no memory.
 SEVERAL = {"retain", "extract_if", "extraction", "extend", "from_vec", "from_iter"}
+# Calls that build along the last leaf, and insert where there is no memory to build: a request may be refused, and they
+# succeed. One of them has to: it puts in no more pairs than there is room for.
+BUILDING = {"extend", "extend_from_refs", "from_vec", "from_iter", "and", "or", "xor", "minus"}
+WITH_ROOM = "extend with room"
+# Calls that put in one pair, and need no memory where there is room for it.
+SINGLE = {"insert", "try_insert", "replace_entry"}
 # Calls that are given a key, and calls that take out one pair.
 REMOVALS = {"remove", "remove_entry", "pop_first", "pop_last", "take", "entry_remove", "entry_remove_entry"}
 # Calls that take out all keys behind a prefix, or make ready for it.
@@ -47,7 +54,10 @@ PLAYERS_OWN = {"drain"}
 # Calls that are seldom in a script: each is refused in every script, where so many pairs are held at most, and in so
 # many runs at least; any other call that may ask for memory in one.
 RARE = {"append", "split_off", "clone", "retain", "extend", "from_vec", "from_iter", "and", "or", "xor", "minus"}
-MOST, LEAST = 60, {it: 2 if it == "retain" else 20 for it in RARE}
+MOST, LEAST = 60, {**{it: 2 if it == "retain" else 20 for it in RARE}, WITH_ROOM: 0}
+# Each call that builds does without what it is refused in so many runs at least. (Of pairs that are lent the player
+# puts in the last first, so that few are built.)
+WITHOUT = {it: 2 if it == "extend_from_refs" else 40 for it in BUILDING | {WITH_ROOM}}
 TAKE_NONE = {"len", "is_empty", "get", "get_key_value", "contains_key", "index", "prefix_get", "prefix_get_key_value"}
 TAKE_NONE |= {"first_key_value", "last_key_value", "get_mut", "prefix_get_mut", "prefix_get_key_value_mut", "clear"}
 TAKE_NONE |= {"iter", "keys", "values", "range", "prefix", "range_mut", "prefix_mut", "iter_mut", "values_mut", "swap"}
@@ -62,6 +72,8 @@ counts, runs, requests = {True: 0, False: 0}, 0, 0
 # Of each call and kind of keys, and of each word of the program and reply: its lines, those that made no request, the
 # most requests that one made, and the runs in which one was refused.
 told, told_lines = (collections.defaultdict(lambda: [0, 0, 0, 0]) for _ in range(2))
+# Of each call that builds, and kind of keys: the runs in which a request was refused, and it succeeded.
+without = collections.Counter()
 
 
 def run(words, refuse, line=None, given=b"", statuses=(0,)):
@@ -212,7 +224,7 @@ def look(kind, model):
 
 def takes_none(line, model, kind):
     """Whether a call takes no memory at these maps, that for its key aside: with an empty side, with a key that is
-    stored, or where it takes out a pair that leaves no smaller node."""
+    stored, with room that was made, or where it takes out a pair that leaves no smaller node."""
     call, word = f"{line} ".split(" ")[:2]
     one = map_model.Model(True, dict.fromkeys(model.keys)) if kind == "set" else model
     if call in REMOVALS:
@@ -225,29 +237,47 @@ def takes_none(line, model, kind):
     if call in CUTS:
         other = map_model.Model(True, model.other)
         return not (one.cut_shrinks(word) or call == "remove_from_both" and other.cut_shrinks(word))
+    if call in SINGLE and one.room:
+        return True
     return call in TAKE_NONE | KEY_ALONE or call in GIVEN_KEY and one.key(word) in one.pairs
+
+
+def builds_all(call, model, kind):
+    """Whether a call builds all that the bag has, from nothing: it ascends."""
+    given = [it if kind == "set" else it[0] for it in model.bag]
+    is_first = call in maps.FROM_BAG and not (call == "extend" and (model.keys if kind == "set" else model.pairs))
+    return is_first and all(one < other for one, other in zip(given, given[1:]))
 
 
 def one_call(words, kind, lines, at, model, before):
     """A line of a script stands twice, and is refused the first time. Both maps are looked at in between, and all must
     be as if the line stood once. Of a line that takes out or puts in several pairs, those before the refused one are
-    gone, or stand there, and of a line that hands over a bag nothing is left in it."""
+    gone, or stand there, and of a line that hands over a bag nothing is left in it. Where a line does without what it
+    is refused, all must be as if it stood twice, and nothing was refused. If it was to build all, it has to: what it
+    inserts instead finds memory, unless all later requests are refused."""
     call, behind = lines[at].split(" ")[0], look(kind, model) + lines[at:]
-    tally = told[call, "set" if kind == "set" else "map"]
+    has_room = call == "extend" and 0 < len(model.bag) <= model.room
+    title = WITH_ROOM if has_room else call, "set" if kind == "set" else "map"
     twice = "".join(f"{it}\n" for it in [words[1], *lines[: at + 1], *behind]).encode()
     free, refused = played(model.again(), behind), 0
+    whole = played(model.again(), [lines[at], *behind]) if call in BUILDING else None
     for label, out, *_ in each_refusal(words[:1], line=at + 2, given=twice):
         assert out.startswith(before), f"{label}: it answers {out[-300:]}"
-        answer, _, rest = out[len(before) :].partition(b"\n")
+        rest = out[len(before) :]
+        if rest == whole:
+            without[title] += 1
+            continue
+        answer, _, left = rest.partition(b"\n")
         if call in SEVERAL:
-            answer, rest = b"memory", out[len(before) :]
+            answer = b"memory"
             assert any(is_cut(model, refuse, lines[at], behind, rest) for refuse in range(1, 999)), f"{label}: {rest}"
+            assert "+ " in label or not builds_all(call, model, kind), f"{label}: it doesn't insert what it can't build"
         else:
-            assert rest == free, f"{label}: behind {answer} {rest[:300]}, and not {free[:300]}"
+            assert left == free, f"{label}: behind {answer} {left[:300]}, and not {free[:300]}"
         assert re.match(rb"memory\b|no key", answer), f"{label}: it answers {answer}"
         assert answer == b"no key" or not takes_none(lines[at], model, kind), f"{label}: it asks for memory"
         refused += answer.startswith(b"memory")
-    add(tally, refused)
+    add(told[title], refused)
 
 
 def is_cut(model, refuse, line, behind, rest):
@@ -290,17 +320,20 @@ def table():
     """How often each call of the scripts was refused. One that may be must have been so often enough."""
     with open("out/refusals.md", "w", encoding="utf-8") as file:
         for (call, of), row in sorted(told.items(), key=lambda it: (it[0][1], it[0][0])):
-            file.write(f"| `{call}` | {of} | {' | '.join(map(str, row))} |\n")
+            file.write(f"| `{call}` | {of} | {' | '.join(map(str, [*row, without[call, of]]))} |\n")
         file.write("\n")
         for (name, reply), row in sorted(told_lines.items()):
             file.write(f"| `{name}` | `{reply}` | {' | '.join(map(str, row))} |\n")
     print(open("out/refusals.md", encoding="utf-8").read(), end="")
-    for of, calls_of in (("map", {**maps.CALLS, **maps.FREE, **maps.ENDED_CALLS}), ("set", maps.SET_CALLS)):
+    every = {"map": [*maps.CALLS, *maps.FREE, *maps.ENDED_CALLS, "reserve", WITH_ROOM], "set": maps.SET_CALLS}
+    for of, calls_of in every.items():
         missing = [it for it in calls_of if (it, of) not in told]
         count("play_map", f"each call of a {of} has a line that is refused", enough, -len(missing), 0)
     for call, of in sorted(told):
         if call not in TAKE_NONE | KEY_ALONE:
             count("play_map", f"refusals of {call} of a {of}", enough, told[call, of][3], LEAST.get(call, 1))
+        if call in WITHOUT:
+            count("play_map", f"{call} of a {of} that does without", enough, without[call, of], WITHOUT[call])
 
 
 resource.setrlimit(resource.RLIMIT_CORE, (0, 0))

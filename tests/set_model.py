@@ -4,7 +4,10 @@ from map_words import Refused, bytes_in, hashed, number, shown, text, with_tag
 
 
 class SetModel:
-    """Two sets of keys with a zero at the end, of which the first is asked; `refuse` as in the model of a map."""
+    """Two sets of keys with a zero at the end, of which the first is asked; `refuse` as in the model of a map. There
+    never is room that was made."""
+
+    room = 0
 
     def __init__(self, keys=(), other=(), bag=(), refuse=None):
         self.keys, self.other, self.bag, self.refuse, self.changes = set(keys), set(other), list(bag), refuse, 0
@@ -202,10 +205,10 @@ class SetModel:
         self.bag += sorted(self.other, reverse=end == "b")
         return self.made(self.keys, set())
 
-    def put_bag(self, keys, any_key=False):
+    def put_bag(self, keys):
         given, self.bag = self.bag, []
         for key in given:
-            may_ask = any_key or key not in keys
+            may_ask = key not in keys
             self.changes += may_ask
             if may_ask and self.changes == self.refuse:
                 return f"memory {shown(key)}"
@@ -217,7 +220,7 @@ class SetModel:
 
     def call_from_vec(self, *_):
         made = set()
-        told = self.put_bag(made, any_key=True)
+        told = self.put_bag(made)
         self.keys = made if told == "done" else self.keys
         return told
 

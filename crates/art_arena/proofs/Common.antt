@@ -1,5 +1,5 @@
 -- What proofs above this crate name of it, from one place: its words and its lemmas.
-pub use Rattle.art_arena.proofs.Terms.{Allocates, AreAround, AreBelow, AreHalves, AreHeld, AreLinked, AreUnder, Arena, AscendsByKey, Branches, Cell, ChangesKind, Forest, Frame, Group, HasNoFront, HasRoom, HasRoomOf, Held, Holds, HoldsOnly, IsArenaClone, IsAtDepth, IsAtKey, IsBeside, IsCanonical, IsCrossing, IsHeldClone, IsIn, IsKindOf, IsLimit, IsList, IsMeant, IsNodesBeside, IsPart, IsPlace, IsPutIn, IsSubtree, IsTreeBeside, IsUnder, KeepsLinksOutside, KeepsNodes, KeepsRoom, KeepsRoomOf, KeysWithin, LandsAt, LeafAt, Links, Means, OnWayTo, ReadsPath, SameCells, SameLeaves, SameNodes, Shape, Shrinks, Step, Stores, StoresAt, StoresBelow, StoresBeside, StoresOnly, TakesFronts, Tree, UpdatesAt, UsesRoomOf, WritesLinks, add_to, as_inner, as_leaf, begins_with, branch, branches, byte_after, bytes_after, cell_of, cells, cells_after, cells_before, cells_in, child, children_at, children_of, copies, count, count_of, crossings, distinct, end_slot, erase, erase_in, fill, first_slot, found_in, frame_cell, fronts_of, fronts_with, grouped, held_as, held_at, inner, inner_at, inner_held, is_before, items, join, key_of, last_slot, leaf, leaf_at, leaf_held, leaf_name, leaf_where, leaves, leaves_after, leaves_before, leaves_held, leaves_in, links_at, links_of, name_of, neighbour_fronts, no_branch, no_child, node_at, node_of, nodes_in, nodes_with, pair, pairs_of, passing, path_in, path_of, path_to, plug, prefix_of, put_in_order, root_of, same_kind, same_name, slots_of, steps_of, steps_to, times, tree_below, tree_of, width, width_of, with_front, with_leaf, with_leaf_value, without_front}
+pub use Rattle.art_arena.proofs.Terms.{Allocates, AreAround, AreBelow, AreHalves, AreHeld, AreLinked, AreUnder, Arena, AscendsByKey, Branches, Cell, ChangesKind, Forest, Frame, FreesRoomOf, Group, HasNoFront, HasRoom, HasRoomOf, Held, Holds, HoldsOnly, IsArenaClone, IsAtDepth, IsAtKey, IsBeside, IsCanonical, IsCrossing, IsHeldClone, IsIn, IsKindOf, IsLimit, IsList, IsMeant, IsNodesBeside, IsPart, IsPlace, IsPutIn, IsSubtree, IsTreeBeside, IsUnder, KeepsLinksOutside, KeepsNodes, KeepsRoom, KeepsRoomOf, KeysWithin, LandsAt, LeafAt, Links, Means, OnWayTo, ReadsPath, SameCells, SameLeaves, SameNodes, Shape, Shrinks, Step, Stores, StoresAt, StoresBelow, StoresBeside, StoresOnly, TakesFronts, Tree, UpdatesAt, UsesRoomOf, WritesLinks, add_to, as_inner, as_leaf, begins_with, branch, branches, byte_after, bytes_after, cell_of, cells, cells_after, cells_before, cells_in, child, children_at, children_of, copies, count, count_of, crossings, distinct, end_slot, erase, erase_in, fill, first_slot, found_in, frame_cell, fronts_of, fronts_with, grouped, held_as, held_at, inner, inner_at, inner_held, is_before, items, join, key_of, last_slot, leaf, leaf_at, leaf_held, leaf_name, leaf_where, leaves, leaves_after, leaves_before, leaves_held, leaves_in, links_at, links_of, name_of, neighbour_fronts, no_branch, no_child, node_at, node_of, nodes_in, nodes_with, pair, pairs_of, passing, path_in, path_of, path_to, plug, prefix_of, put_in_order, root_of, same_kind, same_name, slots_of, steps_of, steps_to, times, tree_below, tree_of, width, width_of, with_front, with_leaf, with_leaf_value, without_front}
 pub use Rattle.art_arena.proofs.shapes.Besides.{keeps-beside, keeps-held, keeps-same}
 pub use Rattle.art_arena.proofs.shapes.CellLists.{Holds-add, Holds-remove, Holds-same, Holds-swap, Holds-turn, Holds-write, cell_children, copies-append, copies-vacant, holds-only, only-holds, same_cell, same_kind_tells, same_name-self, same_name_tells}
 pub use Rattle.art_arena.proofs.shapes.Contexts.{AreUnder-join, IsUnder-plug, cells-plug, cells_in-join, children_at-join, leaves-plug, leaves_in-join, length-children, name_of-plug, width-join}

@@ -13,7 +13,7 @@ pub use Rattle.art_arena.specs.arena.Meaning.{IsAtDepth, IsNodesBeside, IsPart, 
 pub use Rattle.art_arena.specs.arena.Places.{IsPlace}
 pub use Rattle.art_arena.specs.arena.Prefixes.{Mismatches, prefix_of}
 pub use Rattle.art_arena.specs.arena.Reads.{IsReadAt, KeysWithin, ReadsAtLeast, ReadsToFirst, unguided}
-pub use Rattle.art_arena.specs.arena.Rooms.{SameLeaves, UsesRoomOf}
+pub use Rattle.art_arena.specs.arena.Rooms.{FreesRoomOf, SameLeaves, UsesRoomOf}
 pub use Rattle.art_arena.specs.arena.Shapes.{AreUnder, Branches, IsBranch, IsUnder, LeafAt, Shape, branch, cells, cells_in, children_at, erase, erase_in, inner_at, join, key_of, leaf_at, leaves, leaves_in, name_of, no_branch, node_of, pairs_of, width}
 pub use Rattle.art_arena.specs.arena.Steps.{Step, steps_of, steps_to}
 pub use Rattle.art_arena.specs.arena.Stores.{IsMeant, Stores, StoresAt, StoresBelow, StoresBeside, StoresOnly}

@@ -68,7 +68,7 @@ impl<K, V, const PREFIX_LEN: usize> NodeArena<K, V, PREFIX_LEN> {
     ghost use Rattle.art_arena.specs.arena.Shapes.{Shape, leaves};
     ghost use Rattle.art_arena.specs.arena.Stores.{StoresOnly};
     ghost use Rattle.art_arena.specs.arena.Arena.{HasRoomOf, IsTrimmed, KeepsRoom, KeepsRoomOf, UsesRoom};
-    ghost use Rattle.art_arena.specs.arena.Rooms.{UsesRoomOf, SameLeaves};
+    ghost use Rattle.art_arena.specs.arena.Rooms.{FreesRoomOf, UsesRoomOf, SameLeaves};
     ghost use Rattle.art_arena.specs.arena.ArenaClones.{IsArenaClone};
 
     /// Makes an arena that holds no node. It allocates nothing.
@@ -269,6 +269,7 @@ impl<K, V, const PREFIX_LEN: usize> NodeArena<K, V, PREFIX_LEN> {
             None }
         ensures room { KeepsRoom self.old self.new }
         ensures room_of { KeepsRoomOf self.old self.new }
+        ensures frees { FreesRoomOf N.Kind.TYPE self.old self.new }
     {
         N::remove(self, ptr.slot())
     }

@@ -5,6 +5,7 @@ ghost use Rattle.art_nodes.specs.Kind.{row_of, shrunk_kind, CanShrink};
 ghost use Rattle.art_arena.specs.arena.Cells.{UpdatesAt};
 ghost use Rattle.art_arena.specs.arena.Arena.{held_at, as_inner, inner_held, Allocates, SameNodes, HasRoom, KeepsRoom};
 ghost use Rattle.art_arena.specs.arena.Arena.{HasRoomOf, KeepsRoomOf, UsesRoom};
+ghost use Rattle.art_arena.specs.arena.Rooms.{FreesRoomOf};
 ghost use Rattle.art_arena.specs.arena.NodeEdits.{edited, MayEdit};
 
 use crate::arena::NodeArena;
@@ -124,6 +125,7 @@ where
         (as_inner (edited edit.now n)) }
     ensures room { KeepsRoom arena.old arena.new }
     ensures room_of { KeepsRoomOf arena.old arena.new }
+    ensures frees { edit.now ≡ NodeEdit.Free → FreesRoomOf N.Kind.TYPE arena.old arena.new }
 {
     if let NodeEdit::Free = *edit {
         arena.deallocate_node_ptr::<N>(ptr);
@@ -151,6 +153,7 @@ impl<K, V, const PREFIX_LEN: usize> NodeArena<K, V, PREFIX_LEN> {
             → UpdatesAt (held_at self.old) (held_at self.new) name (as_inner (edited edit.now n)) }
         ensures room { KeepsRoom self.old self.new }
         ensures room_of { KeepsRoomOf self.old self.new }
+        ensures frees { edit.now ≡ NodeEdit.Free → FreesRoomOf name.kind self.old self.new }
     {
         self.prefix_fits(name);
         match name.to_node_ptr() {

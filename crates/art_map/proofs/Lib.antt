@@ -21,6 +21,7 @@ pub mod Audits
 pub mod Clones
 pub mod Puts
 pub mod Built
+pub mod RoomLeft
 pub mod VecPairs
 pub mod Joins
 pub mod PrefixBlocks

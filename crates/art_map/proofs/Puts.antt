@@ -1,13 +1,13 @@
 -- Many pairs that are put in, one after another.
-use Rattle.std.proofs.Common.{◌≡◌, ℕ, List, [], ◌∷◌, ◌++◌, map, Option, Some, Ok, Err, Result, refl, sym, ap, ap₂, subst, ◌∙◌, append_assoc}
-use Rattle.std.specs.Iterator.{Yields}
+use Rattle.std.proofs.Common.{◌≡◌, ℕ, suc, ◌*◌, List, [], ◌∷◌, ◌++◌, length, map, MatchResult, Option, Some, Ok, Err, Result, refl, sym, ap, ap₂, subst, ◌∙◌, append_assoc}
+use Rattle.std.specs.Iterator.{Drains, Yields}
 use Rattle.std.specs.Result.{IsErrAnd}
 use Rattle.std.proofs.lemmas.List.{append-nil, map-append}
 use Rattle.art_bytes.proofs.Common.{IsBefore}
 use Rattle.art_arena.proofs.Common.{key_of, AscendsByKey, all_left}
 use Rattle.art_operations.proofs.Common.{IsBlocked, with_pair_put, put_new}
 use Rattle.art_operations.specs.declared.insert.result.InsertRefused.{InsertRefused}
-use Rattle.art_map.proofs.Terms.{with_pairs_put, GathersWith, HasGathered, ExtendsWith, HandsNextBack, IsMadeOf, Contents}
+use Rattle.art_map.proofs.Terms.{with_pairs_put, GathersWith, HasGathered, HasRoomLeft, ExtendsWith, HandsNextBack, IsMadeOf, Contents}
 use Rattle.art_map.specs.declared.map.builder.TreeMapBuilder.{TreeMapBuilder}
 
 module _ {K V : Type 0} (bytes : K → List ℕ) where
@@ -62,12 +62,21 @@ module _ {K V : Type 0} (bytes : K → List ℕ) where
     made-refused iter it given e (Err x) b back h = (it, given, b, subst (HandsNextBack bytes pair_of becomes steps it given) (sym h) back)
 
     pub gather-refused : {P : ℕ} (is_key : K → Type 0) (old now : TreeMapBuilder K V P) (iter : U) (it : S) (given : List A) (e : InsertRefused K V) (r : Result (Unit {0}) (InsertRefused K V)) → becomes iter it
-        → ((pairs : List (K × V)) → HasGathered bytes is_key old pairs → HasGathered bytes is_key now (with_pairs_put bytes (map pair_of given) pairs)) → HandsNextBack bytes pair_of becomes steps it given e → IsErrAnd r (λ x. x ≡ e)
-        → GathersWith bytes is_key pair_of becomes steps iter old r now
-    gather-refused is_key old now iter it given e (Ok x) b put back h = absurd h
-    gather-refused is_key old now iter it given e (Err x) b put back h = (it, given, b, put, subst (HandsNextBack bytes pair_of becomes steps it given) (sym h) back)
+        → ((pairs : List (K × V)) → HasGathered bytes is_key old pairs → HasGathered bytes is_key now (with_pairs_put bytes (map pair_of given) pairs)) → HandsNextBack bytes pair_of becomes steps it given e
+        → (HasRoomLeft old (2 * suc (length given)) → ⊥) → IsErrAnd r (λ x. x ≡ e) → GathersWith bytes is_key pair_of becomes steps iter old r now
+    gather-refused is_key old now iter it given e (Ok x) b put back none h = absurd h
+    gather-refused is_key old now iter it given e (Err x) b put back none h = (it, given, b, put, (subst (HandsNextBack bytes pair_of becomes steps it given) (sym h) back, none))
+
+    -- where there was room, the map in the making had it
+    had-room : {P : ℕ} (old : TreeMapBuilder K V P) (HadRoom : ℕ → Type 0) (it : S) (given : List A) (r : Result (Unit {0}) (InsertRefused K V)) → ((n : ℕ) → HadRoom n → HasRoomLeft old n)
+        → MatchResult r (λ _. Drains steps it given) (λ e. HandsNextBack bytes pair_of becomes steps it given e × (HasRoomLeft old (2 * suc (length given)) → ⊥))
+        → MatchResult r (λ _. Drains steps it given) (λ e. HandsNextBack bytes pair_of becomes steps it given e × (HadRoom (2 * suc (length given)) → ⊥))
+    had-room old HadRoom it given (Ok x) has outcome = outcome
+    had-room old HadRoom it given (Err e) has outcome = (outcome.0, λ room. outcome.1 (has (2 * suc (length given)) room))
 
     -- a map whose pairs were gathered behind others'
-    pub gather-extends : {P : ℕ} (is_key : K → Type 0) (old now : TreeMapBuilder K V P) (iter : U) (r : Result (Unit {0}) (InsertRefused K V)) (pairs new : List (K × V)) → GathersWith bytes is_key pair_of becomes steps iter old r now
-        → HasGathered bytes is_key old pairs → ((all : List (K × V)) → HasGathered bytes is_key now all → new ≡ all) → ExtendsWith bytes pair_of becomes steps iter pairs r new
-    gather-extends is_key old now iter r pairs new (it, given, b, put, outcome) has made = (it, given, b, made (with_pairs_put bytes (map pair_of given) pairs) (put pairs has), outcome)
+    pub gather-extends : {P : ℕ} (is_key : K → Type 0) (old now : TreeMapBuilder K V P) (iter : U) (HadRoom : ℕ → Type 0) (r : Result (Unit {0}) (InsertRefused K V)) (pairs new : List (K × V))
+        → GathersWith bytes is_key pair_of becomes steps iter old r now → ((n : ℕ) → HadRoom n → HasRoomLeft old n) → HasGathered bytes is_key old pairs → ((all : List (K × V)) → HasGathered bytes is_key now all → new ≡ all)
+        → ExtendsWith bytes pair_of becomes steps iter HadRoom pairs r new
+    gather-extends is_key old now iter HadRoom r pairs new (it, given, b, put, outcome) room has made =
+        (it, given, b, made (with_pairs_put bytes (map pair_of given) pairs) (put pairs has), had-room old HadRoom it given r room outcome)

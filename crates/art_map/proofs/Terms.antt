@@ -1,7 +1,7 @@
 -- The words of this crate that its proofs and those above name, from one place.
 pub use Rattle.art_map.specs.Asked.{AnswersAt, AreMet, Asking, CallableFromEnds, CanExtractIf, ComesOf, Extracts, StopsAt, asking, extract_map, from_end, with_pairs_put}
 pub use Rattle.art_map.specs.Audit.{audit_of}
-pub use Rattle.art_map.specs.Builders.{GathersWith, HasGathered, HasGatheredInOrder, nodes_of}
+pub use Rattle.art_map.specs.Builders.{GathersWith, HasGathered, HasGatheredInOrder, HasRoomLeft, nodes_of}
 pub use Rattle.art_map.specs.Bulk.{ExtendsWith, HandsNextBack, IsMadeOf, IsOfList}
 pub use Rattle.art_map.specs.Changes.{IsTryRefused}
 pub use Rattle.art_map.specs.Contents.{Contents, HasLeafAt, IsMap, IsUntouched, contents, entry_in, first_item, has_bytes, last_item, option_value, pairs_below, pairs_from, pairs_in, pairs_under}

@@ -1,9 +1,9 @@
 -- A map in the making: what it has of the pairs that were put into it.
-use Rattle.std.specs.Prelude.{◌≡◌, ℕ, cond, List, [], map, Option, MatchBool, MatchResult, Result}
+use Rattle.std.specs.Prelude.{◌≡◌, ℕ, suc, ◌*◌, cond, List, [], length, map, Option, MatchBool, MatchResult, Result}
 use Rattle.std.specs.Iterator.{Drains}
 use Rattle.std.specs.List.{AllByRecursion}
-use Rattle.art_arena.specs.arena.Arena.{Arena}
-use Rattle.art_operations.specs.Builders.{Builds}
+use Rattle.art_arena.specs.arena.Arena.{Arena, HasRoom}
+use Rattle.art_operations.specs.Builders.{Builds, HasRoomBeside}
 use Rattle.art_operations.specs.declared.insert.result.InsertRefused.{InsertRefused}
 use Rattle.art_map.specs.Asked.{with_pairs_put}
 use Rattle.art_map.specs.Bulk.{HandsNextBack}
@@ -24,8 +24,12 @@ module _ {K V : Type 0} {P : ℕ} (bytes : K → List ℕ) (is_key : K → Type 
 abbrev pub nodes_of : {K V : Type 0} {P : ℕ} → TreeMapBuilder K V P → Arena K V
 nodes_of b = cond b.in_order b.arena b.map.nodes
 
+-- there is room for so many more nodes of each kind, beside those that are still to be made of a tree
+abbrev pub HasRoomLeft : {K V : Type 0} {P : ℕ} → TreeMapBuilder K V P → ℕ → Type 0
+HasRoomLeft b n = MatchBool b.in_order (HasRoomBeside b.arena b.builder n) (HasRoom b.map.nodes n)
+
 -- Whatever pairs the map in the making had, those of the items that came were put in behind each other: of all items,
--- or of those before one that was refused and is handed back.
+-- or of those before one that was refused and is handed back. For all of these, two nodes a pair, there was no room.
 abbrev pub GathersWith : {K V U S A : Type 0} {P : ℕ} → (K → List ℕ) → (K → Type 0) → (A → K × V) → (U → S → Type 0)
     → (S → Option A → S → Type 0) → U → TreeMapBuilder K V P → Result (Unit {0}) (InsertRefused K V)
     → TreeMapBuilder K V P → Type 0
@@ -33,4 +37,5 @@ GathersWith {K} {V} {U} {S} {A} bytes is_key pair_of becomes steps iter old resu
     (it : S) × (given : List A) × becomes iter it
     × ((pairs : List (K × V)) → HasGathered bytes is_key old pairs
     → HasGathered bytes is_key new (with_pairs_put bytes (map pair_of given) pairs))
-    × MatchResult result (λ _. Drains steps it given) (HandsNextBack bytes pair_of becomes steps it given)
+    × MatchResult result (λ _. Drains steps it given) (λ e. HandsNextBack bytes pair_of becomes steps it given e
+    × (HasRoomLeft old (2 * suc (length given)) → ⊥))

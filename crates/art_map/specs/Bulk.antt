@@ -1,5 +1,5 @@
 -- What is left where many pairs are put in, one after another.
-use Rattle.std.specs.Prelude.{◌≡◌, ℕ, List, [], ◌∷◌, ◌++◌, map, Option, Some, MatchResult, Result}
+use Rattle.std.specs.Prelude.{◌≡◌, ℕ, suc, ◌*◌, List, [], ◌∷◌, ◌++◌, length, map, Option, Some, MatchResult, Result}
 use Rattle.std.specs.Iterator.{Drains, YieldsThen}
 use Rattle.art_operations.specs.declared.insert.result.InsertRefused.{InsertRefused}
 use Rattle.art_map.specs.Asked.{with_pairs_put}
@@ -19,12 +19,14 @@ module _ {K V U S A : Type 0} (bytes : K → List ℕ) (pair_of : A → K × V)
       × (pair_of item ≡ (refused.key, refused.value))
 
   -- The pairs of the items that came were put in, one after another: of all items, or of those before one that was
-  -- refused and is handed back.
-  abbrev pub ExtendsWith : U → List (K × V) → Result (Unit {0}) (InsertRefused K V) → List (K × V) → Type 0
-  ExtendsWith iter old result new =
+  -- refused and is handed back. For all of these, two nodes a pair, there was no room.
+  abbrev pub ExtendsWith : U → (ℕ → Type 0) → List (K × V) → Result (Unit {0}) (InsertRefused K V) → List (K × V)
+      → Type 0
+  ExtendsWith iter HadRoom old result new =
       (it : S) × (given : List A) × becomes iter it
       × (new ≡ with_pairs_put bytes (map pair_of given) old)
-      × MatchResult result (λ _. Drains steps it given) (HandsNextBack it given)
+      × MatchResult result (λ _. Drains steps it given)
+      (λ e. HandsNextBack it given e × (HadRoom (2 * suc (length given)) → ⊥))
 
   -- the same of a map that is made of them, which is let go of where one is refused
   abbrev pub IsMadeOf : U → Result (Contents K V) (InsertRefused K V) → Type 0

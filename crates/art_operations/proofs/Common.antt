@@ -1,5 +1,5 @@
 -- What proofs above this crate name of it, from one place: its words and its lemmas.
-pub use Rattle.art_operations.proofs.Terms.{AreClones, AreEndsWhere, Builds, BuildsTo, CanPut, CanPutOver, ForLongest, HasCut, HasInnerRoom, HasKey, HasKeyAt, HasLeaves, HasLeavesOf, HasMoved, HasPairs, HasPairsWhere, HasPut, HasPutIn, HasPutOver, HasRoomAbove, HasTaken, HasTakenEnd, HasTreeWhere, HoldsInOrder, HoldsTreeOf, IsAmong, IsAtEnd, IsBlocked, IsCutBeside, IsDeletedBeside, IsEmptySpine, IsForConflict, IsPairRefused, IsPlaceFor, IsPlaced, IsPoint, IsSubtreeAnswer, IsSubtreePoint, KeepsCells, KeepsInnerRoom, KeepsLeavesOf, OfTree, OfTreeWhere, OpeningReads, ReadsAtLeast, ShrinksAtEnd, ShrinksWithout, SpanReads, StandsAhead, StandsBetween, StandsInList, inner_cells, leaves_with, node_count, overlapping, overlaps, pair_in, removed_by, with_key, with_pair_over, with_pair_put, without_key, without_overlapping}
+pub use Rattle.art_operations.proofs.Terms.{AreClones, AreEndsWhere, Builds, BuildsTo, CanPut, CanPutOver, ForLongest, HasCut, HasInnerRoom, HasKey, HasKeyAt, HasLeaves, HasLeavesOf, HasMoved, HasPairs, HasPairsWhere, HasPut, HasPutIn, HasPutOver, HasRoomAbove, HasRoomAround, HasRoomBeside, HasTaken, HasTakenEnd, HasTreeWhere, HoldsInOrder, HoldsTreeOf, IsAmong, IsAtEnd, IsBlocked, IsCutBeside, IsDeletedBeside, IsEmptySpine, IsForConflict, IsPairRefused, IsPlaceFor, IsPlaced, IsPoint, IsSubtreeAnswer, IsSubtreePoint, KeepsCells, KeepsInnerRoom, KeepsLeavesOf, OfTree, OfTreeWhere, OpeningReads, ReadsAtLeast, ShrinksAtEnd, ShrinksWithout, SpanReads, StandsAhead, StandsBetween, StandsInList, inner_cells, leaves_with, node_count, overlapping, overlaps, pair_in, removed_by, with_key, with_pair_over, with_pair_put, without_key, without_overlapping}
 pub use Rattle.art_operations.proofs.Building.{fresh}
 pub use Rattle.art_operations.proofs.HeldPairs.{leaves-pairs, pairs-same, pairs-tree, tree-same}
 pub use Rattle.art_operations.proofs.KeyedLists.{all-but-none, before, behind, nothing_taken, put_new, put_replaced, stored-free, taken}
@@ -12,4 +12,5 @@ pub use Rattle.art_operations.proofs.Overlaps.{before_no_overlap, behind_no_over
 pub use Rattle.art_operations.proofs.RangeEnds.{tree_ascends}
 pub use Rattle.art_operations.proofs.Spines.{last-same}
 pub use Rattle.art_operations.proofs.Stretches.{IsConvex, between_convex, from_later, front_convex, leaves_ascend, stretch}
+pub use Rattle.art_operations.proofs.Unmade.{around-room, fresh-around}
 pub use Rattle.art_operations.proofs.WrittenValues.{written}

@@ -11,6 +11,7 @@ pub mod Stops
 pub mod NewNodes
 pub mod Edits
 pub mod Inserted
+pub mod Unmade
 pub mod Waiting
 pub mod Growth
 pub mod IntoExisting
@@ -73,6 +74,7 @@ pub mod PassedLeaves
 pub mod KeptLeaves
 pub mod Closing
 pub mod Building
+pub mod OpenRooms
 pub mod Reopening
 pub mod LeafListsParted
 pub mod LeafListsPassed

@@ -18,6 +18,11 @@ pub never : {A E : Type 0} (r : Result A E) → IsOk r → ((x : A) → r ≡ Ok
 never (Ok x) ok other = other x refl
 never (Err e) ok other = absurd (cc)
 
+-- and one that failed did not succeed
+pub failed : {A E : Type 0} (r : Result A E) (e : E) → r ≡ Err e → IsOk r → ⊥
+failed (Ok x) e is ok = absurd (cc)
+failed (Err f) e is ok = absurd (cc)
+
 -- two keys part where the first comes before the second, and the second goes on by the greater byte
 module _ (old new : List ℕ) (first : IsBefore old new) where
   pub must-part : (m : Meeting) → Meets old new m → ((p : Parted) → m ≡ meeting.Parts p → ⊥) → ⊥

@@ -6,12 +6,13 @@ use Rattle.std.proofs.Math.Seq.{take-suc, take-append_seam, get_or-append_seam}
 use Rattle.art_bytes.proofs.Common.{BeginsWith, begins_step}
 use Rattle.art_nodes.proofs.Common.{InnerNode, IsAscending, IsAscendingFrom, Name}
 use Rattle.art_nodes.specs.declared.kind.NodeType.TheVariants.{Leaf}
-use Rattle.art_arena.proofs.Common.{Arena, inner_held, held_at, node_at, SameNodes, SameLeaves, UpdatesAt, Cell, branches, leaf_name, Holds, Holds-remove, Holds-same, AreBelow, AreHeld, IsIn, Shape, Branches, LeafAt, leaf_at, no_branch, branch, inner_at, name_of, children_at, join, width, leaves, leaves_in, cells, cells_in, IsUnder, AreUnder, inner_of, some_leaf, leaves-begin, all_at, all_left, all_right, in_right, nodes-update, nodes-same, length-children, StoresOnly, HoldsPair, holds_pair, leaf_held, links_at, AreLinked, AscendsByKey, key_of, pairs_of, no_inner, IsSubtree, nodes-subtree, last_slot, ends_with-first, AreLinked-same, links_of, KeepsRoomOf}
+use Rattle.art_arena.proofs.Common.{Arena, inner_held, held_at, node_at, SameNodes, SameLeaves, UpdatesAt, Cell, branches, leaf_name, Holds, Holds-remove, Holds-same, AreBelow, AreHeld, IsIn, Shape, Branches, LeafAt, leaf_at, no_branch, branch, inner_at, name_of, children_at, join, width, leaves, leaves_in, cells, cells_in, IsUnder, AreUnder, IsKindOf, inner_of, some_leaf, leaves-begin, all_at, all_left, all_right, in_right, nodes-update, nodes-same, length-children, StoresOnly, HoldsPair, holds_pair, leaf_held, links_at, AreLinked, AscendsByKey, key_of, pairs_of, no_inner, IsSubtree, nodes-subtree, last_slot, ends_with-first, AreLinked-same, links_of, KeepsRoomOf}
 use Rattle.art_operations.proofs.Terms.{Open, Spine, Level, begin, begin_of, opened, open_children, open_leaves, open_cells, IsOpen, AreOpen, HasSpine, IsEmptySpine, BuildsUpTo, HasPairs, HasSpineRoom, inner_over}
-use Rattle.art_operations.specs.inner.Reopening.{OpensTo}
+use Rattle.art_operations.specs.inner.Reopening.{HasRoomToOpen, OpensTo}
 use Rattle.std.specs.Prelude.{vec_capacity}
 use Rattle.art_operations.proofs.InnerRooms.{room-at}
 use Rattle.art_operations.proofs.LeafPairs.{held_leaf, pairs_ascend}
+use Rattle.art_operations.proofs.OpenRooms.{few-noted, few-open, noting-room, wide-leaves}
 use Rattle.art_operations.proofs.PutBack.{same_inner}
 use Rattle.art_operations.proofs.Rebuilding.{whole}
 use Rattle.art_operations.proofs.Spines.{begin-opened, last-same, children-behind, width-behind, leaves-behind, cells-behind}
@@ -261,6 +262,18 @@ module _ {K V : Type 0} (bytes : K → List ℕ) (P : ℕ) where
           let kids_are : cells_in P inner.kids ≡ cells_in P end.others ++ cells P end.child = ap (cells_in P) end.is ∙ cells-behind P end.byte end.child end.others in
           subst (Holds (node_at new)) (ap (λ cs. open_cells P levels ++ (cs ++ [])) kids_are ∙ ap (λ cs. open_cells P levels ++ cs) (append_assoc (cells_in P end.others) (cells P end.child) []) ∙ sym (append_assoc (open_cells P levels) (cells_in P end.others) (cells P end.child ++ []))) removed
 
+      -- with places for all leaves its children can be noted
+      can-open : HasRoomToOpen arena spine (length ls) → HasSpineRoom arena spine (length (children_at inner.kids))
+      can-open =
+          let nodes = ap length is.stands.stack_is in
+          let noted = ap length is.stands.children_are in
+          let fewer = few-open bytes key levels is.stands.ways in
+          let few = few-noted bytes key levels is.stands.ways in
+          let wide = wide-leaves bytes (take from key ++ inner.prefix) 0 inner.kids whole_under.1 in
+          let count = length-children inner.kids in
+          let all = sym (length-append (open_leaves levels) (leaves_in inner.kids)) ∙ ap length (ap (λ xs. open_leaves levels ++ xs) (sym (ap leaves inner.shape_is)) ∙ is.stands.leaves_are) in
+          noting-room arena spine (length (children_at inner.kids)) (length ls) (omega (arith, nodes, noted, fewer)) (omega (arith, noted, few, wide, count, all))
+
       -- its children but the last are noted, and it is freed: the last is the part then
       module _ (now : Spine) (child : ℕ × Name) (children : now.children.items ++ child ∷ [] ≡ spine.children.items ++ children_at inner.kids) where
         noted : (now.children.items ≡ open_children levels ++ children_at end.others) × (child ≡ (end.byte, name_of end.child))
@@ -298,6 +311,12 @@ module _ {K V : Type 0} (bytes : K → List ℕ) (P : ℕ) where
 
         pub seen-inside : begin_of 0 spine.stack.items + seen.header.prefix_len < length key
         seen-inside = subst (λ (m : InnerNode). begin_of 0 spine.stack.items + m.header.prefix_len < length key) seen_is inside
+
+        pub seen-kind : IsKindOf part.kind (length seen.children)
+        seen-kind = subst (λ (m : InnerNode). IsKindOf part.kind (length m.children)) seen_is (subst (IsKindOf part.kind) (sym (length-children inner.kids)) whole_under.0)
+
+        pub seen-room : HasRoomToOpen arena spine (length ls) → HasSpineRoom arena spine (length seen.children)
+        seen-room = subst (λ (m : InnerNode). HasRoomToOpen arena spine (length ls) → HasSpineRoom arena spine (length m.children)) seen_is can-open
 
         pub opens-child : (now : Spine) (child : ℕ × Name) → now.children.items ++ child ∷ [] ≡ spine.children.items ++ seen.children → (new : Arena K V)
             → now.stack.items ≡ spine.stack.items ++ record { behind = suc (begin_of 0 spine.stack.items + seen.header.prefix_len); first = length spine.children.items } ∷ [] → IsAscending seen.children

@@ -1,6 +1,6 @@
 -- The words of this crate that its proofs and those above name, from one place.
 pub use Rattle.art_operations.specs.Bounds.{AreEndsWhere, slot_inside}
-pub use Rattle.art_operations.specs.Builders.{Builds, BuildsTo, BuildsUpTo, GoesBehind, IsPushRefused}
+pub use Rattle.art_operations.specs.Builders.{Builds, BuildsTo, BuildsUpTo, GoesBehind, HasRoomBeside, HasRoomToPush, IsPushRefused}
 pub use Rattle.art_operations.specs.Commands.{AreAnswered, IsAnswered, after, clones_in, pairs_after, with_clone}
 pub use Rattle.art_operations.specs.DeletePoints.{IsLeafPlace}
 pub use Rattle.art_operations.specs.Deletions.{HasLeaves, HasLeavesBeside, IsAmong, IsDeletedBeside}
@@ -47,5 +47,6 @@ pub use Rattle.art_operations.specs.inner.Removals.{EditsNode, IsOther, Lengthen
 pub use Rattle.art_operations.specs.inner.Runs.{HasClones, IsCarriedOut, IsDone}
 pub use Rattle.art_operations.specs.inner.Spines.{AddsChild, AreOpen, HasSpine, IsEmptySpine, IsOpen, IsSpine, Level, begin, begin_of, inner_over, open_at, open_cells, open_children, open_leaves, opened}
 pub use Rattle.art_operations.specs.inner.Splits.{IsBetween, IsEnd, PartsFrom, root_cell, split_node, trimmed, with_prefix}
+pub use Rattle.art_operations.specs.inner.Unmade.{HasRoomAround, kind_over, noted_before, one_of, unmade}
 pub use Rattle.art_operations.specs.inner.Waiting.{AreNeighbours, AwaitsLeaf}
 pub use Rattle.art_operations.specs.inner.Ways.{IsWayAtInner, IsWayAtLeaf, IsEndAt, IsPlaceAt, IsWay, answer_at, met_by, point_at}

@@ -1,5 +1,5 @@
 -- A tree that is built of ascending pairs: what a builder and its arena have of the pairs that were taken.
-use Rattle.std.specs.Prelude.{◌≡◌, ℕ, List, [], ◌∷◌, ◌++◌, Option, Some, None}
+use Rattle.std.specs.Prelude.{◌≡◌, ◌<◌, ℕ, List, [], ◌∷◌, ◌++◌, Option, Some, None}
 use Rattle.std.specs.List.{AllByRecursion}
 use Rattle.art_bytes.specs.Keys.{IsBefore}
 use Rattle.art_nodes.specs.Name.{Name}
@@ -11,6 +11,7 @@ use Rattle.art_arena.specs.tree.Order.{AscendsByKey}
 use Rattle.art_operations.specs.inner.Rebuilding.{HasSpineRoom}
 use Rattle.art_operations.specs.inner.Spines.{Level, AreOpen, IsEmptySpine, open_cells, open_children, open_leaves}
 use Rattle.art_operations.specs.inner.Spines.{opened}
+use Rattle.art_operations.specs.inner.Unmade.{HasRoomAround}
 use Rattle.art_operations.specs.declared.build.PushRefused.{PushRefused}
 use Rattle.art_operations.specs.declared.build.PushRefused.TheVariants.{NotBehind, Memory}
 use Rattle.art_operations.specs.declared.build.TreeBuilder.{TreeBuilder}
@@ -52,3 +53,11 @@ module _ {K V : Type 0} (bytes : K → List ℕ) where
       pub built : BuildsTo builder.spine builder.last pairs
       pub room : HasSpineRoom arena builder.spine builder.room
       pub closed : builder.room ≡ 0 → builder.spine.stack.items ≡ []
+
+-- The nodes that the builder has still to make have room in the arena, and beside them so many more of each kind.
+abbrev pub HasRoomBeside : {K V : Type 0} → Arena K V → TreeBuilder → ℕ → Type 0
+HasRoomBeside arena builder n = HasRoomAround arena builder.spine n
+
+-- so many more pairs take no memory but for their leaves: the builder has room for them, and for the last leaf
+abbrev pub HasRoomToPush : TreeBuilder → ℕ → Type 0
+HasRoomToPush builder n = n < builder.room

@@ -2,6 +2,7 @@ pub mod Meetings
 pub mod Ways
 pub mod Edits
 pub mod Splits
+pub mod Unmade
 pub mod Waiting
 pub mod Removals
 pub mod Detached

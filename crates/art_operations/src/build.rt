@@ -1,11 +1,12 @@
 //! A tree that is built of ascending pairs, each of which goes behind the last. An inner node is made once, when no
 //! child of it can come any more. So it has the kind of its children's number at once, and no place is looked for. A
 //! builder may go on from a tree: what stands on the way to its last leaf is then to be made once more.
-ghost use Rattle.std.specs.Prelude.{◌≡◌, ◌≤◌, ◌∷◌, ◌++◌, List, [], None, IfErr, IsOk, OnErr, OnOk};
+ghost use Rattle.std.specs.Prelude.{◌≡◌, ◌≤◌, ◌+◌, ◌∷◌, ◌++◌, ℕ, suc, List, [], None, IfErr, IsOk, OnErr, OnOk};
 ghost use Rattle.art_nodes.specs.declared.kind.NodeType.TheVariants.{Leaf};
-ghost use Rattle.art_arena.specs.arena.Arena.{HasRoomOf, SameNodes};
+ghost use Rattle.art_arena.specs.arena.Arena.{HasRoom, HasRoomOf, KeepsRoomOf, SameNodes};
 ghost use Rattle.art_arena.specs.arena.Rooms.{SameLeaves};
-ghost use Rattle.art_operations.specs.Builders.{Builds, GoesBehind, IsPushRefused};
+ghost use Rattle.art_operations.specs.Builders.{Builds, GoesBehind, HasRoomBeside, HasRoomToPush};
+ghost use Rattle.art_operations.specs.Builders.{IsPushRefused};
 ghost use Rattle.art_operations.specs.LeafNames.{HasLeavesOf};
 ghost use Rattle.art_operations.specs.Pairs.{HasPairs};
 ghost use Rattle.art_operations.specs.inner.Spines.{IsEmptySpine};
@@ -72,7 +73,8 @@ impl TreeBuilder {
     /// Takes a pair, whose key must go behind the last one: from each key it must part, and go on by a greater byte.
     ///
     /// Fails if it doesn't, or if out of memory. The error returns the pair, and nothing changed: the builder has the
-    /// pairs that it had. The first pair is always taken if the arena has room for its leaf.
+    /// pairs that it had. The first pair is always taken if the arena has room for its leaf. So is each other that goes
+    /// behind the last, if `reserve` made room for it, too.
     pub fn push<K: AsBytes + Drop, V: Drop, const PREFIX_LEN: usize>(
         &mut self,
         arena: &mut NodeArena<K, V, PREFIX_LEN>,
@@ -89,6 +91,13 @@ impl TreeBuilder {
             → Builds K.bytes PREFIX_LEN arena.new self.new pairs) }
         ensures names { HasLeavesOf K.bytes arena.new arena.old }
         ensures succeeds { self.old.last ≡ None → HasRoomOf arena.old Leaf 1 → IsOk result }
+        ensures with_room { HasRoomToPush self.old 1 → HasRoomOf arena.old Leaf 1 → (pairs : List (K × V))
+            → Builds K.bytes PREFIX_LEN arena.old self.old pairs → GoesBehind K.bytes (K.bytes key) pairs
+            → IsOk result }
+        ensures uses { OnOk result ((n : ℕ) → HasRoomToPush self.old (suc n) → HasRoomToPush self.new n) }
+        ensures room { (n : ℕ) → HasRoomBeside arena.old self.old (n + 2) → HasRoomBeside arena.new self.new n }
+        ensures kept_room { OnErr result ((n : ℕ) → 1 ≤ n → HasRoomBeside arena.old self.old n
+            → HasRoomBeside arena.new self.new n) }
     {
         let Some(last) = self.last else {
             return self.push_first(arena, key, value);
@@ -135,6 +144,10 @@ impl TreeBuilder {
             → Builds K.bytes PREFIX_LEN arena.new self.new pairs) }
         ensures names { HasLeavesOf K.bytes arena.new arena.old }
         ensures succeeds { HasRoomOf arena.old Leaf 1 → IsOk result }
+        ensures uses { self.new.room ≡ self.old.room }
+        ensures room { (n : ℕ) → HasRoomBeside arena.old self.old (n + 2) → HasRoomBeside arena.new self.new n }
+        ensures kept_room { OnErr result ((n : ℕ) → 1 ≤ n → HasRoomBeside arena.old self.old n
+            → HasRoomBeside arena.new self.new n) }
     {
         match store_last(arena, None, key, value) {
             Ok(leaf) => {
@@ -153,16 +166,49 @@ impl TreeBuilder {
         &mut self,
         arena: &mut NodeArena<K, V, PREFIX_LEN>,
     ) -> Result<(), AllocError>
-        ensures ok { OnOk result (2 ≤ self.new.room) }
+        ensures ok { OnOk result (HasRoomToPush self.new 1) }
+        ensures succeeds { HasRoomToPush self.old 1 → IsOk result }
         ensures last { self.new.last ≡ self.old.last }
         ensures kept { SameNodes arena.old arena.new }
         ensures left { (pairs : List (K × V)) → Builds K.bytes PREFIX_LEN arena.old self.old pairs
             → Builds K.bytes PREFIX_LEN arena.new self.new pairs }
+        ensures kept_room { (n : ℕ) → HasRoomToPush self.old n → HasRoomToPush self.new n }
+        ensures beside { (n : ℕ) → HasRoomBeside arena.old self.old n → HasRoomBeside arena.new self.new n }
+        ensures room_of { KeepsRoomOf arena.old arena.new }
     {
         if self.room >= 2 {
             return Ok(());
         }
-        let room = arena.leaf_count().clamp(2, MOST_AT_ONCE);
+        let more = arena.leaf_count().clamp(1, MOST_AT_ONCE);
+        self.reserve(arena, more)
+    }
+
+    /// Allocates what so many more pairs need beside their leaves: inner nodes, and places to note what is open. While
+    /// there is room for one, `push` is out of memory only if the arena has no room for a leaf.
+    ///
+    /// Fails only if there is no room for so many, and no memory. Either way no node changes, and room stays.
+    pub fn reserve<K: AsBytes, V, const PREFIX_LEN: usize>(
+        &mut self,
+        arena: &mut NodeArena<K, V, PREFIX_LEN>,
+        additional: usize,
+    ) -> Result<(), AllocError>
+        ensures room { OnOk result (HasRoomToPush self.new additional) }
+        ensures succeeds { HasRoomToPush self.old additional → IsOk result }
+        ensures last { self.new.last ≡ self.old.last }
+        ensures kept { SameNodes arena.old arena.new }
+        ensures left { (pairs : List (K × V)) → Builds K.bytes PREFIX_LEN arena.old self.old pairs
+            → Builds K.bytes PREFIX_LEN arena.new self.new pairs }
+        ensures kept_room { (n : ℕ) → HasRoomToPush self.old n → HasRoomToPush self.new n }
+        ensures beside { (n : ℕ) → HasRoomBeside arena.old self.old n → HasRoomBeside arena.new self.new n }
+        ensures room_of { KeepsRoomOf arena.old arena.new }
+    {
+        if additional < self.room {
+            return Ok(());
+        }
+        // Among the leaves that the room is for is the last one.
+        let Some(room) = additional.checked_add(1) else {
+            return Err(AllocError);
+        };
         self.spine.reserve(arena, room)?;
         self.room = room;
         Ok(())
@@ -180,6 +226,7 @@ impl TreeBuilder {
         ensures tree { (pairs : List (K × V)) → Builds K.bytes PREFIX_LEN arena.old self pairs
             → HasPairs K.bytes PREFIX_LEN arena.new result pairs }
         ensures leaves { SameLeaves arena.old arena.new }
+        ensures room { (n : ℕ) → HasRoomBeside arena.old self n → HasRoom arena.new n }
     {
         let Some(last) = self.last else {
             return None;

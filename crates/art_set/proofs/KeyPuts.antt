@@ -1,18 +1,19 @@
 -- Many keys that are put in, one after another.
-use Rattle.std.proofs.Common.{◌≡◌, ℕ, List, [], ◌∷◌, ◌++◌, map, Option, Some, Ok, Err, Result, IfErr, IfOk, MatchResult, refl, sym, ap, subst, ◌∙◌, map-id}
+use Rattle.std.proofs.Common.{◌≡◌, ℕ, List, [], ◌∷◌, ◌++◌, map, Option, Some, Ok, Err, Result, IfErr, IfOk, MatchResult, refl, sym, ap, ap₂, subst, ◌∙◌, map-id}
 use Rattle.std.specs.Iterator.{Drains, Yields, YieldsThen}
 use Rattle.std.specs.Map.{keys_of}
 use Rattle.std.specs.Result.{IsErrAnd}
 use Rattle.std.specs.Vec.Iter.{into_iter_items, into_iter_steps}
 use Rattle.std.specs.declared.vec.IntoIter.{IntoIter}
 use Rattle.std.proofs.IntoIterSteps.{All-taken}
-use Rattle.std.proofs.lemmas.List.{append-nil, map-append}
+use Rattle.std.proofs.lemmas.List.{append-nil}
 use Rattle.art_arena.proofs.Common.{AscendsByKey}
 use Rattle.art_operations.proofs.Common.{put_new}
 use Rattle.art_operations.specs.declared.insert.result.InsertRefused.{InsertRefused}
-use Rattle.art_map.proofs.Common.{IsMadeOf, Contents}
+use Rattle.art_map.proofs.Common.{HasGathered, IsMadeOf, Contents}
 use Rattle.art_map.proofs.VecPairs.{taken-front}
-use Rattle.art_set.specs.Bulk.{ExtendsWithKeys, HandsNextKeyBack, IsMadeOfKeys, IsKeyOfList}
+use Rattle.art_map.specs.declared.map.builder.TreeMapBuilder.{TreeMapBuilder}
+use Rattle.art_set.specs.Bulk.{ExtendsWithKeys, GathersKeysWith, HandsNextKeyBack, IsMadeOfKeys, IsKeyOfList}
 use Rattle.art_set.proofs.Terms.{with_key_put, with_keys_put}
 use Rattle.art_set.specs.declared.set.refused.RefusedKey.{RefusedKey}
 use Rattle.art_set.proofs.Seen.{keys-put-all}
@@ -27,16 +28,6 @@ keys-shown key_of [] = refl
 keys-shown key_of (x ∷ xs) = ap (λ ks. key_of x ∷ ks) (keys-shown key_of xs)
 
 module _ {K : Type 0} (bytes : K → List ℕ) where
-  -- one more
-  put-more : (xs : List K) (k : K) (old : List K) → with_keys_put bytes (xs ++ k ∷ []) old ≡ with_key_put bytes k (with_keys_put bytes xs old)
-  put-more [] k old = refl
-  put-more (x ∷ xs) k old = put-more xs k (with_key_put bytes x old)
-
-  -- the same of what items show
-  pub put-item : {A : Type 0} (key_of : A → K) (xs : List A) (x : A) (old : List K)
-      → with_keys_put bytes (map key_of (xs ++ x ∷ [])) old ≡ with_key_put bytes (key_of x) (with_keys_put bytes (map key_of xs) old)
-  put-item key_of xs x old = ap (λ ks. with_keys_put bytes ks old) (map-append key_of xs (x ∷ [])) ∙ put-more (map key_of xs) (key_of x) old
-
   -- a key behind all others is put in there
   pub put-last : (front : List K) (k : K) → AscendsByKey bytes (front ++ k ∷ []) → with_key_put bytes k front ≡ front ++ k ∷ []
   put-last front k up = ap (λ ks. with_key_put bytes k ks) (sym (append-nil front)) ∙ sym (put_new bytes k front [] up).new_is
@@ -47,10 +38,22 @@ module _ {K : Type 0} (bytes : K → List ℕ) where
         → HandsNextKeyBack bytes key_of becomes steps it given e
     next-back it t u given item e k yielded step is back = (item, u, (t, yielded, step), is ∙ sym back)
 
-    pub extend-refused : (iter : U) (it : S) (given : List A) (old now : List K) (e : RefusedKey K) (r : Result (Unit {0}) (RefusedKey K)) → becomes iter it → now ≡ with_keys_put bytes (map key_of given) old
-        → HandsNextKeyBack bytes key_of becomes steps it given e → IsErrAnd r (λ x. x ≡ e) → ExtendsWithKeys bytes key_of becomes steps iter old r now
-    extend-refused iter it given old now e (Ok x) b put back h = absurd h
-    extend-refused iter it given old now e (Err x) b put back h = (it, given, b, put, subst (HandsNextKeyBack bytes key_of becomes steps it given) (sym h) back)
+    pub made-refused : (iter : U) (it : S) (given : List A) (e : RefusedKey K) (r : Result (List K) (RefusedKey K)) → becomes iter it → HandsNextKeyBack bytes key_of becomes steps it given e
+        → IsErrAnd r (λ x. x ≡ e) → IsMadeOfKeys bytes key_of becomes steps iter r
+    made-refused iter it given e (Ok x) b back h = absurd h
+    made-refused iter it given e (Err x) b back h = (it, given, b, subst (HandsNextKeyBack bytes key_of becomes steps it given) (sym h) back)
+
+    -- a set whose keys were gathered behind others
+    pub gather-extends : {P : ℕ} (is_key : K → Type 0) (old now : TreeMapBuilder K (Unit {0}) P) (iter : U) (r : Result (Unit {0}) (RefusedKey K)) (pairs : List (K × Unit {0})) (had new : List K)
+        → GathersKeysWith bytes key_of becomes steps is_key iter old r now → HasGathered bytes is_key old pairs → keys_of pairs ≡ had → ((all : List (K × Unit {0})) → HasGathered bytes is_key now all → new ≡ keys_of all)
+        → ExtendsWithKeys bytes key_of becomes steps iter had r new
+    gather-extends is_key old now iter r pairs had new (it, given, b, put, outcome) has same made = (
+      it,
+      given,
+      b,
+      made _ (put pairs has) ∙ keys-put-all bytes (map (λ x. (key_of x, tt)) given) pairs ∙ ap₂ (with_keys_put bytes) (keys-shown key_of given) same,
+      outcome,
+    )
 
     -- what comes of the map of the keys beside the unit comes of the set
     pub keys-made : (iter : U) (r : Result (Contents K (Unit {0})) (InsertRefused K (Unit {0}))) → IsMadeOf bytes (λ x. (key_of x, tt)) becomes steps iter r → IsMadeOfKeys bytes key_of becomes steps iter (set_of r)

@@ -1,6 +1,9 @@
 -- What is left where many keys are put in, one after another.
 use Rattle.std.specs.Prelude.{◌≡◌, ℕ, List, [], ◌∷◌, ◌++◌, map, Option, Some, MatchResult, Result}
 use Rattle.std.specs.Iterator.{Drains, YieldsThen}
+use Rattle.art_map.specs.Asked.{with_pairs_put}
+use Rattle.art_map.specs.Builders.{HasGathered}
+use Rattle.art_map.specs.declared.map.builder.TreeMapBuilder.{TreeMapBuilder}
 use Rattle.art_set.specs.Members.{with_keys_put}
 use Rattle.art_set.specs.declared.set.refused.RefusedKey.{RefusedKey}
 
@@ -20,6 +23,15 @@ module _ {K U S A : Type 0} (bytes : K → List ℕ) (key_of : A → K) (becomes
   abbrev pub ExtendsWithKeys : U → List K → Result (Unit {0}) (RefusedKey K) → List K → Type 0
   ExtendsWithKeys iter old result new =
       (it : S) × (given : List A) × becomes iter it × (new ≡ with_keys_put bytes (map key_of given) old)
+      × MatchResult result (λ _. Drains steps it given) (HandsNextKeyBack it given)
+
+  -- the same of a map in the making, whatever keys it had, each beside the unit
+  abbrev pub GathersKeysWith : {P : ℕ} → (K → Type 0) → U → TreeMapBuilder K (Unit {0}) P
+      → Result (Unit {0}) (RefusedKey K) → TreeMapBuilder K (Unit {0}) P → Type 0
+  GathersKeysWith is_key iter old result new =
+      (it : S) × (given : List A) × becomes iter it
+      × ((pairs : List (K × Unit {0})) → HasGathered bytes is_key old pairs
+      → HasGathered bytes is_key new (with_pairs_put bytes (map (λ x. (key_of x, tt)) given) pairs))
       × MatchResult result (λ _. Drains steps it given) (HandsNextKeyBack it given)
 
   -- the same of a set that is made of them, which is let go of where one is refused

@@ -2,6 +2,7 @@
 ghost use Rattle.std.specs.Prelude.{◌≡◌, ◌==◌, [], length};
 
 mod algebra;
+mod builder;
 pub mod bulk;
 mod changes;
 mod compared;

@@ -1,7 +1,7 @@
 // Insertions and removals.
 
 use crate::key::PlayedKey;
-use crate::told::{Told, say, show_number, show_old};
+use crate::told::{Told, say, show_done, show_number, show_old};
 use art_bytes::{AsBytes, SliceKey};
 use art_map::{TreeMap, TryInsertError};
 use play_script::Asked;
@@ -227,6 +227,7 @@ pub fn answer<K: PlayedKey, const PREFIX_LEN: usize>(
     asked: &Asked<'_>,
 ) -> Told {
     Some(match asked.call {
+        "reserve" => show_done(rt, map.reserve(asked.size(0)).is_ok()),
         "tails" => put_tails(rt, map, asked.first),
         "try_insert" | "put_at" | "prefix_insert" => put_made(rt, map, asked),
         _ => return remove(rt, map, asked),

@@ -1,19 +1,21 @@
 //! `TreeMapBuilder`: a map that is made of pairs which come one after another.
-ghost use Rattle.std.specs.Prelude.{◌≡◌, ◌<◌, ◌^◌, List, [], false, IfErr, IfOk, MatchResult, OnErr, OnOk};
+ghost use Rattle.std.specs.Prelude.{◌≡◌, ◌+◌, ◌<◌, ◌^◌, ℕ, List, [], false};
+ghost use Rattle.std.specs.Prelude.{IfErr, IfOk, IsOk, MatchResult, OnErr, OnOk};
 ghost use Rattle.std.specs.Iterator.{IsFinite};
 ghost use Rattle.std.specs.List.{AllByRecursion};
 ghost use Rattle.std.specs.Map.Iter.{deref_pair};
-ghost use Rattle.art_operations.specs.Builders.{Builds};
+ghost use Rattle.art_arena.specs.arena.Arena.{HasRoom, UsesRoom};
+ghost use Rattle.art_operations.specs.Builders.{Builds, HasRoomBeside};
 ghost use Rattle.art_operations.specs.Insertions.{HandsPairBack};
 ghost use Rattle.art_operations.specs.LeafNames.{HasLeavesOf};
 ghost use Rattle.art_operations.specs.Pairs.{with_pair_put};
-ghost use Rattle.art_map.specs.Builders.{GathersWith, HasGathered, HasGatheredInOrder, nodes_of};
+ghost use Rattle.art_map.specs.Builders.{GathersWith, HasGathered, HasGatheredInOrder, HasRoomLeft, nodes_of};
 
 use crate::map::TreeMap;
 use art_arena::NodeArena;
 use art_bytes::{AsBytes, NoPrefixesBytes};
-use art_operations::{InsertRefused, PushRefused, TreeBuilder};
-use std::alloc::{AllocError, Global};
+use art_operations::{InsertRefused, PushRefused, SpineRoom, TreeBuilder};
+use std::alloc::Global;
 use std::mem;
 
 // So many pairs are inserted before the first look whether keys go behind the last again.
@@ -26,6 +28,9 @@ const LONGEST_PAUSE: usize = 1024;
 /// looked for, and an inner node is made once, with all its children. From the first that doesn't, pairs are inserted.
 /// Eight pairs later it looks whether keys go behind the last again, and so no place is looked for again, until one
 /// doesn't. Each look doubles the number of pairs that are inserted before the next one, up to 1024.
+///
+/// Where there is no memory to go on without a search, it inserts the pair instead. So a pair is refused only if an
+/// insertion of it would be out of memory.
 ///
 /// Nodes of its `PREFIX_LEN` must fit in memory: see `nodes_fit`.
 ///
@@ -74,11 +79,20 @@ impl<K: NoPrefixesBytes + Drop, V: Drop, const PREFIX_LEN: usize> TreeMapBuilder
         }
     }
 
-    // A builder that goes on from a map.
-    pub(super) fn of_map(map: TreeMap<K, V, PREFIX_LEN>) -> Self
+    /// Makes a builder that goes on from a map: it has the map's pairs. It allocates nothing.
+    ///
+    /// ```
+    /// let mut map = TreeMap::new(rt.alloc());
+    /// map.insert(*b"ab", 1)?;
+    /// let mut builder = TreeMapBuilder::from_map(map);
+    /// builder.put(*b"cd", 2)?;
+    /// assert!(rt; builder.finish().keys().eq([b"ab", b"cd"]));
+    /// ```
+    pub fn from_map(map: TreeMap<K, V, PREFIX_LEN>) -> Self
         requires fits_in_memory { PREFIX_LEN < 2 ^ 62 }
         ensures pairs { HasGathered K.bytes K.is_key result map.pairs }
         ensures names { HasLeavesOf K.bytes (nodes_of result) map.nodes }
+        ensures room { (n : ℕ) → HasRoom map.nodes n → HasRoomLeft result n }
     {
         let alloc = map.alloc;
         match map.root {
@@ -146,7 +160,8 @@ impl<K: NoPrefixesBytes + Drop, V: Drop, const PREFIX_LEN: usize> TreeMapBuilder
 
     /// Takes a pair. It replaces a pair whose key has the same bytes.
     ///
-    /// Fails only if out of memory. The error returns the pair, and the builder has the pairs that it had.
+    /// Fails only if an insertion of the pair would be out of memory. The error returns the pair, and the builder has
+    /// the pairs that it had.
     ///
     /// ```
     /// let mut builder: TreeMapBuilder<_, _, 16> = TreeMapBuilder::new(rt.alloc());
@@ -164,14 +179,14 @@ impl<K: NoPrefixesBytes + Drop, V: Drop, const PREFIX_LEN: usize> TreeMapBuilder
         ensures kept { OnErr result ((pairs : List (K × V)) → HasGathered K.bytes K.is_key self.old pairs
             → HasGathered K.bytes K.is_key self.new pairs) }
         ensures names { HasLeavesOf K.bytes (nodes_of self.new) (nodes_of self.old) }
+        ensures succeeds { HasRoomLeft self.old 2 → IsOk result }
+        ensures room { (n : ℕ) → HasRoomLeft self.old (n + 2) → HasRoomLeft self.new n }
     {
-        let Ok(()) = self.resume(key.as_bytes()) else {
-            return Err(InsertRefused { key, value });
-        };
+        self.resume(key.as_bytes());
         self.put_on(key, value)
     }
 
-    // Takes a pair behind the last one, where keys go there, or inserts it.
+    // Takes a pair behind the last one, where keys go there and there is memory for that, or inserts it.
     fn put_on(&mut self, key: K, value: V) -> Result<(), InsertRefused<K, V>>
         requires fits_in_memory { PREFIX_LEN < 2 ^ 62 }
         requires taken { (pairs : List (K × V)) × HasGathered K.bytes K.is_key self.old pairs }
@@ -181,6 +196,8 @@ impl<K: NoPrefixesBytes + Drop, V: Drop, const PREFIX_LEN: usize> TreeMapBuilder
         ensures kept { OnErr result ((pairs : List (K × V)) → HasGathered K.bytes K.is_key self.old pairs
             → HasGathered K.bytes K.is_key self.new pairs) }
         ensures names { HasLeavesOf K.bytes (nodes_of self.new) (nodes_of self.old) }
+        ensures succeeds { HasRoomLeft self.old 2 → IsOk result }
+        ensures room { (n : ℕ) → HasRoomLeft self.old (n + 2) → HasRoomLeft self.new n }
     {
         // Its bytes tell that it is a key.
         let _known = key.as_bytes();
@@ -189,8 +206,7 @@ impl<K: NoPrefixesBytes + Drop, V: Drop, const PREFIX_LEN: usize> TreeMapBuilder
         }
         match self.builder.push(&mut self.arena, key, value) {
             Ok(()) => Ok(()),
-            Err(PushRefused::Memory { key, value }) => Err(InsertRefused { key, value }),
-            Err(PushRefused::NotBehind { key, value }) => {
+            Err(PushRefused::NotBehind { key, value } | PushRefused::Memory { key, value }) => {
                 self.settle();
                 self.insert(key, value)
             }
@@ -199,35 +215,36 @@ impl<K: NoPrefixesBytes + Drop, V: Drop, const PREFIX_LEN: usize> TreeMapBuilder
 
     // Where pairs are inserted, looks after a pause whether keys go behind the last again, as this one does. Then the
     // map's tree is opened again, and pairs go on behind its last one. The next pause is twice as long, up to a limit.
-    //
-    // Fails only if out of memory. Either way the builder has the pairs that it had.
+    // The builder has the pairs that it had.
     #[inline]
-    fn resume(&mut self, key: &[u8]) -> Result<(), AllocError>
+    fn resume(&mut self, key: &[u8])
         ensures pairs { (pairs : List (K × V)) → HasGathered K.bytes K.is_key self.old pairs
             → HasGathered K.bytes K.is_key self.new pairs }
         ensures names { HasLeavesOf K.bytes (nodes_of self.new) (nodes_of self.old) }
+        ensures room { (n : ℕ) → HasRoomLeft self.old n → HasRoomLeft self.new n }
     {
         if self.in_order {
-            return Ok(());
+            return;
         }
         if self.wait > 0 {
             self.wait -= 1;
-            return Ok(());
+            return;
         }
         self.pause = next_pause(self.pause);
         self.wait = self.pause;
         if !self.map.ends_before(key) {
-            return Ok(());
+            return;
         }
-        self.reopen()
+        self.reopen();
     }
 
-    // Opens the tree of the map again. Out of memory the map keeps it.
-    fn reopen(&mut self) -> Result<(), AllocError>
+    // Opens the tree of the map again. Out of memory the map keeps it, and pairs are inserted as before.
+    fn reopen(&mut self)
         requires settled { self.old.in_order ≡ false }
         ensures pairs { (pairs : List (K × V)) → self.old.map.pairs ≡ pairs
             → HasGathered K.bytes K.is_key self.new pairs }
         ensures names { HasLeavesOf K.bytes (nodes_of self.new) self.old.map.nodes }
+        ensures room { (n : ℕ) → HasRoom self.old.map.nodes n → HasRoomLeft self.new n }
     {
         let empty = TreeMap::with_prefix_len(self.alloc);
         match mem::replace(&mut self.map, empty).into_tree() {
@@ -235,12 +252,8 @@ impl<K: NoPrefixesBytes + Drop, V: Drop, const PREFIX_LEN: usize> TreeMapBuilder
                 self.in_order = true;
                 self.arena = arena;
                 self.builder = builder;
-                Ok(())
             }
-            Err(map) => {
-                self.map = map;
-                Err(AllocError)
-            }
+            Err(map) => self.map = map,
         }
     }
 
@@ -252,6 +265,8 @@ impl<K: NoPrefixesBytes + Drop, V: Drop, const PREFIX_LEN: usize> TreeMapBuilder
         ensures handed_back { HandsPairBack key value result }
         ensures kept { OnErr result (self.new.map.pairs ≡ self.old.map.pairs) }
         ensures names { HasLeavesOf K.bytes self.new.map.nodes self.old.map.nodes }
+        ensures succeeds { HasRoom self.old.map.nodes 2 → IsOk result }
+        ensures room { UsesRoom 2 self.old.map.nodes self.new.map.nodes }
     {
         self.map.insert(key, value)?;
         Ok(())
@@ -265,6 +280,7 @@ impl<K: NoPrefixesBytes + Drop, V: Drop, const PREFIX_LEN: usize> TreeMapBuilder
         ensures pairs { (pairs : List (K × V)) → HasGatheredInOrder K.bytes K.is_key self.old pairs
             → self.new.map.pairs ≡ pairs }
         ensures names { HasLeavesOf K.bytes self.new.map.nodes self.old.arena }
+        ensures room { (n : ℕ) → HasRoomBeside self.old.arena self.old.builder n → HasRoom self.new.map.nodes n }
     {
         self.in_order = false;
         let arena = mem::replace(&mut self.arena, NodeArena::new(self.alloc));
@@ -285,6 +301,7 @@ impl<K: NoPrefixesBytes + Drop, V: Drop, const PREFIX_LEN: usize> TreeMapBuilder
         requires taken { (pairs : List (K × V)) × HasGathered K.bytes K.is_key self pairs }
         ensures pairs { (pairs : List (K × V)) → HasGathered K.bytes K.is_key self pairs → result.pairs ≡ pairs }
         ensures names { HasLeavesOf K.bytes result.nodes (nodes_of self) }
+        ensures room { (n : ℕ) → HasRoomLeft self n → HasRoom result.nodes n }
     {
         if !self.in_order {
             return self.map;
@@ -315,9 +332,10 @@ impl<K: NoPrefixesBytes + Drop, V: Drop, const PREFIX_LEN: usize> TreeMap<K, V, 
         requires fits_in_memory { PREFIX_LEN < 2 ^ 62 }
         ensures pairs { HasGathered K.bytes K.is_key result self.old.pairs }
         ensures names { HasLeavesOf K.bytes (nodes_of result) self.old.nodes }
+        ensures room { (n : ℕ) → HasRoom self.old.nodes n → HasRoomLeft result n }
     {
         let empty = TreeMap::with_prefix_len(self.alloc);
-        TreeMapBuilder::of_map(mem::replace(self, empty))
+        TreeMapBuilder::from_map(mem::replace(self, empty))
     }
 
     // Takes the pairs of a builder, in place of those that are there.
@@ -338,6 +356,7 @@ impl<K: NoPrefixesBytes + Drop, V: Drop, const PREFIX_LEN: usize> TreeMap<K, V, 
         ensures pairs { (pairs : List (K × V)) → Builds K.bytes PREFIX_LEN arena builder pairs
             → result.pairs ≡ pairs }
         ensures names { HasLeavesOf K.bytes result.nodes arena }
+        ensures room { (n : ℕ) → HasRoomBeside arena builder n → HasRoom result.nodes n }
     {
         let mut arena = arena;
         let root = builder.finish(&mut arena);
@@ -351,13 +370,15 @@ impl<K: NoPrefixesBytes + Drop, V: Drop, const PREFIX_LEN: usize> TreeMap<K, V, 
         ensures err { IfErr result (λ map. map.pairs ≡ self.pairs) }
         ensures names { MatchResult result (λ tree. HasLeavesOf K.bytes tree.0 self.nodes)
             (λ map. HasLeavesOf K.bytes map.nodes self.nodes) }
+        ensures room { (n : ℕ) → HasRoom self.nodes n
+            → MatchResult result (λ tree. HasRoomBeside tree.0 tree.1 n) (λ map. HasRoom map.nodes n) }
     {
         let alloc = self.alloc;
         let mut arena = self.arena;
         let Some(root) = self.root else {
             return Ok((arena, TreeBuilder::new(alloc)));
         };
-        match TreeBuilder::reopen(alloc, &mut arena, root) {
+        match TreeBuilder::reopen(SpineRoom::empty(alloc), &mut arena, root) {
             Ok(builder) => Ok((arena, builder)),
             Err(node) => {
                 let root = Some(node);

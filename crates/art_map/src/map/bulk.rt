@@ -2,6 +2,7 @@
 ghost use Rattle.std.specs.Prelude.{◌≡◌, [], IfErr, IfOk};
 ghost use Rattle.std.specs.Iterator.{IsFinite};
 ghost use Rattle.std.specs.Map.Iter.{deref_pair};
+ghost use Rattle.art_arena.specs.arena.Arena.{HasRoom};
 ghost use Rattle.art_map.specs.Asked.{with_pairs_put};
 ghost use Rattle.art_map.specs.Bulk.{ExtendsWith, IsMadeOf, IsOfList};
 ghost use Rattle.art_map.specs.LeafNames.{KeepsAllLeaves};
@@ -18,8 +19,8 @@ impl<K: NoPrefixesBytes + Drop, V: Drop, const PREFIX_LEN: usize> TreeMap<K, V, 
     /// The iterator has to end. As long as keys go behind the last one of the map, no place is looked for: from the
     /// ninth pair on, or from the first one if the map is empty. See `TreeMapBuilder`.
     ///
-    /// Fails if there is no memory for a pair, which the error returns. The pairs before it stay in the map, and the
-    /// iterator is dropped.
+    /// Fails only if an insertion of a pair would be out of memory, and so never with as many pairs as `reserve` made
+    /// room for. The error returns that pair. The pairs before it stay in the map, and the iterator is dropped.
     ///
     /// ```
     /// let mut map = TreeMap::new(rt.alloc());
@@ -33,10 +34,10 @@ impl<K: NoPrefixesBytes + Drop, V: Drop, const PREFIX_LEN: usize> TreeMap<K, V, 
         requires { (it : U.IntoIter) → U.into_iter_gives iter it
             → U.IntoIter.can_next it × IsFinite (U.IntoIter.remaining it) }
         ensures names { KeepsAllLeaves K.bytes self.old self.new }
-        ensures pairs { ExtendsWith K.bytes (λ pair. pair) U.into_iter_gives U.IntoIter.next_gives iter self.old.pairs
-            result self.new.pairs }
+        ensures pairs { ExtendsWith K.bytes (λ pair. pair) U.into_iter_gives U.IntoIter.next_gives iter
+            (HasRoom self.old.nodes) self.old.pairs result self.new.pairs }
     {
-        if !nodes_fit::<PREFIX_LEN>() {
+        if !self.fits_in_memory() {
             let mut pairs = iter.into_iter();
             let Some((key, value)) = pairs.next() else {
                 return Ok(());
@@ -68,10 +69,10 @@ impl<K: NoPrefixesBytes + Drop, V: Drop, const PREFIX_LEN: usize> TreeMap<K, V, 
         requires { (it : U.IntoIter) → U.into_iter_gives iter it
             → U.IntoIter.can_next it × IsFinite (U.IntoIter.remaining it) }
         ensures names { KeepsAllLeaves K.bytes self.old self.new }
-        ensures pairs { ExtendsWith K.bytes deref_pair U.into_iter_gives U.IntoIter.next_gives iter self.old.pairs
-            result self.new.pairs }
+        ensures pairs { ExtendsWith K.bytes deref_pair U.into_iter_gives U.IntoIter.next_gives iter
+            (HasRoom self.old.nodes) self.old.pairs result self.new.pairs }
     {
-        if !nodes_fit::<PREFIX_LEN>() {
+        if !self.fits_in_memory() {
             let mut pairs = iter.into_iter();
             let Some((key, value)) = pairs.next() else {
                 return Ok(());

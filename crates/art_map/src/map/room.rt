@@ -26,6 +26,14 @@ pub fn nodes_fit<const PREFIX_LEN: usize>() -> bool
 }
 
 impl<K: AsBytes, V, const PREFIX_LEN: usize> TreeMap<K, V, PREFIX_LEN> {
+    // Whether an inner node fits in memory, as it does if there is room for one.
+    pub(super) fn fits_in_memory(&self) -> bool
+        ensures value { IsTrue result → PREFIX_LEN < 2 ^ 62 }
+        ensures room { HasRoom self.now.nodes 1 → IsTrue result }
+    {
+        self.arena.fits_in_memory()
+    }
+
     // Allocates the nodes of so many removals, each of which makes a node at most.
     pub(super) fn reserve_removals(&mut self, count: usize) -> Result<(), AllocError>
         ensures room { OnOk result (HasRoom self.new.nodes count) }
@@ -37,7 +45,8 @@ impl<K: AsBytes, V, const PREFIX_LEN: usize> TreeMap<K, V, PREFIX_LEN> {
     }
 
     /// Allocates the nodes of so many more insertions, whatever their keys are. While there is room for two nodes,
-    /// `insert`, `try_insert` and `replace_entry` are never out of memory, and each uses room for two at most.
+    /// `insert`, `try_insert` and `replace_entry` are never out of memory, and each uses room for two at most. Nor is
+    /// `extend` of so many pairs.
     ///
     /// A node of any kind may be needed, so that many of each kind are allocated, some kilobytes for each insertion. It
     /// serves a few insertions that must not fail. Fails only if there is no room for so many, and no memory. Either

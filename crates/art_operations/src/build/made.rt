@@ -1,6 +1,7 @@
 //! An inner node that is made at once, with all its children.
 ghost use Rattle.std.specs.Prelude.{◌≡◌, ◌≤◌, ◌+◌, ◌-◌, ℕ, suc, length, take, drop, IsOk, IfOk, OnErr};
 ghost use Rattle.art_nodes.specs.InnerNode.{IsAscending};
+ghost use Rattle.art_nodes.specs.declared.kind.NodeType.{NodeType};
 ghost use Rattle.art_nodes.specs.declared.leaf.LeafNode as node;
 ghost use Rattle.art_arena.specs.arena.Arena.{inner_held, Allocates, HasRoomOf, SameNodes};
 ghost use Rattle.art_arena.specs.arena.Rooms.{SameLeaves, UsesRoomOf};
@@ -72,6 +73,7 @@ pub(super) fn store_over<K: AsBytes, V, const PREFIX_LEN: usize>(
     ensures succeeds { (more : ℕ) → HasInnerRoom arena.old (length children.now + more) → IsOk result }
     ensures room { (more : ℕ) → HasInnerRoom arena.old (length children.now + more)
         → HasInnerRoom arena.new (suc more) }
+    ensures uses { (kind : NodeType) → IsKindOf kind (length children.now) → UsesRoomOf kind arena.old arena.new }
 {
     if !arena.fits_in_memory() {
         return Err(AllocError);

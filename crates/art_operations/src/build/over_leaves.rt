@@ -8,7 +8,7 @@ ghost use Rattle.art_arena.specs.arena.Shapes.{LeafAt, pairs_of};
 ghost use Rattle.art_operations.specs.Meetings.{PartAt};
 ghost use Rattle.art_operations.specs.Pairs.{HasPairs};
 ghost use Rattle.art_operations.specs.Rebuilds.{HasInnerRoom, HoldsInOrder};
-ghost use Rattle.art_operations.specs.inner.Rebuilding.{CanPass, HasSpineRoom, RebuildsUpTo};
+ghost use Rattle.art_operations.specs.inner.Rebuilding.{CanPass, HasSpineRoom, IsFresh, RebuildsUpTo};
 ghost use Rattle.art_operations.specs.inner.Spines.{IsEmptySpine};
 ghost use Rattle.art_operations.specs.Whichever.{HasSome, OfEach};
 
@@ -21,8 +21,8 @@ use art_nodes::{LeafNode, OpaqueNodePtr};
 use std::alloc::{AllocError, Global};
 use std::marker::Model;
 
-/// Room for what `rebuild` notes while it makes the inner nodes over so many leaves. `SpineRoom::new` allocates it, and
-/// the nodes in their arena.
+/// Room for what `rebuild` notes while it makes the inner nodes over so many leaves, or `TreeBuilder::reopen` while it
+/// opens those of a tree of so many. `SpineRoom::new` allocates it, and the nodes in their arena.
 #[derive(Drop)]
 pub struct SpineRoom {
     spine: Spine,
@@ -41,8 +41,18 @@ impl Model for SpineRoom {
 }
 
 impl SpineRoom {
-    /// Allocates all that `rebuild` needs over so many leaves: nodes of each kind, and room for what is noted
-    /// meanwhile.
+    /// Room for no leaf. It allocates nothing: who goes on with it may be out of memory.
+    pub fn empty(alloc: Global) -> SpineRoom
+        ensures { result ≡ 0 }
+    {
+        SpineRoom {
+            spine: Spine::new(alloc),
+            leaves: 0,
+        }
+    }
+
+    /// Allocates all that `rebuild` or `TreeBuilder::reopen` needs for so many leaves: nodes of each kind, and room for
+    /// what is noted meanwhile.
     ///
     /// Fails only if out of memory. Either way, room that was there stays, and no name changes.
     pub fn new<K, V, const PREFIX_LEN: usize>(
@@ -58,6 +68,13 @@ impl SpineRoom {
         let mut spine = Spine::new(alloc);
         spine.reserve(arena, leaves)?;
         Ok(SpineRoom { spine, leaves })
+    }
+
+    /// The room, with no node open in it.
+    pub(super) fn into_spine(self) -> Spine
+        ensures { IsFresh result self }
+    {
+        self.spine
     }
 }
 

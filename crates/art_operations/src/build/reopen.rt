@@ -1,22 +1,26 @@
 //! A builder that goes on from a tree: the inner nodes on the way to its last leaf are open again, from the root down.
 ghost use Rattle.std.specs.Prelude.{◌≡◌, ◌≢◌, ◌+◌, ◌<◌, ◌≤◌, ◌++◌, ℕ, List, Some, length, vec_capacity};
-ghost use Rattle.std.specs.Prelude.{IfErr, IfOk, IsOk, OnErr, OnOk};
+ghost use Rattle.std.specs.Prelude.{IfErr, IfOk, IsOk, MatchResult, OnErr, OnOk};
+ghost use Rattle.art_arena.specs.arena.Arena.{HasRoom};
 ghost use Rattle.art_arena.specs.arena.Rooms.{SameLeaves};
 ghost use Rattle.art_arena.specs.arena.Shapes.{LeafAt};
-ghost use Rattle.art_operations.specs.Builders.{Builds};
+ghost use Rattle.art_operations.specs.Builders.{Builds, HasRoomBeside};
 ghost use Rattle.art_operations.specs.Pairs.{HasPairs};
+ghost use Rattle.art_operations.specs.Rebuilds.{HasInnerRoom};
 ghost use Rattle.art_operations.specs.Whichever.{HasSome, OfEach};
 ghost use Rattle.art_operations.specs.inner.Rebuilding.{HasSpineRoom};
-ghost use Rattle.art_operations.specs.inner.Reopening.{OpensTo};
+ghost use Rattle.art_operations.specs.inner.Reopening.{HasRoomToOpen, OpensTo};
 ghost use Rattle.art_operations.specs.inner.Spines.{begin_of};
+ghost use Rattle.art_operations.specs.inner.Unmade.{HasRoomAround};
 
 use crate::build::TreeBuilder;
+use crate::build::over_leaves::SpineRoom;
 use crate::build::spine::{Open, Spine, close_from};
 use crate::minmax::maximum_unchecked;
 use art_arena::{NodeArena, NodeEdit};
 use art_bytes::AsBytes;
 use art_nodes::{ChildIter, KindLeaf, NodeType, OpaqueNodePtr};
-use std::alloc::{AllocError, Global};
+use std::alloc::AllocError;
 
 // Notes children behind those that are noted.
 fn note_all(noted: &mut Vec<(u8, OpaqueNodePtr)>, children: ChildIter<'_>) -> Result<(), AllocError>
@@ -57,6 +61,11 @@ fn open_top<K: AsBytes + Drop, V: Drop, const PREFIX_LEN: usize>(
     ensures stack { OnErr result (spine.new.stack.items ≡ spine.old.stack.items) }
     ensures kept_room { OnErr result ((n : ℕ) → HasSpineRoom arena.old spine.old n
         → HasSpineRoom arena.new spine.new n) }
+    ensures succeeds { (leaf : LeafAt K V) (ls : List (LeafAt K V))
+        → OpensTo K.bytes PREFIX_LEN arena.old spine.old part leaf ls → HasRoomToOpen arena.old spine.old (length ls)
+        → IsOk result }
+    ensures room_to_open { (n : ℕ) → HasRoomToOpen arena.old spine.old n → HasRoomToOpen arena.new spine.new n }
+    ensures around { (n : ℕ) → HasRoomAround arena.old spine.old n → HasRoomAround arena.new spine.new n }
     ensures leaves { SameLeaves arena.old arena.new }
 {
     let count = arena.inner(part).num_children();
@@ -81,9 +90,10 @@ impl TreeBuilder {
     /// Goes on from a tree that an arena holds alone: the inner nodes on the way to its last leaf are open again. No
     /// leaf changes. It takes time in proportion to the children of those nodes.
     ///
-    /// Fails only if out of memory. The error is the root of the tree, which has the pairs that it had.
+    /// Fails only if out of memory, and never where there is room for as many leaves as the tree has: see
+    /// `SpineRoom::new`. The error is the root of the tree, which has the pairs that it had.
     pub fn reopen<K: AsBytes + Drop, V: Drop, const PREFIX_LEN: usize>(
-        alloc: Global,
+        room: SpineRoom,
         arena: &mut NodeArena<K, V, PREFIX_LEN>,
         root: OpaqueNodePtr,
     ) -> Result<TreeBuilder, OpaqueNodePtr>
@@ -94,24 +104,29 @@ impl TreeBuilder {
         ensures err { IfErr result (λ node. (pairs : List (K × V))
             → HasPairs K.bytes PREFIX_LEN arena.old (Some root) pairs
             → HasPairs K.bytes PREFIX_LEN arena.new (Some node) pairs) }
+        ensures succeeds { (pairs : List (K × V)) → HasPairs K.bytes PREFIX_LEN arena.old (Some root) pairs
+            → length pairs ≤ room → HasInnerRoom arena.old room → IsOk result }
+        ensures leaf_alone { root.kind ≡ NodeType.Leaf → IsOk result }
+        ensures room { (n : ℕ) → HasRoom arena.old n
+            → MatchResult result (λ builder. HasRoomBeside arena.new builder n) (λ _. HasRoom arena.new n) }
         ensures leaves { SameLeaves arena.old arena.new }
     {
-        let mut spine = Spine::new(alloc);
+        let mut spine = room.into_spine();
         let last = maximum_unchecked(arena, root);
         let most = arena.as_key_ref(last).as_bytes().len();
         let mut part = root;
-        let mut room = 0;
+        let mut ready = 0;
         'open: loop {
             if part.is::<KindLeaf>() {
                 return Ok(TreeBuilder {
                     spine,
                     last: Some(last),
-                    room,
+                    room: ready,
                 });
             }
             let Ok(child) = open_top(arena, &mut spine, part, most) else {
                 // Where nothing is open, the part is the root.
-                if room == 0 {
+                if ready == 0 {
                     return Err(part);
                 }
                 // There is room to make again what was opened.
@@ -121,7 +136,7 @@ impl TreeBuilder {
                 return Err(node);
             };
             part = child;
-            room = 1;
+            ready = 1;
         }
     }
 }

@@ -10,6 +10,7 @@ ghost use Rattle.art_arena.specs.arena.Cells.{Cell, leaf_name};
 ghost use Rattle.art_operations.specs.Rebuilds.{HasInnerRoom};
 ghost use Rattle.art_operations.specs.inner.Rebuilding.{CanPassAt, HasPlaces, HasSpineRoom, RebuildsUpTo};
 ghost use Rattle.art_operations.specs.inner.Spines.{begin_of, AddsChild, OpensAt, IsEmptySpine, HasSpine};
+ghost use Rattle.art_operations.specs.inner.Unmade.{HasRoomAround};
 ghost use Rattle.art_operations.specs.Whichever.{HasSome, OfEach};
 
 use crate::build::made::store_over;
@@ -44,6 +45,8 @@ fn reserve_over<K, V, const PREFIX_LEN: usize>(
 ) -> Result<(), AllocError>
     requires { kind ≢ NodeType.Leaf }
     ensures room { OnOk result ((n : ℕ) → n * ((row_of kind).fewest - 1) < leaves → HasRoomOf arena.new kind n) }
+    ensures succeeds { 1 ≤ leaves → ((n : ℕ) → n * ((row_of kind).fewest - 1) < leaves → HasRoomOf arena.old kind n)
+        → IsOk result }
     ensures kept_room { KeepsRoomOf arena.old arena.new }
     ensures kept { SameNodes arena.old arena.new }
 {
@@ -56,6 +59,7 @@ fn reserve_inner<K, V, const PREFIX_LEN: usize>(
     leaves: usize,
 ) -> Result<(), AllocError>
     ensures room { OnOk result (HasInnerRoom arena.new leaves) }
+    ensures succeeds { 1 ≤ leaves → HasInnerRoom arena.old leaves → IsOk result }
     ensures kept_room { KeepsRoomOf arena.old arena.new }
     ensures kept { SameNodes arena.old arena.new }
 {
@@ -87,7 +91,10 @@ impl Spine {
         more: usize,
     ) -> Result<(), AllocError>
         ensures room { OnOk result (HasSpineRoom arena.new self.new more) }
+        ensures succeeds { 1 ≤ more → HasSpineRoom arena.old self.old more → IsOk result }
         ensures kept_room { (n : ℕ) → HasSpineRoom arena.old self.old n → HasSpineRoom arena.new self.new n }
+        ensures stack_places { vec_capacity self.old.stack ≤ vec_capacity self.new.stack }
+        ensures children_places { vec_capacity self.old.children ≤ vec_capacity self.new.children }
         ensures room_of { KeepsRoomOf arena.old arena.new }
         ensures stack { self.new.stack.items ≡ self.old.stack.items }
         ensures children { self.new.children.items ≡ self.old.children.items }
@@ -168,6 +175,8 @@ fn close_top<K: AsBytes, V, const PREFIX_LEN: usize>(
     ensures succeeds { (more : ℕ) → HasSpineRoom arena.old spine.old (suc more) → IsOk result }
     ensures room { OnOk result ((more : ℕ) → HasSpineRoom arena.old spine.old (suc more)
         → HasSpineRoom arena.new spine.new (suc more)) }
+    ensures around { OnOk result ((n : ℕ) → HasRoomAround arena.old spine.old n
+        → HasRoomAround arena.new spine.new n) }
 {
     let Some(top) = spine.stack.pop() else {
         unreachable!();
@@ -203,6 +212,8 @@ pub(super) fn close_from<K: AsBytes, V, const PREFIX_LEN: usize>(
     ensures succeeds { (more : ℕ) → HasSpineRoom arena.old spine.old (suc more) → IsOk result }
     ensures room { OnOk result ((more : ℕ) → HasSpineRoom arena.old spine.old (suc more)
         → HasSpineRoom arena.new spine.new (suc more)) }
+    ensures around { OnOk result ((n : ℕ) → HasRoomAround arena.old spine.old n
+        → HasRoomAround arena.new spine.new n) }
 {
     let mut part = start;
     'close: loop {
@@ -231,6 +242,8 @@ pub(super) fn close<K: AsBytes, V, const PREFIX_LEN: usize>(
     ensures succeeds { (more : ℕ) → HasSpineRoom arena.old spine.old (suc more) → IsOk result }
     ensures room { OnOk result ((more : ℕ) → HasSpineRoom arena.old spine.old (suc more)
         → HasSpineRoom arena.new spine.new (suc more)) }
+    ensures around { OnOk result ((n : ℕ) → HasRoomAround arena.old spine.old n
+        → HasRoomAround arena.new spine.new n) }
 {
     close_from(arena, spine, last, low, last.to_opaque())
 }
@@ -252,6 +265,7 @@ pub(super) fn pass_at<K: AsBytes, V, const PREFIX_LEN: usize>(
         (RebuildsUpTo K.bytes PREFIX_LEN arena.new spine.new next) }
     ensures leaves { SameLeaves arena.old arena.new }
     ensures room { (more : ℕ) → HasSpineRoom arena.old spine.old (suc more) → HasSpineRoom arena.new spine.new more }
+    ensures around { (n : ℕ) → HasRoomAround arena.old spine.old (suc n) → HasRoomAround arena.new spine.new n }
 {
     let behind = parted.matched + 1;
     let Ok(part) = close(arena, spine, last, behind) else {

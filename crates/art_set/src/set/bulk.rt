@@ -6,6 +6,7 @@ ghost use Rattle.art_set.specs.Bulk.{ExtendsWithKeys, IsMadeOfKeys, IsKeyOfList}
 ghost use Rattle.art_set.specs.Members.{with_keys_put};
 
 use crate::set::TreeSet;
+use crate::set::builder::{put_all, put_copies};
 use crate::set::refused::RefusedKey;
 use art_bytes::NoPrefixesBytes;
 use art_map::{TreeMapBuilder, nodes_fit};
@@ -13,10 +14,11 @@ use std::alloc::Global;
 
 impl<K: NoPrefixesBytes + Drop, const PREFIX_LEN: usize> TreeSet<K, PREFIX_LEN> {
     /// Inserts the keys that an iterator gives, one after another. Each replaces a key with the same bytes. The
-    /// iterator has to end.
+    /// iterator has to end. As long as keys go behind the last one of the set, no place is looked for: from the ninth
+    /// key on, or from the first one if the set is empty. See `TreeMapBuilder`.
     ///
-    /// Fails if there is no memory for a key, which the error returns. The keys before it stay in the set, and the
-    /// iterator is dropped.
+    /// Fails only if an insertion of a key would be out of memory. The error returns that key. The keys before it stay
+    /// in the set, and the iterator is dropped.
     ///
     /// ```
     /// let mut set = TreeSet::new(rt.alloc());
@@ -29,10 +31,17 @@ impl<K: NoPrefixesBytes + Drop, const PREFIX_LEN: usize> TreeSet<K, PREFIX_LEN> 
         ensures { ExtendsWithKeys K.bytes (λ key. key) U.into_iter_gives U.IntoIter.next_gives iter self.old result
             self.new }
     {
-        for key in iter {
-            self.insert(key)?;
+        if !nodes_fit::<PREFIX_LEN>() {
+            let mut keys = iter.into_iter();
+            let Some(key) = keys.next() else {
+                return Ok(());
+            };
+            return Err(RefusedKey { key });
         }
-        Ok(())
+        let mut builder = self.take_into_builder();
+        let result = put_all(&mut builder, iter);
+        self.put_back(builder);
+        result
     }
 
     /// Inserts copies of the keys that an iterator lends, as `extend` does.
@@ -54,10 +63,17 @@ impl<K: NoPrefixesBytes + Drop, const PREFIX_LEN: usize> TreeSet<K, PREFIX_LEN> 
             → U.IntoIter.can_next it × IsFinite (U.IntoIter.remaining it) }
         ensures { ExtendsWithKeys K.bytes deref U.into_iter_gives U.IntoIter.next_gives iter self.old result self.new }
     {
-        for key in iter {
-            self.insert(*key)?;
+        if !nodes_fit::<PREFIX_LEN>() {
+            let mut keys = iter.into_iter();
+            let Some(key) = keys.next() else {
+                return Ok(());
+            };
+            return Err(RefusedKey { key: *key });
         }
-        Ok(())
+        let mut builder = self.take_into_builder();
+        let result = put_copies(&mut builder, iter);
+        self.put_back(builder);
+        result
     }
 
     /// Makes a set of the keys that an iterator gives. Of keys with the same bytes the last counts. The iterator has to
@@ -85,12 +101,7 @@ impl<K: NoPrefixesBytes + Drop, const PREFIX_LEN: usize> TreeSet<K, PREFIX_LEN> 
             return Err(RefusedKey { key });
         }
         let mut builder = TreeMapBuilder::new(alloc);
-        for key in iter {
-            match builder.put(key, ()) {
-                Ok(()) => {}
-                Err(refused) => return Err(RefusedKey { key: refused.key }),
-            }
-        }
+        put_all(&mut builder, iter)?;
         let map = builder.finish();
         Ok(TreeSet { alloc, map })
     }

@@ -16,7 +16,7 @@ returns-then-not-nodes_fit g c =
 pub returns-in_err-put_all : goal.returns-in_err-put_all
 returns-in_err-put_all g c =
     let (it, given, gives, put, back) = c.in_err-put_all.ensures.pairs in
-    made-refused g.K.AsBytes.bytes (λ pair. pair) g.U.IntoIterator.into_iter_gives g.U.IntoIter.Iterator.next_gives c.args.iter it given _ c.from_residual.result gives back c.from_residual.ensures.1
+    made-refused g.K.AsBytes.bytes (λ pair. pair) g.U.IntoIterator.into_iter_gives g.U.IntoIter.Iterator.next_gives c.args.iter it given _ c.from_residual.result gives back.0 c.from_residual.ensures.1
 
 pub finish-requires : goal.finish-requires
 finish-requires g c =

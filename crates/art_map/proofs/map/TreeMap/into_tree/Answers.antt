@@ -1,6 +1,7 @@
-use Rattle.std.proofs.Common.{Some, ap, subst, arith}
+use Rattle.std.proofs.Common.{Some, sym, ap, subst, arith}
 use Rattle.std.specs.List.{AllByRecursion}
-use Rattle.art_operations.proofs.Common.{HasLeavesOf, HasPairs}
+use Rattle.art_arena.proofs.Common.{HasRoom}
+use Rattle.art_operations.proofs.Common.{HasLeavesOf, HasPairs, fresh-around}
 use Rattle.art_operations.proofs.Pushed.{same-leaves-names}
 use Rattle.art_map.proofs.Below.{has-seen}
 use Rattle.art_map.proofs.Built.{none-built}
@@ -51,3 +52,12 @@ returns-in-Err-clause-err g c =
 pub returns-in-Err-clause-names : goal.returns-in-Err-clause-names
 returns-in-Err-clause-names g c =
     subst (HasLeavesOf g.K.AsBytes.bytes c.reopen.new.arena) (ap (λ m. m.nodes) c.self.view_is) (same-leaves-names g.K.AsBytes.bytes c.self.inside.arena c.reopen.new.arena c.in-Err.ensures.leaves)
+
+pub returns-in_default-clause-room : goal.returns-in_default-clause-room
+returns-in_default-clause-room g c = λ n room. fresh-around c.self.inside.arena c.new.result.spine n c.new.ensures.spine (subst (λ m. HasRoom m.nodes n) (sym c.self.view_is) room)
+
+pub returns-in-Ok-clause-room : goal.returns-in-Ok-clause-room
+returns-in-Ok-clause-room g c = λ n room. c.in-Ok.ensures.room n (subst (λ m. HasRoom m.nodes n) (sym c.self.view_is) room)
+
+pub returns-in-Err-clause-room : goal.returns-in-Err-clause-room
+returns-in-Err-clause-room g c = λ n room. c.in-Err.ensures.room n (subst (λ m. HasRoom m.nodes n) (sym c.self.view_is) room)

@@ -3,6 +3,7 @@ use Rattle.art_arena.proofs.Common.{leaf_name}
 use Rattle.art_operations.proofs.Terms.{HasPairs, HasSpineRoom, begin_of}
 use Rattle.art_operations.proofs.Building.{builds-none, builds-some, finished, none-held, spine-of}
 use Rattle.art_operations.proofs.PassedLeaves.{never}
+use Rattle.art_operations.proofs.Unmade.{around-room}
 use Rattle.art_operations.proofs.build.TreeBuilder.finish.Goals as goal
 
 pub returns-then-self-eq0-clause-tree : goal.returns-then-self-eq0-clause-tree
@@ -32,3 +33,12 @@ returns-clause-tree g c = λ pairs builds.
 
 pub returns-in_default-clause-tree : goal.returns-in_default-clause-tree
 returns-in_default-clause-tree g c = λ pairs builds. none-held g.K.AsBytes.bytes g.row.PREFIX_LEN c.args.arena.now c.args.self.spine pairs (builds-none g.K.AsBytes.bytes g.row.PREFIX_LEN c.args.arena.now c.args.self pairs builds c.in_default.is)
+
+pub returns-in_default-clause-room : goal.returns-in_default-clause-room
+returns-in_default-clause-room g c = around-room c.args.arena.now c.args.self.spine
+
+pub returns-then-self-eq0-clause-room : goal.returns-then-self-eq0-clause-room
+returns-then-self-eq0-clause-room g c = around-room c.args.arena.now c.args.self.spine
+
+pub returns-clause-room : goal.returns-clause-room
+returns-clause-room g c = λ n room. around-room c.close.new.arena c.close.new.spine n (c.in-Ok.ensures.around n room)

@@ -1,16 +1,19 @@
-use Rattle.std.proofs.Common.{◌≡◌, ◌<◌, ◌≤◌, ◌-◌, ◌∷◌, [], ◌++◌, ℕ, suc, Some, List, All, refl, sym, ap, subst, ◌∙◌, arith}
+use Rattle.std.proofs.Common.{◌≡◌, ◌<◌, ◌≤◌, ◌+◌, ◌-◌, ◌∷◌, [], ◌++◌, ℕ, suc, Some, List, All, refl, sym, ap, subst, ◌∙◌, arith}
 use Rattle.std.proofs.lemmas.List.Elements.{All-get_or}
 use Rattle.art_bytes.proofs.Common.{IsBefore}
 use Rattle.art_nodes.specs.declared.kind.NodeType.TheVariants.{Leaf}
-use Rattle.art_arena.proofs.Common.{Arena, links_at, UsesRoomOf, leaf_name, LeafAt}
-use Rattle.art_operations.proofs.Terms.{Builds, BuildsUpTo, GoesBehind, IsPushRefused, PartAt, Parted, HasStoredLast, IsListTo, Meets, CanPassAt, HasSpineRoom}
+use Rattle.art_arena.proofs.Common.{Arena, HasRoomOf, links_at, UsesRoomOf, leaf_name, LeafAt}
+use Rattle.art_operations.proofs.Terms.{Builds, BuildsUpTo, GoesBehind, HasRoomBeside, IsPushRefused, PartAt, Parted, HasStoredLast, IsListTo, Meets, CanPassAt, HasSpineRoom}
+use Rattle.art_operations.specs.declared.meeting.Meeting.{Meeting}
 use Rattle.art_operations.specs.declared.meeting.Meeting.TheVariants as meeting
 use Rattle.art_operations.proofs.Building.{all_leaves, behind-all, behind-last, builds-some, is-before, is-held, last-bytes, new-inside, not-behind, old-byte, old-inside}
 use Rattle.art_operations.proofs.InnerRooms.{beside-leaf}
 use Rattle.art_operations.proofs.LeafNames.{same-names}
+use Rattle.art_operations.proofs.PassedLeaves.{failed}
 use Rattle.art_operations.proofs.Pushed.{can-at as last-can, list-to, passed-on, refused-builds, same-leaves-names, stored-names}
+use Rattle.art_operations.proofs.Unmade.{around-fewer, around-leaf, leaf-room}
 use Rattle.art_operations.proofs.build.TreeBuilder.push.Goals as goal
-use Rattle.art_operations.proofs.build.TreeBuilder.push.Goals.{After-make_room}
+use Rattle.art_operations.proofs.build.TreeBuilder.push.Goals.{After-make_room, After-meet-met}
 
 pub as_key_ref-requires : goal.as_key_ref-requires
 as_key_ref-requires g c =
@@ -18,37 +21,50 @@ as_key_ref-requires g c =
     let is = builds-some g.K.AsBytes.bytes g.row.PREFIX_LEN c.args.arena.now c.args.self.now r.0 r.1 c.in-Some.last c.in-Some.is in
     (omega arith, is-held g.K.AsBytes.bytes g.row.PREFIX_LEN c.args.arena.now c.args.self.now.spine c.in-Some.last r.0 is)
 
+-- what was read of both keys
+module _ (g : _) (c : After-meet-met g) (pairs : List (g.row.K.Denot × g.row.V.Denot)) (builds : Builds g.K.AsBytes.bytes g.row.PREFIX_LEN c.args.arena.now c.args.self.now pairs) where
+  stood : BuildsUpTo g.K.AsBytes.bytes g.row.PREFIX_LEN c.args.arena.now c.args.self.now.spine c.in-Some.last pairs
+  stood = builds-some g.K.AsBytes.bytes g.row.PREFIX_LEN c.args.arena.now c.args.self.now pairs builds c.in-Some.last c.in-Some.is
+
+  met : Meets (g.K.AsBytes.bytes stood.key) (g.K.AsBytes.bytes c.args.key) c.meet-met.result
+  met =
+      let old_is = last-bytes g.K.AsBytes.bytes g.row.PREFIX_LEN c.args.arena.now c.args.self.now.spine c.in-Some.last pairs stood c.as_key_ref.result.now c.as_bytes.result.now c.as_key_ref.ensures c.as_bytes.ensures.value in
+      subst (λ o. Meets o (g.K.AsBytes.bytes c.args.key) c.meet-met.result) old_is (subst (λ n. Meets c.as_bytes.result.now n c.meet-met.result) c.as_bytes-2.ensures.value c.meet-met.ensures)
+
+  -- where they don't part so that the new one goes on by the greater byte, it doesn't go behind
+  not-there : ((p : Parted) → c.meet-met.result ≡ meeting.Parts p → p.new_byte < p.old_byte) → GoesBehind g.K.AsBytes.bytes (g.K.AsBytes.bytes c.args.key) pairs → ⊥
+  not-there lower behind =
+      not-behind (g.K.AsBytes.bytes stood.key) (g.K.AsBytes.bytes c.args.key) c.meet-met.result met lower
+      (behind-last g.K.AsBytes.bytes g.row.PREFIX_LEN c.args.arena.now c.args.self.now.spine c.in-Some.last pairs stood (g.K.AsBytes.bytes c.args.key) behind)
+
 pub returns-in_default-met : goal.returns-in_default-met
 returns-in_default-met g c = record {
   ok = tt;
-  refused = λ pairs builds.
-      let is = builds-some g.K.AsBytes.bytes g.row.PREFIX_LEN c.args.arena.now c.args.self.now pairs builds c.in-Some.last c.in-Some.is in
-      let old_is = last-bytes g.K.AsBytes.bytes g.row.PREFIX_LEN c.args.arena.now c.args.self.now.spine c.in-Some.last pairs is c.as_key_ref.result.now c.as_bytes.result.now c.as_key_ref.ensures c.as_bytes.ensures.value in
-      let meets = subst (λ o. Meets o (g.K.AsBytes.bytes c.args.key) c.meet-met.result) old_is (subst (λ n. Meets c.as_bytes.result.now n c.meet-met.result) c.as_bytes-2.ensures.value c.meet-met.ensures) in (
-        refl,
-        refl,
-        λ behind. not-behind (g.K.AsBytes.bytes is.key) (g.K.AsBytes.bytes c.args.key) c.meet-met.result meets (λ p e. absurd (c.in_default-met.not-Parts p e))
-            (behind-last g.K.AsBytes.bytes g.row.PREFIX_LEN c.args.arena.now c.args.self.now.spine c.in-Some.last pairs is (g.K.AsBytes.bytes c.args.key) behind),
-      );
+  refused = λ pairs builds. (refl, refl, apart pairs builds);
   kept = λ n. refl;
   left = λ pairs builds. builds;
   names = λ slot key has. has;
   succeeds = λ none room. absurd (cc);
+  with_room = λ places leaf pairs builds behind. absurd (apart pairs builds behind);
+  uses = tt;
+  room = λ n room. around-fewer c.args.arena.now c.args.self.now.spine n (n + 2) (omega arith) room;
+  kept_room = λ n some room. room;
 }
+  where
+    apart : (pairs : List (g.row.K.Denot × g.row.V.Denot)) → Builds g.K.AsBytes.bytes g.row.PREFIX_LEN c.args.arena.now c.args.self.now pairs → GoesBehind g.K.AsBytes.bytes (g.K.AsBytes.bytes c.args.key) pairs → ⊥
+    apart pairs builds = not-there g (goal.at.returns-in_default-met g c).After-meet-met pairs builds (λ p e. absurd (c.in_default-met.not-Parts p e))
+
+-- the new key goes on by the smaller byte
+lower : (met : Meeting) (p : Parted) → met ≡ meeting.Parts p → p.new_byte < p.old_byte → (q : Parted) → met ≡ meeting.Parts q → q.new_byte < q.old_byte
+lower met p is less q e = let same : p ≡ q = cc in subst (λ (r : Parted). r.new_byte < r.old_byte) same less
 
 pub returns-then-parted-clause-refused : goal.returns-then-parted-clause-refused
 returns-then-parted-clause-refused g c = λ pairs builds.
-    let is = builds-some g.K.AsBytes.bytes g.row.PREFIX_LEN c.args.arena.now c.args.self.now pairs builds c.in-Some.last c.in-Some.is in
-    let old_is = last-bytes g.K.AsBytes.bytes g.row.PREFIX_LEN c.args.arena.now c.args.self.now.spine c.in-Some.last pairs is c.as_key_ref.result.now c.as_bytes.result.now c.as_key_ref.ensures c.as_bytes.ensures.value in
-    let p = c.in-Parts.parted in
-    let meets = subst (λ o. Meets o (g.K.AsBytes.bytes c.args.key) (meeting.Parts p)) old_is (subst (λ n. Meets c.as_bytes.result.now n (meeting.Parts p)) c.as_bytes-2.ensures.value c.in-Parts.ensures) in
-    let lower = c.if-parted.true in (
-      refl,
-      refl,
-      λ behind. not-behind (g.K.AsBytes.bytes is.key) (g.K.AsBytes.bytes c.args.key) (meeting.Parts p) meets
-          (λ q e. let same : p ≡ q = cc in subst (λ (r : Parted). r.new_byte < r.old_byte) same lower)
-          (behind-last g.K.AsBytes.bytes g.row.PREFIX_LEN c.args.arena.now c.args.self.now.spine c.in-Some.last pairs is (g.K.AsBytes.bytes c.args.key) behind),
-    )
+    (refl, refl, not-there g (goal.at.returns-then-parted-clause-refused g c).After-meet-met pairs builds (lower c.meet-met.result c.in-Parts.parted c.in-Parts.is c.if-parted.true))
+
+pub returns-then-parted-clause-with_room : goal.returns-then-parted-clause-with_room
+returns-then-parted-clause-with_room g c = λ places leaf pairs builds behind.
+    absurd (not-there g (goal.at.returns-then-parted-clause-with_room g c).After-meet-met pairs builds (lower c.meet-met.result c.in-Parts.parted c.in-Parts.is c.if-parted.true) behind)
 
 -- where there is room, or was none
 module _ (g : _) (c : After-make_room g) (pairs : List (g.row.K.Denot × g.row.V.Denot)) (builds : Builds g.K.AsBytes.bytes g.row.PREFIX_LEN c.args.arena.now c.args.self.now pairs) where
@@ -148,3 +164,31 @@ returns-in-Err-clause-left g c = λ pairs builds.
 pub returns-in-Err-clause-names : goal.returns-in-Err-clause-names
 returns-in-Err-clause-names g c = λ slot key has.
     same-names g.K.AsBytes.bytes c.make_room.new.arena c.store_last.new.arena c.in-Err.ensures.err slot key (same-names g.K.AsBytes.bytes c.args.arena.now c.make_room.new.arena c.make_room.ensures.kept slot key has)
+
+pub returns-in_default-make_room-clause-kept_room : goal.returns-in_default-make_room-clause-kept_room
+returns-in_default-make_room-clause-kept_room g c = λ n some room. c.make_room.ensures.beside n room
+
+pub returns-in_default-make_room-clause-room : goal.returns-in_default-make_room-clause-room
+returns-in_default-make_room-clause-room g c = λ n room. around-fewer c.make_room.new.arena c.make_room.new.self.spine n (n + 2) (omega arith) (c.make_room.ensures.beside (n + 2) room)
+
+pub returns-in-Ok-store_last-clause-room : goal.returns-in-Ok-store_last-clause-room
+returns-in-Ok-store_last-clause-room g c = λ n room.
+    let there = around-fewer c.make_room.new.arena c.make_room.new.self.spine (suc (suc n)) (n + 2) (omega arith) (c.make_room.ensures.beside (n + 2) room) in
+    c.pass_at.ensures.around n (around-leaf c.make_room.new.arena c.store_last.new.arena c.make_room.new.self.spine (suc n) c.store_last.ensures.room_of there)
+
+-- a leaf for which there is room is stored
+module _ (g : _) (c : After-make_room g) (refused : (HasRoomOf c.make_room.new.arena Leaf 1 → ⊥)) where
+  no-room : (n : ℕ) → 1 ≤ n → HasRoomBeside c.args.arena.now c.args.self.now n → ⊥
+  no-room n some room = refused (leaf-room c.make_room.new.arena c.make_room.new.self.spine n some (c.make_room.ensures.beside n room))
+
+pub returns-in-Err-clause-kept_room : goal.returns-in-Err-clause-kept_room
+returns-in-Err-clause-kept_room g c = λ n some room.
+    absurd (no-room g (goal.at.returns-in-Err-clause-kept_room g c).After-make_room (λ one. failed c.store_last.result _ c.in-Err.is (c.store_last.ensures.succeeds one)) n some room)
+
+pub returns-in-Err-clause-room : goal.returns-in-Err-clause-room
+returns-in-Err-clause-room g c = λ n room.
+    absurd (no-room g (goal.at.returns-in-Err-clause-room g c).After-make_room (λ one. failed c.store_last.result _ c.in-Err.is (c.store_last.ensures.succeeds one)) (n + 2) (omega arith) room)
+
+pub returns-in-Err-clause-with_room : goal.returns-in-Err-clause-with_room
+returns-in-Err-clause-with_room g c = λ places leaf pairs builds behind.
+    absurd (failed c.store_last.result _ c.in-Err.is (c.store_last.ensures.succeeds (c.make_room.ensures.room_of Leaf 1 leaf)))

@@ -1,8 +1,11 @@
-use Rattle.std.proofs.Common.{◌+◌, suc, length, arith}
+use Rattle.std.proofs.Common.{ℕ, ◌+◌, suc, length, sym, subst, ◌∙◌, arith}
 use Rattle.art_nodes.proofs.Common.{length-ascending}
+use Rattle.art_nodes.specs.declared.kind.NodeType.{NodeType}
 use Rattle.art_nodes.specs.declared.kind.NodeType.TheVariants.{Node4, Node16, Node32, Node48, Node256}
+use Rattle.art_arena.proofs.Common.{Arena, IsKindOf, UsesRoomOf}
 use Rattle.art_operations.proofs.InnerRooms.{fewer-leaves, first-room, stored}
 use Rattle.art_operations.proofs.Spines.{stored-leaves}
+use Rattle.art_operations.proofs.Unmade.{fewer-room, kind-over}
 use Rattle.art_operations.proofs.build.made.store_over.Goals as goal
 
 pub returns-then-count-le4-clause-leaves : goal.returns-then-count-le4-clause-leaves
@@ -63,3 +66,33 @@ returns-then-not-fits_in_memory-clause-succeeds g c = λ more room.
 
 pub returns-then-not-fits_in_memory-clause-room : goal.returns-then-not-fits_in_memory-clause-room
 returns-then-not-fits_in_memory-clause-room g c = λ more room. fewer-leaves c.args.arena.now (suc more) (length c.args.children.now + more) (let two = c.requires.two in omega (arith, two)) room
+
+-- a kind that is told by the number of children is the one that is stored
+stored-kind : {K V : Type 0} (old new : Arena K V) (made kind : NodeType) (count : ℕ) → IsKindOf made count → IsKindOf kind count → UsesRoomOf made old new → UsesRoomOf kind old new
+stored-kind old new made kind count is other uses = subst (λ k. UsesRoomOf k old new) (sym (kind-over made count is) ∙ kind-over kind count other) uses
+
+no-room-used : {K V : Type 0} (arena : Arena K V) (kind : NodeType) → UsesRoomOf kind arena arena
+no-room-used arena kind = record { own = λ n room. fewer-room arena kind n (n + 1) (omega arith) room; others = λ other differs n room. room }
+
+pub returns-then-not-fits_in_memory-clause-uses : goal.returns-then-not-fits_in_memory-clause-uses
+returns-then-not-fits_in_memory-clause-uses g c = λ kind is. no-room-used c.args.arena.now kind
+
+pub returns-then-count-le4-clause-uses : goal.returns-then-count-le4-clause-uses
+returns-then-count-le4-clause-uses g c = λ kind is.
+    stored-kind c.args.arena.now c.store_inner.new.arena Node4 kind (length c.args.children.now) (record { two = c.requires.two; fewest = c.requires.two; most = omega arith }) is c.store_inner.ensures.room
+
+pub returns-then-count-le16-clause-uses : goal.returns-then-count-le16-clause-uses
+returns-then-count-le16-clause-uses g c = λ kind is.
+    stored-kind c.args.arena.now c.store_inner-then-count-le16.new.arena Node16 kind (length c.args.children.now) (record { two = c.requires.two; fewest = omega arith; most = omega arith }) is c.store_inner-then-count-le16.ensures.room
+
+pub returns-then-count-le32-clause-uses : goal.returns-then-count-le32-clause-uses
+returns-then-count-le32-clause-uses g c = λ kind is.
+    stored-kind c.args.arena.now c.store_inner-then-count-le32.new.arena Node32 kind (length c.args.children.now) (record { two = c.requires.two; fewest = omega arith; most = omega arith }) is c.store_inner-then-count-le32.ensures.room
+
+pub returns-then-count-le48-clause-uses : goal.returns-then-count-le48-clause-uses
+returns-then-count-le48-clause-uses g c = λ kind is.
+    stored-kind c.args.arena.now c.store_inner-then-count-le48.new.arena Node48 kind (length c.args.children.now) (record { two = c.requires.two; fewest = omega arith; most = omega arith }) is c.store_inner-then-count-le48.ensures.room
+
+pub returns-clause-uses : goal.returns-clause-uses
+returns-clause-uses g c = λ kind is.
+    stored-kind c.args.arena.now c.store_inner-2.new.arena Node256 kind (length c.args.children.now) (record { two = c.requires.two; fewest = omega arith; most = (let few = length-ascending 0 c.args.children.now (omega arith) c.requires.ascending in omega (arith, few)) }) is c.store_inner-2.ensures.room

@@ -1,11 +1,13 @@
 use Rattle.std.proofs.Common.{◌≡◌, ◌+◌, ◌<◌, ◌≤◌, ◌∷◌, [], ◌++◌, List, length, length-append, suc, Result, OnErr, IsSome, refl, sym, ap, ap₂, subst, ◌∙◌, arith, lit<, ℕ, Ok, Err}
 use Rattle.art_nodes.proofs.Common.{IsAscending, Name}
-use Rattle.art_arena.proofs.Common.{LeafAt, leaf_name}
-use Rattle.art_operations.proofs.Terms.{begin_of}
+use Rattle.art_arena.proofs.Common.{IsKindOf, LeafAt, leaf_name}
+use Rattle.art_operations.proofs.Terms.{HasSpineRoom, Open, begin_of}
 use Rattle.art_operations.specs.inner.Reopening.{OpensTo}
+use Rattle.art_operations.proofs.OpenRooms.{around-opened}
 use Rattle.art_operations.proofs.PutBack.{same_inner}
-use Rattle.art_operations.proofs.Reopening.{inner, opened-room, opens-child, opens-same, seen-inside, seen-two}
+use Rattle.art_operations.proofs.Reopening.{inner, opened-room, opens-child, opens-same, seen-inside, seen-kind, seen-room, seen-two}
 use Rattle.art_operations.proofs.Spines.{begin-behind}
+use Rattle.art_operations.proofs.Unmade.{around-same}
 use Rattle.art_operations.proofs.build.reopen.open_top.Goals as goal
 use Rattle.art_operations.proofs.build.reopen.open_top.Goals.{After-prefix_len}
 
@@ -29,6 +31,12 @@ module _ (g : _) (c : After-prefix_len g) where
   count-still =
       c.num_children-count.ensures
       ∙ ap (λ (m : _). length m.children) (same_inner _ c.inner.result.node c.inner-inner.result.node (c.reserve.ensures.kept c.args.part ∙ c.inner.ensures.value) c.inner-inner.ensures.value)
+
+  count-kind : IsKindOf c.args.part.kind c.num_children-count.result
+  count-kind =
+      let r = c.requires.stands in
+      subst (IsKindOf c.args.part.kind) (sym c.num_children-count.ensures)
+      (seen-kind bytes g.row.PREFIX_LEN c.args.arena.now c.args.spine.now c.args.part r.0 r.1 r.2 c.requires.inner c.inner.result.node c.inner.ensures.value)
 
   module _ (leaf : LeafAt g.row.K.Denot g.row.V.Denot) (ls : List (LeafAt g.row.K.Denot g.row.V.Denot)) (is : OpensTo bytes g.row.PREFIX_LEN c.args.arena.now c.args.spine.now c.args.part leaf ls) where
     moved : OpensTo bytes g.row.PREFIX_LEN c.reserve.new.arena c.reserve.new.self c.args.part leaf ls
@@ -61,6 +69,16 @@ returns-in_err-reserve-clause-err g c =
 
 pub returns-in_err-reserve-clause-leaves : goal.returns-in_err-reserve-clause-leaves
 returns-in_err-reserve-clause-leaves g c = λ slot. c.reserve.ensures.kept (leaf_name slot)
+
+pub returns-in_err-reserve-clause-succeeds : goal.returns-in_err-reserve-clause-succeeds
+returns-in_err-reserve-clause-succeeds g c = λ leaf ls is room.
+    let other = c.requires.inner in
+    let seen = c.inner.result.node in
+    let two = seen-two g.K.AsBytes.bytes g.row.PREFIX_LEN c.args.arena.now c.args.spine.now c.args.part leaf ls is other seen c.inner.ensures.value in
+    let there = seen-room g.K.AsBytes.bytes g.row.PREFIX_LEN c.args.arena.now c.args.spine.now c.args.part leaf ls is other seen c.inner.ensures.value room in
+    let count = c.num_children-count.ensures in
+    let ok = c.in_err-reserve.ensures.succeeds (omega (arith, two, count)) (subst (HasSpineRoom c.args.arena.now c.args.spine.now) (sym count) there) in
+    absurd (cc)
 
 pub overflow_add-behind : goal.overflow_add-behind
 overflow_add-behind g c = let inside = read-most g c in omega (arith, inside)
@@ -135,3 +153,17 @@ pub returns-clause-leaves : goal.returns-clause-leaves
 returns-clause-leaves g c = λ slot.
     (c.edit_inner.ensures.updates c.inner-inner.result.node c.inner-inner.ensures.value).others (leaf_name slot) (λ e. c.requires.inner (sym (ap (λ (n : Name). n.kind) e)))
     ∙ c.reserve.ensures.kept (leaf_name slot)
+
+pub returns-clause-around : goal.returns-clause-around
+returns-clause-around g c = λ n room.
+    let d = (goal.at.returns-clause-around g c).After-prefix_len in
+    let was = c.reserve.new.self in
+    let top : Open = record { behind = c.begin.result + c.prefix_len.result + 1; first = c.len-first.result } in
+    let first = c.len-first.ensures in
+    let len = was.children.ok.0 in
+    let all = ap length c.in-Ok-note_all.ensures.items ∙ length-append was.children.items c.children.result in
+    let left = ap length c.in-Some.ensures.items ∙ length-append c.pop.new.self.items (c.in-Some.child ∷ []) in
+    let given = ap length c.children.ensures.value in
+    let still = count-still g d in
+    around-opened c.reserve.new.arena c.edit_inner.new.self was (record { stack = c.push.new.self; children = c.pop.new.self }) top c.args.part.kind c.num_children-count.result n (count-kind g d) c.edit_inner.ensures.room_of (c.edit_inner.ensures.frees refl)
+    c.in-Ok.ensures.items (omega (arith, first, len)) (omega (arith, all, left, given, still)) (around-same c.args.arena.now c.reserve.new.arena c.args.spine.now was n c.reserve.ensures.room_of c.reserve.ensures.stack c.reserve.ensures.children room)

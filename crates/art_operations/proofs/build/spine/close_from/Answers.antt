@@ -18,6 +18,7 @@ pub close-preserved : goal.close-preserved
 close-preserved g c = record {
   stands = λ rest key ls has. c.in_ok-part.ensures.ok rest key ls (c.close.invariant.stands rest key ls has);
   room = λ more room. c.in_ok-part.ensures.room more (c.close.invariant.room more room);
+  around = λ n room. c.in_ok-part.ensures.around n (c.close.invariant.around n room);
   leaves = λ slot. c.in_ok-part.ensures.leaves slot ∙ c.close.invariant.leaves slot;
 }
 

@@ -1,7 +1,8 @@
-use Rattle.std.proofs.Common.{◌+◌, arith}
+use Rattle.std.proofs.Common.{◌+◌, suc, arith}
 use Rattle.art_operations.proofs.InnerRooms.{added-room}
 use Rattle.art_operations.proofs.PassedLeaves.{never, passes}
 use Rattle.art_operations.proofs.Rebuilding.{last-stands}
+use Rattle.art_operations.proofs.Unmade.{around-added}
 use Rattle.art_operations.proofs.build.spine.pass_at.Goals as goal
 
 pub close-requires : goal.close-requires
@@ -23,6 +24,10 @@ pub returns-clause-room : goal.returns-clause-room
 returns-clause-room g c = λ more room.
     let left = c.in-Ok.ensures.room more room in
     added-room c.close.new.arena c.close.new.spine c.add_child.new.self (c.args.parted.matched + 1) more (c.args.parted.old_byte, c.in-Ok.part) c.in-Ok-add_child.ensures.ok (c.in-Ok-add_child.ensures.places more left.places) left
+
+pub returns-clause-around : goal.returns-clause-around
+returns-clause-around g c = λ n room.
+    around-added c.close.new.arena c.close.new.spine c.add_child.new.self (c.args.parted.matched + 1) n (c.args.parted.old_byte, c.in-Ok.part) c.in-Ok-add_child.ensures.ok (c.in-Ok.ensures.around (suc n) room)
 
 pub returns-clause-passes : goal.returns-clause-passes
 returns-clause-passes g c = λ rest ls at.

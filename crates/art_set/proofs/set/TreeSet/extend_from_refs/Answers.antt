@@ -1,19 +1,28 @@
-use Rattle.std.proofs.Common.{refl, sym, ap, ◌∙◌}
+use Rattle.std.proofs.Common.{[], map, refl, arith}
 use Rattle.std.specs.Map.Iter.{deref}
-use Rattle.art_set.proofs.Terms.{with_key_put}
-use Rattle.art_set.proofs.KeyPuts.{extend-refused, next-back, put-item}
+use Rattle.art_map.proofs.Common.{with_pairs_put}
+use Rattle.art_set.proofs.KeyPuts.{gather-extends, next-back}
 use Rattle.art_set.proofs.set.TreeSet.extend_from_refs.Goals as goal
 
-pub returns-in_err-insert : goal.returns-in_err-insert
-returns-in_err-insert g c =
-    let it = c.into_iter-key-iterator in
-    extend-refused g.K.AsBytes.bytes deref g.U.IntoIterator.into_iter_gives g.U.IntoIter.Iterator.next_gives c.args.iter it.result c.loop-key.yielded c.args.self.now c.insert.new.self _ c.from_residual.result
-    it.ensures.into_iter_gives (c.in_err-insert.ensures.err ∙ c.loop-key.invariant)
-    (next-back g.K.AsBytes.bytes deref g.U.IntoIterator.into_iter_gives g.U.IntoIter.Iterator.next_gives it.result c.loop-key.key-iterator c.next.new.self c.loop-key.yielded c.in-Some.key _ c.in-Some.key.now
-    c.loop-key.yielded_by c.in-Some.ensures.steps refl c.in_err-insert.ensures.handed_back)
-    c.from_residual.ensures.1
+pub returns-then-not-nodes_fit : goal.returns-then-not-nodes_fit
+returns-then-not-nodes_fit g c =
+    let it = c.into_iter-keys in (
+      it.result,
+      [],
+      it.ensures.into_iter_gives,
+      refl,
+      next-back g.K.AsBytes.bytes deref g.U.IntoIterator.into_iter_gives g.U.IntoIter.Iterator.next_gives it.result it.result c.next.new.self [] c.in-Some.key (record { key = c.in-Some.key.now }) c.in-Some.key.now refl c.in-Some.ensures.steps
+          refl refl,
+    )
 
-pub loop-key-preserved : goal.loop-key-preserved
-loop-key-preserved g c =
-    c.in_ok-insert.ensures.keys ∙ ap (with_key_put g.K.AsBytes.bytes c.in-Some.key.now) c.loop-key.invariant
-    ∙ sym (put-item g.K.AsBytes.bytes deref c.loop-key.yielded c.in-Some.key c.args.self.now)
+pub put_back-requires : goal.put_back-requires
+put_back-requires g c =
+    let (pairs, has, same) = c.take_into_builder-builder.ensures in
+    let (it, given, gives, put, outcome) = c.put_copies-result.ensures in
+    (omega arith, (omega arith, (c.if-not-nodes_fit.ensures.0 refl, (with_pairs_put g.K.AsBytes.bytes (map (λ k. (deref k, tt)) given) pairs, put pairs has))))
+
+pub returns : goal.returns
+returns g c =
+    let (pairs, has, same) = c.take_into_builder-builder.ensures in
+    gather-extends g.K.AsBytes.bytes deref g.U.IntoIterator.into_iter_gives g.U.IntoIter.Iterator.next_gives g.K.AsBytes.is_key c.take_into_builder-builder.result c.put_copies-result.new.builder c.args.iter c.put_copies-result.result pairs
+    c.args.self.now c.put_back.new.self c.put_copies-result.ensures has same c.put_back.ensures

@@ -1,7 +1,6 @@
-use Rattle.std.proofs.Common.{[], map, refl, sym, subst, arith, Ok}
-use Rattle.art_map.proofs.Common.{with_pairs_put, HasGathered}
-use Rattle.art_map.proofs.Puts.{put-item}
-use Rattle.art_set.proofs.KeyPuts.{keys-made, next-back}
+use Rattle.std.proofs.Common.{[], map, refl, arith, Ok}
+use Rattle.art_map.proofs.Common.{with_pairs_put}
+use Rattle.art_set.proofs.KeyPuts.{keys-made, made-refused, next-back}
 use Rattle.art_set.proofs.set.TreeSet.from_iter.Goals as goal
 
 pub returns-then-not-nodes_fit : goal.returns-then-not-nodes_fit
@@ -14,31 +13,21 @@ returns-then-not-nodes_fit g c =
           c.in-Some.key refl c.in-Some.ensures.steps refl refl,
     )
 
-pub loop-key-init : goal.loop-key-init
-loop-key-init g c = c.new-builder.ensures
+pub put_all-requires : goal.put_all-requires
+put_all-requires g c = (omega arith, (c.if-not-nodes_fit.ensures.0 refl, (([], c.new-builder.ensures), c.requires)))
 
-pub loop-key-preserved : goal.loop-key-preserved
-loop-key-preserved g c =
-    subst (HasGathered g.K.AsBytes.bytes g.K.AsBytes.is_key c.put.new.self) (sym (put-item g.K.AsBytes.bytes (λ k. (k, tt)) c.loop-key.yielded c.in-Some-key.key []))
-    (c.in-Ok.ensures.ok (with_pairs_put g.K.AsBytes.bytes (map (λ k. (k, tt)) c.loop-key.yielded) []) c.loop-key.invariant)
-
-pub returns-in-Err : goal.returns-in-Err
-returns-in-Err g c =
-    let it = c.into_iter-key-iterator in (
-      it.result,
-      c.loop-key.yielded,
-      it.ensures.into_iter_gives,
-      next-back g.K.AsBytes.bytes (λ key. key) g.U.IntoIterator.into_iter_gives g.U.IntoIter.Iterator.next_gives it.result c.loop-key.key-iterator c.next-in-loop-key.new.self c.loop-key.yielded c.in-Some-key.key (record { key = c.in-Err.refused.key })
-          c.in-Some-key.key c.loop-key.yielded_by c.in-Some-key.ensures.steps refl c.in-Err.ensures.handed_back.0,
-    )
+pub returns-in_err-put_all : goal.returns-in_err-put_all
+returns-in_err-put_all g c =
+    let (it, given, gives, put, back) = c.in_err-put_all.ensures in
+    made-refused g.K.AsBytes.bytes (λ key. key) g.U.IntoIterator.into_iter_gives g.U.IntoIter.Iterator.next_gives c.args.iter it given _ c.from_residual.result gives back c.from_residual.ensures.1
 
 pub finish-map-requires : goal.finish-map-requires
 finish-map-requires g c =
-    (omega arith, (omega arith, (c.if-not-nodes_fit.ensures.0 refl, (with_pairs_put g.K.AsBytes.bytes (map (λ k. (k, tt)) c.loop-key.yielded) [], c.loop-key.invariant))))
+    let (it, given, gives, put, drains) = c.in_ok-put_all.ensures in
+    (omega arith, (omega arith, (c.if-not-nodes_fit.ensures.0 refl, (with_pairs_put g.K.AsBytes.bytes (map (λ k. (k, tt)) given) [], put [] c.new-builder.ensures))))
 
 pub returns : goal.returns
 returns g c =
-    let it = c.into_iter-key-iterator in
-    let bytes = g.K.AsBytes.bytes in
-    keys-made bytes (λ key. key) g.U.IntoIterator.into_iter_gives g.U.IntoIter.Iterator.next_gives c.args.iter (Ok c.finish-map.result)
-    (it.result, c.loop-key.yielded, it.ensures.into_iter_gives, ((c.next-in-loop-key.new.self, (c.loop-key.key-iterator, c.loop-key.yielded_by, c.in-None.ensures.steps)), c.finish-map.ensures.pairs _ c.loop-key.invariant))
+    let (it, given, gives, put, drains) = c.in_ok-put_all.ensures in
+    keys-made g.K.AsBytes.bytes (λ key. key) g.U.IntoIterator.into_iter_gives g.U.IntoIter.Iterator.next_gives c.args.iter (Ok c.finish-map.result)
+    (it, given, gives, (drains, c.finish-map.ensures.pairs _ (put [] c.new-builder.ensures)))

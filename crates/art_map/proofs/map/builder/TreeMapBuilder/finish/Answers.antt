@@ -1,6 +1,7 @@
 use Rattle.std.proofs.Common.{sym, subst, arith}
 use Rattle.art_operations.proofs.Common.{HasLeavesOf}
 use Rattle.art_map.proofs.Built.{in-order, is-false, is-true, nodes-in-order, nodes-settled, settled}
+use Rattle.art_map.proofs.RoomLeft.{left-of-map, left-of-tree}
 use Rattle.art_map.proofs.map.builder.TreeMapBuilder.finish.Goals as goal
 
 pub returns-then-not-self-clause-pairs : goal.returns-then-not-self-clause-pairs
@@ -22,3 +23,9 @@ returns-clause-pairs g c = λ pairs taken. c.of_tree.ensures.pairs pairs (in-ord
 pub returns-clause-names : goal.returns-clause-names
 returns-clause-names g c =
     subst (HasLeavesOf g.K.AsBytes.bytes c.of_tree.result.nodes) (sym (nodes-in-order g.K.AsBytes.bytes c.args.self (is-true c.args.self.in_order c.if-not-self.false))) c.of_tree.ensures.names
+
+pub returns-then-not-self-clause-room : goal.returns-then-not-self-clause-room
+returns-then-not-self-clause-room g c = λ n left. left-of-map c.args.self n (is-false c.args.self.in_order c.if-not-self.true) left
+
+pub returns-clause-room : goal.returns-clause-room
+returns-clause-room g c = λ n left. c.of_tree.ensures.room n (left-of-tree c.args.self n (is-true c.args.self.in_order c.if-not-self.false) left)

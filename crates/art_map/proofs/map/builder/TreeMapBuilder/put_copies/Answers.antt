@@ -1,12 +1,13 @@
-use Rattle.std.proofs.Common.{map, refl, sym, subst, arith}
+use Rattle.std.proofs.Common.{◌+◌, map, refl, sym, subst, arith}
 use Rattle.std.specs.Map.Iter.{deref_pair}
 use Rattle.art_map.proofs.Terms.{with_pairs_put, HasGathered, nodes_of}
 use Rattle.art_map.proofs.LeafNames.{then-names}
 use Rattle.art_map.proofs.Puts.{gather-refused, next-back, put-item}
+use Rattle.art_map.proofs.RoomLeft.{used-more, used-none, used-up}
 use Rattle.art_map.proofs.map.builder.TreeMapBuilder.put_copies.Goals as goal
 
 pub loop-key-init : goal.loop-key-init
-loop-key-init g c = record { put = λ pairs has. has; names = λ slot key has. has }
+loop-key-init g c = record { put = λ pairs has. has; names = λ slot key has. has; room = used-none c.args.self.now }
 
 pub put-requires : goal.put-requires
 put-requires g c =
@@ -19,6 +20,7 @@ loop-key-preserved g c = record {
       subst (HasGathered g.K.AsBytes.bytes g.K.AsBytes.is_key c.put.new.self) (sym (put-item g.K.AsBytes.bytes deref_pair c.loop-key.yielded (c.in-Some.key, c.in-Some.value) pairs))
       (c.in_ok-put.ensures.ok (with_pairs_put g.K.AsBytes.bytes (map deref_pair c.loop-key.yielded) pairs) (c.loop-key.invariant.put pairs has));
   names = then-names g.K.AsBytes.bytes (nodes_of c.put.new.self) (nodes_of c.loop-key.self) (nodes_of c.args.self.now) c.put.ensures.names c.loop-key.invariant.names;
+  room = λ n left. c.put.ensures.room n (c.loop-key.invariant.room (n + 2) (used-more c.args.self.now c.loop-key.yielded (c.in-Some.key, c.in-Some.value) n left));
 }
 
 pub returns-in_err-put-clause-pairs : goal.returns-in_err-put-clause-pairs
@@ -28,7 +30,7 @@ returns-in_err-put-clause-pairs g c =
     it.ensures.into_iter_gives (λ pairs has. c.in_err-put.ensures.kept _ (c.loop-key.invariant.put pairs has))
     (next-back g.K.AsBytes.bytes deref_pair g.U.IntoIterator.into_iter_gives g.U.IntoIter.Iterator.next_gives it.result c.loop-key.key-iterator c.next.new.self c.loop-key.yielded (c.in-Some.key, c.in-Some.value) _ c.in-Some.key.now c.in-Some.value.now
     c.loop-key.yielded_by c.in-Some.ensures.steps refl c.in_err-put.ensures.handed_back)
-    c.from_residual.ensures.1
+    (used-up c.args.self.now c.loop-key.yielded (λ left. let never = c.in_err-put.ensures.succeeds (c.loop-key.invariant.room 2 left) in absurd (cc))) c.from_residual.ensures.1
 
 pub returns-in_err-put-clause-names : goal.returns-in_err-put-clause-names
 returns-in_err-put-clause-names g c = then-names g.K.AsBytes.bytes (nodes_of c.put.new.self) (nodes_of c.loop-key.self) (nodes_of c.args.self.now) c.put.ensures.names c.loop-key.invariant.names

@@ -1,7 +1,9 @@
 use Rattle.std.proofs.Common.{sym, ap, subst, ◌∙◌}
 use Rattle.std.specs.List.{AllByRecursion}
 use Rattle.art_operations.proofs.Common.{Builds, HasLeavesOf}
+use Rattle.art_arena.proofs.Common.{HasRoom}
 use Rattle.art_map.proofs.Built.{nodes-settled}
+use Rattle.art_map.proofs.RoomLeft.{map-left}
 use Rattle.art_map.proofs.map.builder.TreeMapBuilder.reopen.Goals as goal
 
 pub returns-in-Ok-clause-pairs : goal.returns-in-Ok-clause-pairs
@@ -22,3 +24,12 @@ returns-in-Err-clause-names g c =
     let names = subst (HasLeavesOf g.K.AsBytes.bytes c.in-Err.map.nodes) (ap (λ m. m.nodes) c.replace.ensures.value) c.in-Err.ensures.names in
     subst (λ a. HasLeavesOf g.K.AsBytes.bytes a old.map.nodes)
     (sym (nodes-settled {P = g.row.PREFIX_LEN} g.K.AsBytes.bytes (record { alloc = old.alloc; in_order = old.in_order; wait = old.wait; pause = old.pause; arena = old.arena; builder = old.builder; map = c.in-Err.map }) c.requires.settled)) names
+
+pub returns-in-Ok-clause-room : goal.returns-in-Ok-clause-room
+returns-in-Ok-clause-room g c = λ n room. c.in-Ok.ensures.room n (subst (λ m. HasRoom m.nodes n) (sym c.replace.ensures.value) room)
+
+pub returns-in-Err-clause-room : goal.returns-in-Err-clause-room
+returns-in-Err-clause-room g c = λ n room.
+    let old = c.args.self.now in
+    map-left {P = g.row.PREFIX_LEN} (record { alloc = old.alloc; in_order = old.in_order; wait = old.wait; pause = old.pause; arena = old.arena; builder = old.builder; map = c.in-Err.map }) n c.requires.settled
+    (c.in-Err.ensures.room n (subst (λ m. HasRoom m.nodes n) (sym c.replace.ensures.value) room))

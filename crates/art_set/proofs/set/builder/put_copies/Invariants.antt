@@ -1,0 +1,9 @@
+use Rattle.std.proofs.Common.{List, map}
+use Rattle.std.specs.Map.Iter.{deref}
+use Rattle.art_map.proofs.Common.{with_pairs_put, HasGathered}
+use Rattle.art_set.proofs.set.builder.put_copies.Given as goal
+
+abbrev pub invariant-loop-key : goal.invariant-loop-key
+invariant-loop-key g l =
+    (pairs : List (g.row.K.Denot × Unit {0})) → HasGathered g.K.AsBytes.bytes g.K.AsBytes.is_key l.fn.builder pairs
+    → HasGathered g.K.AsBytes.bytes g.K.AsBytes.is_key l.builder (with_pairs_put g.K.AsBytes.bytes (map (λ k. (deref k, tt)) l.yielded) pairs)
