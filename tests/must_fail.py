@@ -2,7 +2,8 @@
 """Tries wrong bodies: each must be refused by an open goal of the function that it stands in.
 
     tests/must_fail.py [--all] [WORD..]   those of the gate, or all; WORD: only those whose CRATE/NAME has it in it
-    tests/must_fail.py --after-ci         those of the gate, over the libraries that rt ci has just proved (out/rlibs)
+    tests/must_fail.py --beside-ci        those of the gate, over the libraries that rt ci proves (out/rlibs): those of a
+                                          crate once those below it are proved, in order, one crate at a time
     tests/must_fail.py --anew ..          tries also what an earlier run saw refused (out/must_fail.json), of the same
                                           sources and by the same script
 All edits of a crate are carried out on one copy, and one `rattle check` judges their functions, each named by `--only`
@@ -21,6 +22,7 @@ import subprocess
 import sys
 import tempfile
 import threading
+import time
 from glob import glob
 
 import edits
@@ -29,7 +31,8 @@ sys.path.insert(0, os.path.join(os.path.dirname(os.path.dirname(os.path.abspath(
 import quick
 
 TOP = os.getcwd()
-PARTS = ("src", "specs", "proofs")
+PARTS, RLIBS = ("src", "specs", "proofs"), "out/rlibs"
+TREE, ENDED = f"{RLIBS}/tree", f"{RLIBS}/ended"
 # What rattle says of an answer that names what is not there, or rests on what is not proved.
 GONE = re.compile(r"is not in scope|has no field|has no `|that can be named|was not admitted|is no name")
 
@@ -148,25 +151,43 @@ class Kept:
             os.replace(f"{self.file}.new", self.file)
 
 
+def mark_tree():
+    """Says in out/rlibs of which tree the libraries there are to be. None of an earlier run stays."""
+    shutil.rmtree(RLIBS, ignore_errors=True)
+    os.makedirs(RLIBS)
+    with open(f"{TREE}.part", "w", encoding="utf-8") as file:
+        file.write(sum_of_tree())
+    os.rename(f"{TREE}.part", TREE)
+
+
+def wait_for(path):
+    """Waits for what rt ci makes, and returns its path; None where rt ci ends without it (./test makes ENDED then)."""
+    while not os.path.exists(path):
+        if os.path.exists(ENDED):
+            return path if os.path.exists(path) else None
+        time.sleep(0.5)
+    return path
+
+
 class Libraries:
     """Where the libraries stand that were proved: those of rt ci, or those that `rt lib` builds in the crates."""
 
-    def __init__(self, after_ci):
-        self.crates, self.after_ci, self.built = quick.crates_of(TOP), after_ci, {}
+    def __init__(self, beside_ci):
+        self.crates, self.beside_ci, self.built = quick.crates_of(TOP), beside_ci, {}
 
     def of(self, name):
-        return f"{TOP}/out/rlibs/{name}.rlib" if self.after_ci else f"{TOP}/crates/{name}/out/rlib/{name}.rlib"
+        return f"{TOP}/{RLIBS}/{name}.rlib" if self.beside_ci else f"{TOP}/crates/{name}/out/rlib/{name}.rlib"
 
     def build(self, name):
         """Builds the libraries below a crate, where that is to be done, and returns what is lacking, or None."""
-        if self.after_ci:
-            mark = "out/rlibs/tree"
-            if not os.path.isfile(mark) or open(mark, encoding="utf-8").read() != sum_of_tree():
-                return "rt ci has not proved this tree just now"
+        if self.beside_ci:
+            mark = wait_for(TREE)
+            if not mark or open(mark, encoding="utf-8").read() != sum_of_tree():
+                return "rt ci does not prove this tree, or has not just now"
         for it in below(self.crates, name):
-            if self.after_ci and not os.path.isdir(self.of(it)):
+            if self.beside_ci and not wait_for(self.of(it)):
                 return f"rt ci has not proved {it}"
-            if not self.after_ci and self.built.setdefault(it, self.lib(it)):
+            if not self.beside_ci and self.built.setdefault(it, self.lib(it)):
                 return f"rt lib did not build {it}: {self.built[it]}"
         return None
 
@@ -230,7 +251,7 @@ class Crate:
             if os.path.isdir(f"{TOP}/crates/{self.name}/{it}"):
                 shutil.copytree(f"{TOP}/crates/{self.name}/{it}", f"{self.room}/{it}")
         kept = f"{TOP}/crates/{self.name}/out/incremental"
-        if os.path.isdir(kept) and not self.libraries.after_ci:
+        if os.path.isdir(kept) and not self.libraries.beside_ci:
             shutil.copytree(kept, f"{self.room}/kept", copy_function=link)
 
     def try_round(self, chosen):
@@ -337,9 +358,9 @@ def rounds(todo):
 def main():
     flags = [it for it in sys.argv[1:] if it.startswith("--")]
     words = [it for it in sys.argv[1:] if it not in flags]
-    if set(flags) - {"--all", "--after-ci", "--anew"}:
+    if set(flags) - {"--all", "--beside-ci", "--anew"}:
         sys.exit(__doc__)
-    libraries, kept, chosen = Libraries("--after-ci" in flags), Kept("--anew" in flags), {}
+    libraries, kept, chosen = Libraries("--beside-ci" in flags), Kept("--anew" in flags), {}
     for name in libraries.crates:
         every = [it for it in edits.of_crate(f"crates/{name}") if it.gate or "--all" in flags]
         every = [it for it in every if not it.place.startswith("tests/")]
@@ -348,9 +369,11 @@ def main():
     os.makedirs("out", exist_ok=True)
     number = os.environ.get("RT_JOBS", "")
     lanes = int(number) if number.isdigit() and int(number) else len(os.sched_getaffinity(0))
+    lanes = 1 if libraries.beside_ci else lanes
     with tempfile.TemporaryDirectory() as room, concurrent.futures.ThreadPoolExecutor(lanes) as pool:
         # (the libraries are built one by one; the crates that take longest begin first)
-        order = [Crate(name, every, libraries, kept, room) for name, every in chosen.items()][::-1]
+        order = [Crate(name, every, libraries, kept, room) for name, every in chosen.items()]
+        order = order if libraries.beside_ci else order[::-1]
         told = [it for tries in pool.map(Crate.run, order) for it in tries.values()]
     failed = sum(not refused for refused, _ in told)
     print(f"{len(told) - failed} passed, {failed} failed")
