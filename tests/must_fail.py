@@ -13,6 +13,7 @@ with it (whatever else it calls), where the text no longer applies or compiles, 
 edit took away. What rattle says stands in out/must_fail-CRATE-ROUND.log; the last line is 'N passed, M failed'.
 """
 import concurrent.futures
+import contextlib
 import hashlib
 import json
 import os
@@ -158,6 +159,14 @@ def mark_tree():
     with open(f"{TREE}.part", "w", encoding="utf-8") as file:
         file.write(sum_of_tree())
     os.rename(f"{TREE}.part", TREE)
+
+
+def give_way():
+    """Leaves most of a processor to rt ci where both want it. (Linux may weigh sessions, and not processes.)"""
+    os.nice(5)
+    with contextlib.suppress(OSError):
+        with open("/proc/self/autogroup", "w", encoding="utf-8") as file:
+            file.write("5")
 
 
 def wait_for(path):
@@ -369,7 +378,9 @@ def main():
     os.makedirs("out", exist_ok=True)
     number = os.environ.get("RT_JOBS", "")
     lanes = int(number) if number.isdigit() and int(number) else len(os.sched_getaffinity(0))
-    lanes = 1 if libraries.beside_ci else lanes
+    if libraries.beside_ci:
+        lanes = 1
+        give_way()
     with tempfile.TemporaryDirectory() as room, concurrent.futures.ThreadPoolExecutor(lanes) as pool:
         # (the libraries are built one by one; the crates that take longest begin first)
         order = [Crate(name, every, libraries, kept, room) for name, every in chosen.items()]
