@@ -3,7 +3,8 @@
 
     tests/must_fail.py [--all] [WORD..]   those of the gate, or all; WORD: only those whose CRATE/NAME has it in it
     tests/must_fail.py --beside-ci        those of the gate, over the libraries that rt ci proves (out/rlibs): those of a
-                                          crate once those below it are proved, in order, one crate at a time
+                                          crate once those below it are proved, in order, one crate at a time.
+                                          So ./test calls it; where no ci runs, and none has, it waits
     tests/must_fail.py --anew ..          tries also what an earlier run saw refused (out/must_fail.json), of the same
                                           sources and by the same script
 All edits of a crate are carried out on one copy, and one `rattle check` judges their functions, each named by `--only`

@@ -8,9 +8,12 @@ import signal
 import subprocess
 import sys
 import tempfile
+import threading
 import time
 
 MARK = "ART_RUN"
+# Whoever starts a process in a thread of its own holds this meanwhile. A run that is ended takes it for good.
+STARTS = threading.Lock()
 TICKS = os.sysconf("SC_CLK_TCK")
 # (Linux's PF_KTHREAD, among the flags of a process)
 KERNEL_THREAD = 0x0020_0000
@@ -133,6 +136,7 @@ def end_by_signals(room):
         for number in (signal.SIGINT, signal.SIGTERM, signal.SIGHUP):
             signal.signal(number, signal.SIG_IGN)
         print(f"{os.path.basename(sys.argv[0])}: stopped", file=sys.stderr, flush=True)
+        STARTS.acquire()
         end_all()
         if room:
             put_back(room)
