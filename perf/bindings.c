@@ -1,158 +1,112 @@
-/* The map for C behind the calls that the yardsticks time (perf/bindings.py): art_bench.h, form A.
+/* The map of words for C behind the calls that the yardsticks time (perf/bindings.py): art_bench.h, form A.
  *
- * A value is its eight bytes. A walk is by art_walk; by art_next, a pair in each call, where STEPS is defined.
+ * A walk copies keys and words out, many pairs in a call; by artmap_words_next, a pair in each call, where STEPS is defined.
  */
-#include "art.h"
+#include "artmap.h"
 #include "art_bench.h"
 
 #include <stdlib.h>
 #include <string.h>
 
-enum { PLACES = 64, BYTES = 1 << 15, KEY = 4200 };
+enum { PLACES = 256, BYTES = 1 << 15, KEY = 4200 };
 
 struct art_bench {
-    art map;
+    artmap_words map;
 };
 
-typedef struct pair {
-    const uint8_t *key;
-    size_t len;
-    uint64_t value;
-} pair;
+/* What a walk has met: how many pairs, and the sum of their words and of the lengths of their keys. */
+typedef struct met {
+    size_t count;
+    uint64_t sum;
+} met;
 
-/* Takes a pair of a walk, and tells whether it goes on. */
-typedef bool taker(void *to, pair it);
-
-static bool is_below(const uint8_t *key, size_t len, const uint8_t *end, size_t end_len) {
-    int order = memcmp(key, end, len < end_len ? len : end_len);
-    return order < 0 || (order == 0 && len < end_len);
-}
-
-/* Gives the pairs from a key on. */
-static void walk(art *map, const uint8_t *start, size_t start_len, size_t first, taker *take, void *to) {
-    static uint8_t key[2][KEY], room[BYTES];
-    size_t len = start_len;
-    memcpy(key[0], start, start_len);
 #ifdef STEPS
-    size_t value_len, found_len;
-    pair it = {.key = key[0]};
-    uint8_t value[8];
+static bool goes_on(const artmap_span *span, const uint8_t *key, size_t len) {
+    size_t least = len < span->to_len ? len : span->to_len;
+    int order = span->to == ARTMAP_TO_END ? 0 : memcmp(key, span->to_key, least);
+    if (span->to == ARTMAP_WITH_PREFIX) return order == 0 && len >= span->to_len;
+    return span->to == ARTMAP_TO_END || order < 0 || (order == 0 && len < span->to_len);
+}
+
+static met walk(artmap_words *map, artmap_span span, size_t places) {
+    static uint8_t key[2][KEY];
+    met it = {0, 0};
+    size_t len = span.from_len, found;
+    uint64_t word;
     int now = 0;
-    (void)room, (void)first;
-    art_code code = art_get(map, start, start_len, value, 8, &value_len);
-    if (code == ART_NOT_FOUND) code = art_next(map, key[0], len, key[1], KEY, &found_len, value, 8, &value_len), now = 1, len = found_len;
-    for (; code == ART_DONE; now = !now, len = found_len) {
-        it.key = key[now], it.len = len;
-        memcpy(&it.value, value, 8);
-        if (!take(to, it)) return;
-        code = art_next(map, key[now], len, key[!now], KEY, &found_len, value, 8, &value_len);
+    (void)places;
+    if (len) memcpy(key[0], span.from_key, len);
+    artmap_code code = artmap_words_get(map, key[0], len, &word);
+    if (code == ARTMAP_NOT_FOUND) code = artmap_words_next(map, key[0], len, key[1], KEY, &found, &word), now = 1, len = found;
+    for (; code == ARTMAP_DONE && goes_on(&span, key[now], len); now = !now, len = found) {
+        it.count++;
+        it.sum += word + len;
+        code = artmap_words_next(map, key[now], len, key[!now], KEY, &found, &word);
     }
+    return it;
+}
 #else
-    art_lens lens[PLACES];
-    size_t count, places = first;
-    uint32_t from = ART_FROM_KEY;
-    while (art_walk(map, from, key[0], len, room, BYTES, lens, places, &count) == ART_DONE) {
-        const uint8_t *at = room;
+static met walk(artmap_words *map, artmap_span span, size_t places) {
+    static uint8_t room[BYTES], last[KEY];
+    artmap_words_pair pairs[PLACES];
+    met it = {0, 0};
+    size_t count;
+    for (;;) {
+        artmap_code code = artmap_words_walk(map, &span, room, BYTES, pairs, places, &count);
+        size_t bytes = 0;
         for (size_t i = 0; i < count; i++) {
-            pair it = {.key = at, .len = lens[i].key};
-            memcpy(&it.value, at + lens[i].key, 8);
-            if (!take(to, it)) return;
-            at += lens[i].key + lens[i].value;
+            it.sum += pairs[i].word + pairs[i].key_len;
+            bytes += pairs[i].key_len;
         }
-        len = lens[count - 1].key;
-        memcpy(key[0], at - 8 - len, len);
-        from = ART_BEHIND_KEY;
-        places = places * 2 < PLACES ? places * 2 : PLACES;
+        it.count += count;
+        if (code != ARTMAP_MORE) return it;
+        span.from = ARTMAP_AFTER_KEY, span.from_key = last, span.from_len = pairs[count - 1].key_len;
+        memcpy(last, room + bytes - span.from_len, span.from_len);
+        places = PLACES;
     }
+}
 #endif
-}
 
-static bool add(void *to, pair it) {
-    *(uint64_t *)to += it.value + it.len;
-    return true;
-}
-
-typedef struct counter {
-    const uint8_t *end;
-    size_t len, count;
-} counter;
-
-static bool count_below(void *to, pair it) {
-    counter *of = to;
-    if (!is_below(it.key, it.len, of->end, of->len)) return false;
-    of->count++;
-    return true;
-}
-
-static bool count_behind(void *to, pair it) {
-    counter *of = to;
-    if (it.len < of->len || memcmp(it.key, of->end, of->len) != 0) return false;
-    of->count++;
-    return true;
-}
-
-static bool put(void *to, pair it) { return art_bench_insert(to, it.key, it.len, it.value); }
+static artmap_words *of(const art_bench *m) { return (artmap_words *)&m->map; }
 
 bool art_bench_new(art_bench **out) {
     *out = calloc(1, sizeof **out);
-    return *out && art_new(&(*out)->map) == ART_DONE;
+    return *out && artmap_words_new(&(*out)->map) == ARTMAP_DONE;
 }
 
 bool art_bench_insert(art_bench *m, const uint8_t *key, size_t len, uint64_t value) {
-    return art_put(&m->map, key, len, (const uint8_t *)&value, 8) <= ART_REPLACED;
+    return artmap_words_put(&m->map, key, len, value, NULL) <= ARTMAP_REPLACED;
 }
 
 bool art_bench_get(const art_bench *m, const uint8_t *key, size_t len, uint64_t *value) {
-    size_t value_len;
-    return art_get((art *)&m->map, key, len, (uint8_t *)value, 8, &value_len) == ART_DONE;
+    return artmap_words_get(of(m), key, len, value) == ARTMAP_DONE;
 }
 
 bool art_bench_remove(art_bench *m, const uint8_t *key, size_t len, uint64_t *value) {
-    return art_bench_get(m, key, len, value) && art_remove(&m->map, key, len) == ART_DONE;
+    return artmap_words_remove(&m->map, key, len, value) == ARTMAP_DONE;
 }
 
-size_t art_bench_len(const art_bench *m) { return art_len((art *)&m->map); }
+size_t art_bench_len(const art_bench *m) { return artmap_words_len(of(m)); }
 
-uint64_t art_bench_sum(const art_bench *m) {
-    uint64_t sum = 0;
-    walk((art *)&m->map, (const uint8_t *)"", 0, PLACES, add, &sum);
-    return sum;
-}
+uint64_t art_bench_sum(const art_bench *m) { return walk(of(m), (artmap_span){0}, PLACES).sum; }
 
 size_t art_bench_prefix(const art_bench *m, const uint8_t *front, size_t len) {
-    counter of = {front, len, 0};
-    walk((art *)&m->map, front, len, 8, count_behind, &of);
-    return of.count;
+    artmap_span span = {.from = ARTMAP_FROM_KEY, .from_key = front, .from_len = len,
+                        .to = ARTMAP_WITH_PREFIX, .to_key = front, .to_len = len};
+    return walk(of(m), span, 128).count;
 }
 
 size_t art_bench_range(const art_bench *m, const uint8_t *lo, size_t lo_len, const uint8_t *hi, size_t hi_len) {
-    counter of = {hi, hi_len, 0};
-    walk((art *)&m->map, lo, lo_len, 8, count_below, &of);
-    return of.count;
+    artmap_span span = {.from = ARTMAP_FROM_KEY, .from_key = lo, .from_len = lo_len,
+                        .to = ARTMAP_BEFORE_KEY, .to_key = hi, .to_len = hi_len};
+    return walk(of(m), span, 128).count;
 }
 
 bool art_bench_clone(const art_bench *m, art_bench **out) {
-    if (!art_bench_new(out)) return false;
-#ifdef STEPS
-    walk((art *)&m->map, (const uint8_t *)"", 0, PLACES, put, *out);
-#else
-    /* (what a walk copied out, a load takes) */
-    static uint8_t key[KEY], room[BYTES];
-    art_lens lens[PLACES];
-    size_t count, taken, len = 0;
-    (void)put;
-    while (art_walk((art *)&m->map, len ? ART_BEHIND_KEY : ART_FROM_END, key, len, room, BYTES, lens, PLACES, &count) == ART_DONE) {
-        size_t bytes = 0;
-        for (size_t i = 0; i < count; i++) bytes += lens[i].key + lens[i].value;
-        if (art_load(&(*out)->map, room, bytes, lens, count, &taken) != ART_DONE) return false;
-        len = lens[count - 1].key;
-        memcpy(key, room + bytes - 8 - len, len);
-    }
-#endif
-    return true;
+    return art_bench_new(out) && artmap_words_clone(of(m), &(*out)->map) == ARTMAP_DONE;
 }
 
 void art_bench_free(art_bench *m) {
-    art_free(&m->map);
+    artmap_words_free(&m->map);
     free(m);
 }

@@ -1,10 +1,11 @@
 #!/usr/bin/env python3
 """perf/bindings.py --perf FOLDER [--sizes 100000,1000000] [--keys dense,rand8,url] [--repeats N]: the library's callers.
 
-Prints two tables of nanoseconds and ratios, of one run: the map through C beside libjudy and unproved radix trees, and
-through Rust beside `BTreeMap<Vec<u8>, Vec<u8>>`. It takes the library that ./lib made last, out/libart.a, and says
+Prints two tables of nanoseconds and ratios, of one run: the map through C beside std::map, libjudy and unproved radix
+trees, and through Rust beside `BTreeMap` with the same keys. It takes the library that ./lib made last, out/libartmap.a, and says
 whether that was proved. FOLDER is a folder of yardsticks with build.sh and libbench; it needs cargo, cc and Debian's
-libjudy-dev. Through C a walk is timed twice: many pairs in a call (art_walk), and one (art_next).
+libjudy-dev. Keys are looked up in another order than they went in.
+Through C a walk is timed twice: many pairs in a call (artmap_words_walk), and one (artmap_words_next).
 """
 import argparse
 import os
@@ -17,7 +18,7 @@ import tempfile
 TOP = os.path.dirname(os.path.dirname(os.path.abspath(__file__)))
 # Of the tables: the step, and its column in the tables of libbench.
 STEPS = {"put": "insert", "get": "get", "next": "iterate", "range": "range", "clone": "clone", "remove": "remove"}
-PEERS = ("judy", "art-vec", "art-list")
+PEERS = ("std::map", "judy", "art-vec", "art-list")
 IN_RUST = ("put", "get", "next", "back", "range of 100", "range of 1", "load", "remove")
 
 
@@ -36,10 +37,17 @@ def through_c(given, room):
     called(["chmod", "-R", "u+w", top])
     tell("building the yardsticks")
     called([f"{top}/build.sh"], cwd=top, env={**os.environ, "PERF_BIN": f"{room}/bin"}, stderr=subprocess.DEVNULL)
-    maps = [f"judy={room}/bin/judy.so"]
+    # (std::map by the text of the yardstick over another ordered map of C++)
+    with open(f"{top}/libbench/map.cpp", encoding="utf-8") as file:
+        text = file.read().replace("absl/container/btree_map.h", "map").replace("absl::btree_map", "std::map")
+    with open(f"{top}/libbench/std_map.cpp", "w", encoding="utf-8") as file:
+        file.write(text)
+    called(["c++", "-O3", "-march=x86-64-v2", "-std=c++17", "-shared", "-fPIC", f"{top}/libbench/std_map.cpp", "-o",
+            f"{room}/std_map.so"])
+    maps = [f"std::map={room}/std_map.so", f"judy={room}/bin/judy.so"]
     for name, flags in (("here", []), ("steps", ["-DSTEPS"])):
         words = ["cc", "-O3", "-march=x86-64-v2", "-shared", "-fPIC", *flags, f"-I{TOP}/out", f"-I{top}/libbench"]
-        called([*words, f"{TOP}/perf/bindings.c", f"{TOP}/out/libart.a", "-Wl,-Bsymbolic", "-o", f"{room}/{name}.so"])
+        called([*words, f"{TOP}/perf/bindings.c", f"{TOP}/out/libartmap.a", "-Wl,-Bsymbolic", "-o", f"{room}/{name}.so"])
         maps.append(f"{name}={room}/{name}.so")
     tell("timing it through C")
     words = ["--n", given.sizes, "--keys", given.keys, "--repeats", str(given.repeats), *maps]
@@ -75,12 +83,12 @@ def main():
     parser.add_argument("--keys", default="dense,rand8,url")
     parser.add_argument("--repeats", type=int, default=3)
     given = parser.parse_args()
-    proved, made = f"{TOP}/crates/art_c/out/libart_c.a", f"{TOP}/out/libart.a"
+    proved, made = f"{TOP}/crates/art_c/out/libart_c.a", f"{TOP}/out/libartmap.a"
     is_proved = os.path.exists(proved) and os.path.getmtime(proved) <= os.path.getmtime(made)
     print("the library is proved" if is_proved else "the library is built without proofs, with run-time checks")
     with tempfile.TemporaryDirectory() as room:
         in_c, in_rust = through_c(given, room), through_rust(given, room)
-    print(f"\nThrough C, ns: here (a walk by art_next), and to {', '.join(PEERS)}\n")
+    print(f"\nThrough C, ns: here (a walk by artmap_words_next), and to {', '.join(PEERS)}\n")
     print(f"| Keys | Pairs | {' | '.join(STEPS)} |\n|---|---:|{'---|' * len(STEPS)}")
     for (keys, size), maps in sorted(in_c.items(), key=lambda it: it[0][1]):
         cells = []

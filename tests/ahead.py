@@ -1,22 +1,25 @@
 #!/usr/bin/env python3
 """Counts the instructions of a line of art_index, with what is read ahead of it and without, by valgrind's callgrind.
 
-    tests/ahead.py [PROGRAM]      at the top of the repository, after rt ci; its last line is 'N passed, M failed'
+    tests/ahead.py [--program PATH] [WORD]    at the top of the repository, after rt ci; WORD: only kinds of lines with it
 From 16,384 records on, nodes are read ahead of lines. So each kind of line is counted over one record fewer and over as
 many: the difference is what reading ahead costs a line. All records are tenant 1's, among them a chain of 150 nodes,
 one below the other. A line that looks nothing up must cost little more: one that is bad, one with bounds out of order,
-one that puts; so must a listing of a tenant that has nothing. So must look-ups that find nothing, which are not read
-ahead for a while. One that finds reads its way twice.
+one that puts; so must a listing or a drop of a tenant that has nothing. So must look-ups that find nothing, which are
+not read ahead for a while. One that finds reads its way twice. Each takes fewer than ALONE instructions by itself, so
+none walks a map aside.
 """
 import os
 import random
 import re
 import shutil
 import subprocess
-import sys
 
-PROGRAM = "crates/art_index/out/art_index"
+import cases
+
 FEW, CHAIN, LINES, SEED = 16384, 150, 4096, 58
+# No line of these kinds takes so many instructions: one that walked a map aside would.
+ALONE = 20_000
 COUNTED = re.compile(rb"Collected\s*: (\d+)")
 
 
@@ -36,9 +39,10 @@ def kinds(of, keys):
         "nspan, bounds": (lambda: "nspan 1 2 1", 400),
         "put": (lambda: f"put 1 {of.choice(some)} 63", 400),
         "list of a tenant that has nothing": (lambda: "list 2 -", 500),
+        "drop of a tenant that has nothing": (lambda: "drop 2", 500),
         "list of such a one, by a long prefix": (lambda: f"list 2 {'01' * 80}", 1000),
-        "get that finds nothing": (lambda: f"get 1 03{of.randbytes(7).hex()}", 300),
-        "get that finds": (lambda: f"get 1 {of.choice(some)}", 2200),
+        "get that finds nothing": (lambda: f"get 1 03{of.randbytes(7).hex()}", 400),
+        "get that finds": (lambda: f"get 1 {of.choice(some)}", 2400),
     }
 
 
@@ -52,8 +56,17 @@ def count(program, lines):
     return int(found[1])
 
 
+def costs_little_more(program, puts, base, lines, most):
+    """Where nodes are read ahead a line takes at most so many instructions more."""
+    alone, ahead = ((count(program, puts[:it] + lines) - base[it]) / LINES for it in (FEW - 1, FEW))
+    assert ahead <= alone + most, f"{alone:.0f} instructions, {ahead:.0f} where nodes are read ahead: over {most} more"
+    assert alone < ALONE, f"{alone:.0f} instructions, where none of these lines takes {ALONE}"
+    return f"{alone:.0f} instructions, {ahead:.0f} where nodes are read ahead"
+
+
 def main():
-    program, found = sys.argv[1] if len(sys.argv) > 1 else PROGRAM, {True: 0, False: 0}
+    given = cases.given(__doc__, "--program=PATH")
+    program, told = cases.programs(given)[0], cases.Tally(given.word)
     if not shutil.which("valgrind"):
         print("there is no valgrind here, so nothing is counted")
         print("0 passed, 0 failed")
@@ -63,13 +76,8 @@ def main():
     puts = [f"put 1 {it} 6162" for it in keys]
     base = {it: count(program, puts[:it]) for it in (FEW - 1, FEW)}
     for name, (line, most) in kinds(of, keys).items():
-        lines = [line() for _ in range(LINES)]
-        alone, ahead = ((count(program, puts[:it] + lines) - base[it]) / LINES for it in (FEW - 1, FEW))
-        fine = ahead <= alone + most
-        found[fine] += 1
-        print(f"{name}: {alone:.0f} instructions, {ahead:.0f} where nodes are read ahead: {'ok' if fine else 'FAILED'}", flush=True)
-    print(f"{found[True]} passed, {found[False]} failed")
-    sys.exit(found[False] > 0)
+        told.case(name, costs_little_more, program, puts, base, [line() for _ in range(LINES)], most)
+    told.end()
 
 
 if __name__ == "__main__":

@@ -3,6 +3,7 @@
 
     tests/believed.py                at the top of the repository: a table in Markdown; last 'N passed, M failed'
     tests/believed.py --list WORD    and the definitions of the rows that have WORD in their name
+    tests/believed.py --claims WORD  and what is to be read to believe the claims of README.md that have WORD in them
 A public contract is what a crate shows of its functions, traits and types: clauses `requires` and `ensures`, and
 ghost members with the invariants among them. A name in it is followed by the file's lines `ghost use`, and in
 specs/*.antt by `use`, to definitions in specs/ of this repository: `abbrev`, `unfoldable`, `record`, `data`. Other
@@ -12,19 +13,29 @@ Counted are lines that are neither blank nor comment, and words: in a face, of t
 in the headline of all, with the clauses and main.rt; in laws, of those that no face has, and no laws of a crate below.
 The headline reads `command_of` as `Spells`: the law `reading_is_spelling` says that the one answers what the other
 means.
+A claim of README.md rests on the clauses that it names, on what their calls require, on the ghost members of the types
+in their heads, and on all definitions that these reach. They are told in reading order, each behind those that it names,
+down to the words of the kit. What all claims rest on together, with what the program adds (PROGRAM_ADDS: its ends and
+main.rt), is one number. It has to stand in README.md and in docs/PROOFS.md as 'N lines to believe'. The files that can
+touch a map are told behind it; tests/holders.py checks that no other does.
 Budgets stand in docs/PROOFS.md, under the heading 'Budget of lines to believe', in a table | row | lines | .. |.
 """
 import os
 import re
 import sys
 
-from contracts import CRATES, SPECS, Source, closure, counted, read_specs
+import cases
+import holders
+from contracts import CRATES, SPECS, Source, closure, counted, read_specs, words_in
 
 PROGRAM, HEADLINE = "art_index", "run"
 # The crates in which the headline's contracts stand: that of `run`, and those of what it is given.
 ENGINE, LANGUAGE = "art_engine", "art_lines"
 TIED = {(LANGUAGE, "Reading", "command_of"): (LANGUAGE, "Commands", "Spells")}
 PAGE, HEADING = "docs/PROOFS.md", "Budget of lines to believe"
+README = "README.md"
+# What stands between `run` and the program's ends: the calls of its crates, beside those that claims name.
+PROGRAM_ADDS = {"run_buffered", "flushed", "report", "Buffered", "FromReader", "ToWriter", "Source", "Sink"}
 
 
 def rows():
@@ -70,8 +81,102 @@ def row_of(name, parts, files, apart):
     return lines, sizes
 
 
+def claims():
+    """The claims of README.md: the sentence, and each call that carries it, with its clauses (none: all)."""
+    for line in open(README, encoding="utf-8"):
+        cells = [it.strip() for it in line.strip().strip("|").split("|")]
+        if len(cells) == 2 and "`" in cells[1] and cells[0][:1].isupper() and not cells[0].startswith("Line"):
+            calls = []
+            for part in cells[1].split(";"):
+                names, _, clauses = part.partition("`: ")
+                calls += [(it, {*re.findall(r"\w+", clauses)}) for it in re.findall(r"`?([\w:]+)`?", names)]
+            yield cells[0], [it for it in calls if "::" in it[0] or it[0] == HEADLINE]
+
+
+def clause_name(lines):
+    return (re.match(r"\s*(?:requires|ensures|invariant)\s+(\w+)", lines[0]) or [0, ""])[1]
+
+
+def heads_of(files, name):
+    """The words of the heads of functions of this name, up to their clauses."""
+    text = " ".join(files.values())
+    return {w for it in re.finditer(rf"\bfn {name}\b(.*?)(?=\brequires|\bensures|\{{)", text, re.S) for w in words_in(it[1])}
+
+
+def carried(sources, calls):
+    """The contracts that a claim rests on: the clauses that it names, what the calls require, and what the types in
+    their heads show as ghost members."""
+    found = []
+    for name, clauses in calls:
+        of_type, _, call = name.rpartition("::")
+        for source in sources:
+            at = [it for it in source.contracts if it[1] in (name, call if of_type == "laws" else name)]
+            found += [it for it in at if not clauses or "requires" in it[2][0] or clause_name(it[2]) in clauses]
+            types = (heads_of(source.files, call or name) | {of_type}) if at else set()
+            found += [it for that in sources for it in that.contracts if it[1] in types and "ghost" in it[2][0]]
+    return [it for at, it in enumerate(found) if it not in found[:at]]
+
+
+def in_order(reached):
+    """Definitions, each behind those that it names; and the words of the kit that they name."""
+    order, kit, seen = [], set(), set()
+
+    def add(key):
+        if key in seen or key not in reached:
+            return
+        seen.add(key)
+        spec = SPECS[key[:2]]
+        for word in words_in("\n".join(it.partition(" --")[0] for it in spec.lines[key[2]])):
+            target = spec.resolve(word)
+            if target and target[0] not in CRATES:
+                kit.add(target[2])
+            elif target:
+                target = TIED.get(target, target)
+                owner = SPECS[target[:2]].owner.get(target[2]) if target[:2] in SPECS else None
+                add(target)
+                add((*target[:2], owner))
+        order.append(key)
+
+    for key in sorted(reached, key=lambda it: (CRATES.index(it[0]), it[1])):
+        add(key)
+    return order, kit
+
+
+def tell_claims(listing):
+    """Prints what each claim rests on. Returns the lines of all of them together, with the program and its holders."""
+    sources, union, clauses = [Source(it) for it in CRATES], set(), []
+    rows = [*claims(), ("The program adds", None)]
+    print("\n| Claim | Lines to believe | Definitions | Clauses | Words of the kit |\n|---|---:|---:|---:|---:|")
+    for claim, calls in rows:
+        adds = [it for that in sources for it in that.contracts if it[1].split("::")[0] in PROGRAM_ADDS]
+        found = adds if calls is None else carried(sources, calls)
+        reached = closure((it for part in found for it in part[3]), TIED)
+        order, kit = in_order(reached)
+        kit |= {it[2] for part in found for it in part[3] if it[0] not in CRATES}
+        sizes = {it: counted(SPECS[it[:2]].lines[it[2]])[0] for it in order}
+        said = sum(counted(it[2])[0] for it in found)
+        print(f"| {claim} | {sum(sizes.values()) + said} | {sum(sizes.values())} | {said} | {len(kit)} |")
+        if listing is not None and listing in claim:
+            for it in order:
+                print(f"    {sizes[it]:3} lines: {'.'.join(it)}") if sizes[it] else None
+            for it in found:
+                print(f"    {counted(it[2])[0]:3} lines: {it[0]}, {it[1]}: {' '.join(it[2][0].split()[:2])}")
+            print(f"    of the kit: {', '.join(sorted(kit))}")
+        union |= reached
+        clauses += [it for it in found if it not in clauses]
+    lines_of = lambda path: counted(open(path, encoding="utf-8").read().split("\n"))[0]
+    size = sum(counted(SPECS[it[:2]].lines[it[2]])[0] for it in union) + sum(counted(it[2])[0] for it in clauses)
+    size += lines_of(f"crates/{PROGRAM}/src/main.rt")
+    print(f"\nAll claims and the program, main.rt among it: {size} lines.")
+    print("That all reads are counted rests also on these files, which alone can touch a map:")
+    for path in holders.files():
+        print(f"    {lines_of(path):3} lines: {path}")
+    return size
+
+
 def main():
     read_specs()
+    asked = sys.argv[2] if len(sys.argv) == 3 and sys.argv[1] == "--claims" else None
     listing = sys.argv[2] if len(sys.argv) == 3 and sys.argv[1] == "--list" else None
     limits, passed, faults, faces, laws, seen = budgets(), 0, [], set(), set(), set()
     print("| What | Lines to believe | Words | Lines of definitions, with those below | Lines of clauses |")
@@ -92,10 +197,21 @@ def main():
             passed += is_kept
             if not is_kept:
                 faults.append(f"{name}: {lines} lines, and {PAGE} allows {limits.get(name, 'none: it lacks the row')}")
-    faults += [f"{PAGE} has a budget for {name}, which is no row here" for name in sorted({*(limits or ())} - seen)]
-    print("".join(f"FAILED: {it}\n" for it in faults), end="")
-    print(f"{passed if limits is not None else 1} passed, {len(faults)} failed")
-    sys.exit(bool(faults))
+    number = tell_claims(asked)
+    for page in (README, PAGE):
+        is_told = f"{number:,} lines to believe" in cases.read(page)
+        passed += is_told
+        faults += [] if is_told else [f"{page}: it doesn't say '{number:,} lines to believe'"]
+    kept, broken = holders.check()
+    passed += kept
+    faults += broken
+    faults += [f"{name}: {PAGE} has a budget for it, and it is no row here" for name in sorted({*(limits or ())} - seen)]
+    told = cases.Tally()
+    told.passed = passed if limits is not None else 1
+    for it in faults:
+        name, _, why = it.partition(": ")
+        told.count(name, why or name)
+    told.end()
 
 
 main()

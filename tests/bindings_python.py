@@ -1,51 +1,30 @@
 #!/usr/bin/env python3
-"""The map in Python (bindings/python): its examples, scripts against models, want of memory, and what it refuses.
+"""The package artmap for Python (bindings/python), as pip builds it over the library that ./lib made.
 
-    tests/bindings_python.py [--of FOLDER]   FOLDER: where libart.so stands; else it is out, and ./lib makes it
-The scripts at random are played beside a dictionary, those of tests/maps beside their model: there a line that the
-class has no call for changes the map to what the model holds. Wrong models must be told. It prints a line for each case,
-and the last is 'N passed, M failed'. It takes half a minute of processor time.
+    tests/bindings_python.py [--of FOLDER] [WORD]   FOLDER: where libartmap.a and artmap.h stand; else it is out
+Played are its examples, scripts at random beside a model, those of tests/maps, CPython's own tests of dicts and sets
+(bindings_python_cpython.py), what may touch a map at any moment (bindings_python_hold.py), and memory
+(..._memory.py). Wrong models must be told. With a word, only the parts that have it in their names. It prints a line
+for each case, and the last is 'N passed, M failed'. It takes two minutes of processor time.
 """
-import copy
 import doctest
+import importlib
 import os
-import pickle
 import random
 import re
 import subprocess
 import sys
+import sysconfig
 import tempfile
-import threading
-from glob import glob
-
-import map_model
-import maps
-from map_words import bytes_in, option, shown
+import zipfile
 
 TOP = os.path.dirname(os.path.dirname(os.path.abspath(__file__)))
 PYTHON = f"{TOP}/bindings/python"
-sys.path[:0] = [PYTHON, f"{TOP}/tools"]
+sys.path.insert(0, f"{TOP}/tools")
+sys.dont_write_bytecode = True
 import quick
 
-
-def library():
-    """The library. ./lib makes it where it is not there, or a source is newer."""
-    if sys.argv[1:2] == ["--of"]:
-        return os.path.abspath(f"{sys.argv[2]}/libart.so")
-    made = f"{TOP}/out/libart.so"
-    read_of = [f"{TOP}/{it}" for it in quick.sources(TOP, quick.PROVED_OF)]
-    is_made = os.path.exists(made) and all(os.path.getmtime(it) <= os.path.getmtime(made) for it in read_of)
-    if not is_made and subprocess.run([f"{TOP}/lib"], stdout=subprocess.DEVNULL, check=False).returncode != 0:
-        sys.exit("tests/bindings_python.py: ./lib failed")
-    return made
-
-
-os.environ["ART_LIBRARY"] = library()
-import art
-from bindings_python_calls import CALLS, TAKE_MEMORY, outcome
-from bindings_python_model import Model, Wrong
-
-SCRIPTS, STEPS, MAP_SCRIPTS, MAP_STEPS = 40, 400, 8, 300
+SCRIPTS, STEPS = 20, 400
 TALLY = {True: 0, False: 0}
 
 
@@ -54,63 +33,223 @@ def told(name, is_right, why=""):
     print(f"ok: {name}" if is_right else f"FAILED: {name}: {why}"[:2000], flush=True)
 
 
+# What is tried.
+
+
+def library(of):
+    """The folder of the library. ./lib makes it where it is not there, or a source is newer."""
+    if of:
+        return os.path.abspath(of)
+    made = f"{TOP}/out/libartmap.a"
+    read_of = [f"{TOP}/{it}" for it in quick.sources(TOP, quick.PROVED_OF)]
+    is_made = os.path.exists(made) and all(os.path.getmtime(it) <= os.path.getmtime(made) for it in read_of)
+    if not is_made and subprocess.run([f"{TOP}/lib"], stdout=subprocess.DEVNULL, check=False).returncode != 0:
+        sys.exit("tests/bindings_python.py: ./lib failed")
+    return f"{TOP}/out"
+
+
+def end_without_headers():
+    """Ends the part where Python's headers are not there, and says how to get them."""
+    include = sysconfig.get_paths()["include"]
+    if not os.path.exists(f"{include}/Python.h"):
+        print(f"FAILED: there is no {include}/Python.h, so the package can't be built: apt-get install python3-dev")
+        print("0 passed, 1 failed")
+        sys.exit(1)
+
+
+def installed(of, room):
+    """Installs the package into a folder by pip, or by its backend alone where there is no pip, and imports it there."""
+    os.environ["ARTMAP_LIBRARY"] = of
+    has_pip = subprocess.run([sys.executable, "-m", "pip", "--version"], capture_output=True,
+                             check=False).returncode == 0
+    pip = [sys.executable, "-m", "pip", "install", "-q", "--no-index", "--no-deps", "--target", room, PYTHON]
+    words = pip if has_pip else [sys.executable, "-B", f"{PYTHON}/backend.py", room]
+    ran = subprocess.run(words, capture_output=True, text=True, check=False, cwd=TOP)
+    told(f"the package is built by {'pip' if has_pip else 'its backend, since there is no pip'}", ran.returncode == 0,
+         ran.stdout + ran.stderr)
+    if ran.returncode != 0:
+        end()
+    sys.path.insert(0, room)
+    os.environ["PYTHONPATH"] = room
+
+
+def wheel(room):
+    """The wheel serves all versions of Python, holds the library, and shows no names but the module's own."""
+    backend = [sys.executable, "-B", "-c", "import backend, sys; print(backend.build_wheel(sys.argv[1]))", room]
+    ran = subprocess.run(backend, capture_output=True, text=True, cwd=PYTHON, check=False)
+    name = ran.stdout.strip()
+    is_abi3 = not sysconfig.get_config_var("Py_GIL_DISABLED")
+    told(f"the wheel is {name}", ran.returncode == 0 and ("-cp39-abi3-" in name) == is_abi3, ran.stdout + ran.stderr)
+    with zipfile.ZipFile(f"{room}/{name}") as held:
+        names = {it.rpartition("/")[2] for it in held.namelist()}
+        module = next(it for it in held.namelist() if it.endswith(".so"))
+        held.extract(module, f"{room}/wheel")
+    lacks = {"__init__.py", "__init__.pyi", "py.typed", "METADATA", "WHEEL", "RECORD", "LICENSE-MIT"} - names
+    told("and has all files", not lacks, repr(lacks))
+    ran = subprocess.run(["nm", "-D", f"{room}/wheel/{module}"], capture_output=True, text=True, check=False)
+    rows = [it.split() for it in ran.stdout.splitlines()]
+    shown = [row[-1] for row in rows if len(row) == 3 and row[1] in "TDBR"]
+    asked = [row[-1] for row in rows if row[0] == "U" and row[-1].startswith(("artmap_", "rattle_", "_Py_Lock"))]
+    told("its names are its own", shown == ["PyInit__artmap"] and not asked, f"{shown} {asked} {ran.stderr}")
+
+
+def run_of(room, *words, **env):
+    """What a run of Python prints, and its status."""
+    env = {**os.environ, "PYTHONPATH": room, **env}
+    ran = subprocess.run([sys.executable, "-B", *words], capture_output=True, text=True, cwd=room, env=env,
+                         timeout=600, check=False)
+    return ran.stdout, ran.stderr, ran.returncode
+
+
+# Examples.
+
+
+def examples(room):
+    import artmap
+
+    for name, least in (("artmap", 10), ("artmap._set", 1)):
+        failed, tried = doctest.testmod(importlib.import_module(name))
+        told(f"{tried} examples in the words of {name}", tried >= least and failed == 0, f"{failed} fail, of {tried}")
+    out, err, status = run_of(room, f"{PYTHON}/examples/index.py")
+    told("index.py", (status, out) == (0, read(f"{PYTHON}/examples/index.out")), out + err)
+    for page in ("README.md", "bindings/python/README.md"):
+        for block, wanted in re.findall(r"(?m)^```python\n((?:.*\n)*?)```\n((?:\n|    .*\n)*)", read(f"{TOP}/{page}")):
+            wanted = "".join(f"{it[4:]}\n" for it in wanted.splitlines() if it)
+            out, err, status = run_of(room, "-c", block)
+            told(f"{page}: {block[:40]!r}", (status, out) == (0, wanted), out + err)
+    out, err, status = run_of(room, "-m", "artmap")
+    is_told = any(it in out for it in ("proved where it was made", "made without proofs", "not known to be proved"))
+    has_all = status == 0 and f"artmap {artmap.__version__}" in out and "libartmap 0." in out and is_told
+    told("python -m artmap", has_all, out + err)
+    out, err, status = run_of(room, "-c", "import artmap; help(artmap)")
+    told("help begins with the calls", 0 < out.find("The calls of Art") < out.find("longest_prefix(query)") < 1200,
+         out[:600])
+
+
+def stubs(room):
+    """The stubs and the package agree: names, and the words of each call."""
+    import ast
+    import inspect
+
+    import artmap
+
+    tree = ast.parse(read(f"{room}/artmap/__init__.pyi"))
+    classes = {it.name: it for it in tree.body if isinstance(it, ast.ClassDef)}
+    told("the stubs have what the package shows", {*artmap.__all__} <= {*classes} | {
+        it.target.id for it in tree.body if isinstance(it, ast.AnnAssign)}, repr([*classes]))
+    for name in ("Art", "ArtSet"):
+        made = getattr(artmap, name)
+        has = {it.name: it for it in classes[name].body if isinstance(it, ast.FunctionDef)}
+        of_mapping = {"get", "setdefault", "pop", "clear", "update"} if name == "Art" else set()
+        lacks = [it for it in {*vars(made)} - of_mapping if not it.startswith("_") and it not in has]
+        wrong = [it for it in has if not hasattr(made, it)]
+        for call, node in has.items():
+            try:
+                words = [*inspect.signature(getattr(made, call)).parameters.values()]
+            except (TypeError, ValueError):
+                continue
+            args = node.args
+            known = {it.arg for it in [*args.posonlyargs, *args.args, *args.kwonlyargs]}
+            if not call.startswith("__") and not any(it.kind in (it.VAR_POSITIONAL, it.VAR_KEYWORD) for it in words):
+                wrong += [f"{call}({it.name})" for it in words if it.name not in known | {"self", "type", "cls"}]
+        told(f"the stubs of {name} are those of its calls", not lacks and not wrong, f"lacks {lacks}, wrong {wrong}")
+    mypy = subprocess.run([sys.executable, "-m", "mypy", "--version"], capture_output=True, check=False).returncode == 0
+    if mypy:
+        ran = subprocess.run([sys.executable, "-m", "mypy", "--strict", "-p", "artmap"], capture_output=True,
+                             text=True, check=False)
+        told("mypy --strict", ran.returncode == 0, ran.stdout)
+
+
 # Scripts at random.
 
 
 def walked(it, name, is_reversed):
-    """A walk of an `Art`, as `Model.walked` tells it."""
+    """A walk of a map, as `Model.walked` tells it."""
     seen = getattr(it, name)()
     return [*reversed(seen)] if is_reversed else [*seen]
 
 
-# The words of each call: a key, a query or prefix, bounds, a value, pairs, whether it goes down.
+# The words of each call: a key, a query or prefix, bounds, a value, pairs, two truths, whether it goes down, a place.
 WORDS = {
     "__setitem__": "kv", "__getitem__": "k", "__delitem__": "k", "__contains__": "k", "__len__": "", "get": "kv",
-    "setdefault": "kv", "pop": "kv", "popitem": "", "find": "k", "first": "", "last": "", "next": "k", "previous": "k",
-    "range": "kkr", "prefix": "pr", "remove_prefix": "p", "clear": "", "copy": "", "update": "u", "walked": "wr",
-    "__eq__": "m", "load": "s",
+    "setdefault": "kv", "pop": "kv", "popitem": "", "longest_prefix": "q", "first": "", "last": "", "next": "ki",
+    "previous": "ki", "range": "kkcr", "irange": "kkcr", "prefix": "pr", "remove_prefix": "p", "clear": "", "copy": "",
+    "update": "u", "walked": "wr", "__eq__": "m", "load": "s", "peekitem": "a", "popitem at": "a",
 }  # fmt: skip
+NAMED = {"i": "inclusive", "c": "inclusive", "r": "reverse"}
 OFTEN = {"__setitem__": 12, "clear": 0.1, "remove_prefix": 0.5, "update": 0.5}
 
 
-def one_script(seed, model):
+class Words:
+    """Words of calls, at random: keys that have much in common, and often are stored."""
+
+    def __init__(self, seed, kind, model):
+        self.rng, self.kind, self.model = random.Random(seed), kind, model
+        rng = self.rng
+        self.front = rng.choice([b"", b"", b"shared/" * rng.choice([1, 5, 60])])
+        self.letters = rng.choice([b"\x00\xff", b"\x01ab\xff", bytes(range(256))])
+        self.texts = rng.choice(["ab", "\0\1\2a", "aé€\ud800\ue000\U0001f600\U0010ffff"])
+
+    def key(self):
+        rng = self.rng
+        if self.model and rng.random() < 0.4:
+            return rng.choice(sorted(self.model))
+        if self.kind is int:
+            return rng.choice([rng.randrange(-9, 9), rng.randrange(-1 << 63, 1 << 63), rng.choice([-1, 1]) * (1 << 62)])
+        length = rng.randint(0, 5) if rng.random() < 0.95 else 300
+        if self.kind is str:
+            return self.front.decode() + "".join(rng.choices(self.texts, k=length))
+        return self.front + bytes(rng.choices(self.letters, k=length))
+
+    def of(self, word):
+        rng = self.rng
+        if word == "k":
+            return self.key()
+        if word == "q":
+            return self.key() if self.kind is int else self.key() + self.key()[:3]
+        if word == "p":
+            key = self.key()
+            return key if self.kind is int else key[: rng.randint(max(0, len(key) - 3), len(key))]
+        if word == "v":
+            return rng.choice([None, rng.random(), [rng.randrange(9)], b"text"])
+        if word == "u":
+            return [(self.key(), self.of("v")) for _ in range(rng.randint(0, 9))]
+        if word == "s":
+            pairs = [(self.key(), self.of("v")) for _ in range(rng.randint(0, 9))]
+            pairs = pairs if rng.random() < 0.3 else [*dict(pairs).items()]
+            return sorted(pairs, key=lambda it: it[0])
+        if word == "c":
+            return rng.random() < 0.5, rng.random() < 0.5
+        if word == "a":
+            return rng.randint(-len(self.model) - 1, len(self.model) + 1)
+        return {"w": lambda: rng.choice(["keys", "values", "items"]), "m": lambda: dict(self.model)}.get(
+            word, lambda: rng.random() < 0.5)()
+
+
+def one_script(seed, kind, model):
     """Plays a script, and returns what is wrong in it, if anything is."""
-    rng, map_ = random.Random(seed), art.Art()
-    front = rng.choice([b"", b"", b"shared/" * rng.choice([1, 5, 60])])
-    letters = rng.choice([b"\x00\xff", b"\x01ab\xff", bytes(range(256))])
+    from artmap import Art
+    from bindings_python_calls import outcome
 
-    def word(kind):
-        if kind == "k":
-            key = front + bytes(rng.choices(letters, k=rng.randint(0, 5)))
-            return rng.choice(sorted(model)) if model and rng.random() < 0.4 else key
-        if kind == "p":
-            key = word("k")
-            return key[: rng.randint(max(0, len(key) - 3), len(key))]
-        if kind == "v":
-            return rng.randbytes(rng.choice([0, 3, 3, 40, 300, 3000]))
-        if kind == "u":
-            return [(word("k"), word("v")) for _ in range(rng.randint(0, 4))]
-        if kind == "s":
-            pairs = [(word("k") + b"." * rng.randint(0, 2), word("v")) for _ in range(rng.randint(0, 9))]
-            return sorted(pairs) if rng.random() < 0.3 else sorted(dict(pairs).items())
-        if kind == "w":
-            return rng.choice(["keys", "values", "items"])
-        return dict(model) if kind == "m" else rng.random() < 0.5
-
+    words_of, map_ = Words(seed, kind, model), Art(key=kind)
+    rng = words_of.rng
     names, weights = list(WORDS), [OFTEN.get(name, 1) for name in WORDS]
+    bound = {"walked": lambda *it: walked(map_, *it), "popitem at": lambda at: map_.popitem(index=at)}
+    bound_of_model = {"popitem at": lambda at: model.popitem(at)}
     for number in range(STEPS):
         name = rng.choices(names, weights)[0]
+        if kind is int and name in ("longest_prefix", "prefix", "remove_prefix"):
+            continue
         words, how = [], {}
-        for kind in WORDS[name]:
-            if kind == "r" and name != "walked":
-                how["reverse"] = word(kind)
+        for word in WORDS[name]:
+            if word in NAMED and name != "walked":
+                how[NAMED[word]] = words_of.of(word)
             else:
-                words.append(word(kind))
-        if name == "range" and rng.random() < 0.3:
+                words.append(words_of.of(word))
+        if name in ("range", "irange") and rng.random() < 0.3:
             words[rng.randrange(2)] = None
-        bound = {"walked": lambda *it: walked(map_, *it)}
         got = outcome(lambda: (bound.get(name) or getattr(map_, name))(*words, **how))
-        wanted = outcome(lambda: getattr(model, name)(*words, **how))
+        wanted = outcome(lambda: (bound_of_model.get(name) or getattr(model, name))(*words, **how))
         if got != wanted or len(map_) != len(model):
             return f"call {number}, {name} {words} {how}: {got!r}, and not {wanted!r}; {len(map_)} pairs"
         if number % 20 == 0 and [*map_.items()] != model.range():
@@ -119,176 +258,36 @@ def one_script(seed, model):
 
 
 def scripts():
-    for seed in range(SCRIPTS):
-        why = one_script(seed, Model())
-        told(f"script {seed}", not why, why)
+    from bindings_python_model import Model, Wrong
+
+    for kind in (bytes, str, int):
+        for seed in range(SCRIPTS):
+            why = one_script(seed, kind, Model(kind))
+            told(f"script {seed} of {kind.__name__}", not why, why)
     for name, wrong in vars(Wrong).items():
         if isinstance(wrong, type):
-            is_told = any(one_script(seed, wrong()) for seed in range(SCRIPTS))
+            is_told = any(one_script(seed, kind, wrong(kind)) for seed in range(SCRIPTS) for kind in (bytes, str))
             told(f"a model that is wrong, {name}, is told", is_told, "no script tells it")
 
 
-# The scripts of maps.
-
-
-class Player:
-    """Answers lines of scripts of maps by the class, as map_model.Model does: a method for each call that it has."""
-
-    def __init__(self, is_ended):
-        self.map, self.is_ended = art.Art(), is_ended
-
-    def answer(self, line):
-        """The answer, or None where the class has no such call."""
-        call, *words = line.split(" ")
-        method = getattr(self, "call_" + call, None)
-        return method and method(*words)
-
-    def take_on(self, pairs):
-        """Changes the map to these pairs."""
-        pairs = {bytes(key): b"%d" % value for key, value in pairs.items()}
-        for key in [it for it in self.map if it not in pairs]:
-            del self.map[key]
-        self.map.update(it for it in pairs.items() if self.map.get(it[0]) != it[1])
-
-    def item(self, pair):
-        return "None" if pair is None else f"{shown(pair[0])} {pair[1].decode()}"
-
-    def value(self, value):
-        return option(None if value is None else value.decode())
-
-    def call_len(self, *_):
-        return str(len(self.map))
-
-    def call_is_empty(self, *_):
-        return str(not self.map).lower()
-
-    def call_get(self, word, *_):
-        return self.value(self.map.get(bytes_in(word)))
-
-    def call_contains_key(self, word, *_):
-        return str(bytes_in(word) in self.map).lower()
-
-    def call_get_key_value(self, word, *_):
-        key = bytes_in(word)
-        return self.item((key, self.map[key]) if key in self.map else None)
-
-    def call_prefix_get(self, word, *_):
-        pair = self.map.find(bytes_in(word))
-        return self.value(pair and pair[1])
-
-    def call_prefix_get_key_value(self, word, *_):
-        return self.item(self.map.find(bytes_in(word)))
-
-    def call_first_key_value(self, *_):
-        return self.item(self.map.first())
-
-    def call_last_key_value(self, *_):
-        return self.item(self.map.last())
-
-    def call_try_insert(self, word, number="0", *_):
-        key = bytes_in(word)
-        if self.is_ended and 0 in key:
-            return "no key"
-        key += b"\0" * self.is_ended
-        old = self.map.get(key)
-        try:
-            self.map[key] = number.encode()
-        except art.ConflictError:
-            return f"prefix {shown(key)} {number}, {shown(key)}"
-        return self.value(old)
-
-    call_insert = call_try_insert
-
-    def call_remove(self, word, *_):
-        return self.value(self.map.pop(bytes_in(word), None))
-
-    def call_pop_first(self, *_):
-        return self.item(self.map.popitem() if self.map else None)
-
-    def call_clear(self, *_):
-        self.map.clear()
-        return "done"
-
-    def call_remove_prefix(self, word, *_):
-        return f"{self.map.remove_prefix(bytes_in(word))} true"
-
-    def ends(self, letters, forth, back, left):
-        """What steps at both ends of a walk give: how many pairs are left, and a pair if one is."""
-        for letter in letters:
-            yield left, next(back if letter == "b" else forth) if left else None
-            left -= left > 0
-
-    def every(self, letters):
-        items = self.map.items()
-        return self.ends(letters, iter(items), reversed(items), len(self.map))
-
-    def call_iter(self, letters, *_):
-        return "".join(f"{left} {self.item(pair)}, " for left, pair in self.every(letters)) + "end"
-
-    def call_keys(self, letters, *_):
-        told_of = self.every(letters)
-        return "".join("None, " if pair is None else f"{left - 1} {shown(pair[0])}, " for left, pair in told_of) + "end"
-
-    def call_values(self, letters, *_):
-        told_of = self.every(letters)
-        return "".join(f"{max(0, left - 1)} {self.value(pair and pair[1])}, " for left, pair in told_of) + "end"
-
-    def some(self, letters, walk):
-        """Steps at both ends of a walk that `walk` makes, downwards too."""
-        steps = self.ends(letters, walk(), walk(reverse=True), sum(1 for _ in walk()))
-        return "".join(f"{self.item(pair)}, " for _, pair in steps) + "end"
-
-    def call_range(self, start, end, letters, *_):
-        low = None if start[0] == "*" else bytes_in(start) + b"\0" * (start[0] == "(")
-        high = None if end[0] == "*" else bytes_in(end) + b"\0" * (end[0] == "[")
-        return self.some(letters, lambda **how: self.map.range(low, high, **how))
-
-    def call_prefix(self, word, letters, *_):
-        return self.some(letters, lambda **how: self.map.prefix(bytes_in(word), **how))
-
-
-def one_of_maps(kind, lines):
-    """Plays a script of maps, and returns what is wrong, if anything is, and how many lines had a call."""
-    model, player, count = map_model.Model(kind == "ended"), Player(kind == "ended"), 0
-    for at, line in enumerate(re.sub(r"#\d+", "", it) for it in lines):
-        wanted, got = model.answer(line), player.answer(line)
-        count += got is not None
-        if got is None:
-            player.take_on(model.pairs)
-        elif wanted not in ("invalid", got):
-            return f"line {at + 1}, {line}: {got}, and not {wanted}", count
-        keys = model.pairs.keys_in_order
-        if len(player.map) != len(keys) or (at % 25 == 0 or at == len(lines) - 1) and [*player.map] != keys:
-            return f"line {at + 1}, {line} leaves {player.map!r}", count
-    return "", count
-
-
-def of_maps():
-    found = [(os.path.basename(it), *maps.rows(it)) for it in sorted(glob("tests/maps/*.lines")) if ".set." not in it]
-    found += [(f"random {seed} of {kind} keys", kind, maps.script(seed, kind, MAP_STEPS))
-              for seed in range(MAP_SCRIPTS) for kind in ("free", "ended")]  # fmt: skip
-    sum_of = 0
-    for name, kind, lines in found:
-        why, count = one_of_maps(kind, lines)
-        sum_of += count
-        told(f"{name}, {count} of {len(lines)} lines", not why, why)
-    told("lines of the scripts of maps that the class has calls for", sum_of > 1000, f"only {sum_of}")
-
-
 # Want of memory.
+
 
 def windows_of(name, refuse, shim):
     """Runs a call in a window; returns what the shim tells, and what the call did."""
     words = [sys.executable, "-SB", f"{TOP}/tests/bindings_python_calls.py", name]
     with tempfile.TemporaryFile(buffering=0) as trace:
-        env = {**os.environ, "PYTHONPATH": PYTHON, "LD_PRELOAD": shim, "REFUSE": refuse, "REFUSE_TRACE": str(trace.fileno())}
-        ran = subprocess.run(words, env=env, pass_fds=[trace.fileno()], capture_output=True, text=True, timeout=60)
+        env = {**os.environ, "LD_PRELOAD": shim, "REFUSE": refuse, "REFUSE_TRACE": str(trace.fileno())}
+        ran = subprocess.run(words, env=env, pass_fds=[trace.fileno()], capture_output=True, text=True, timeout=60,
+                             check=False)
         trace.seek(0)
         return trace.read().decode(), ran.stdout if ran.returncode == 0 else f"status {ran.returncode}: {ran.stderr}"
 
 
 def refused(room):
-    """Each request for memory of each call is refused, alone and with all later ones."""
+    """Each request of malloc in each call is refused, alone and with all later ones."""
+    from bindings_python_calls import CALLS, TAKE_MEMORY
+
     shim = f"{room}/refuse.so"
     subprocess.run(["cc", "-O2", "-shared", "-fPIC", f"{TOP}/tests/refuse.c", "-o", shim], check=True)
     for name in CALLS:
@@ -307,149 +306,18 @@ def refused(room):
         told(f"memory is refused to {name}, {most} requests", free.startswith(" (") and not why, why or free)
 
 
-# The rest.
+# What is tried elsewhere, in a run of its own.
 
 
-def examples(of_room):
-    failed, tried = doctest.testmod(art)
-    told(f"{tried} examples in art.py", tried >= 20 and failed == 0, f"{failed} fail")
-    env = {**os.environ, "PYTHONPATH": PYTHON}
-    how = {"capture_output": True, "text": True, "cwd": of_room, "env": env, "timeout": 60}
-    ran = subprocess.run([sys.executable, "-B", f"{PYTHON}/index.py"], **how)
-    told("index.py", (ran.returncode, ran.stdout) == (0, read(f"{PYTHON}/index.out")), ran.stdout + ran.stderr)
-    for page in ("README.md", "bindings/python/README.md"):
-        for block, wanted in re.findall(r"(?m)^```python\n((?:.*\n)*?)```\n((?:\n|    .*\n)*)", read(f"{TOP}/{page}")):
-            wanted = "".join(f"{it[4:]}\n" for it in wanted.splitlines() if it)
-            ran = subprocess.run([sys.executable, "-B", "-c", block], **how)
-            told(f"{page}: {block[:40]!r}", (ran.returncode, ran.stdout) == (0, wanted), ran.stdout + ran.stderr)
-    env = {**env, "ART_LIBRARY": f"{of_room}/none.so"}
-    ran = subprocess.run([sys.executable, "-B", "-c", "import art"], **{**how, "env": env})
-    is_told = ran.returncode == 1 and "ImportError: there is no" in ran.stderr and "run ./lib" in ran.stderr
-    told("no library", is_told, ran.stderr)
-
-
-class Lying(bytes):
-    """Bytes that tell a wrong length."""
-
-    def __len__(self):
-        return 1000
-
-
-def words_of_all_kinds():
-    """No null gets in, and lengths of 0 are as any other."""
-    it, none = art.Art({b"a": b"1"}), (None, "a", 5, 5.0, [1], object())
-    takes = [it.get, it.__getitem__, it.__delitem__, it.pop, it.find, it.next, it.previous, it.prefix, it.remove_prefix]
-    takes += [lambda word: it.__setitem__(word, b""), lambda word: it.__setitem__(b"b", word), it.setdefault]
-    takes += [lambda word: it.setdefault(b"b", word)]
-    seen = {outcome(call, word) for call in takes for word in none}
-    seen |= {outcome(call, word) for call in (it.range, lambda word: it.range(b"", word)) for word in none[1:]}
-    told("what is no bytes is refused", seen == {"TypeError"} and dict(it) == {b"a": b"1"}, f"{seen} {it}")
-    told("and is no key", not any(word in it for word in none))
-    for kind in (bytearray, memoryview, Lying, lambda word: memoryview(word[::-1])[::-1]):
-        it[kind(b"key")] = kind(b"value")
-        is_right = it.pop(kind(b"key")) == b"value" and dict(it) == {b"a": b"1"}
-        told(f"{getattr(kind, '__name__', 'a view')} as key and value", is_right, repr(it))
-    told("an empty value", it.setdefault(b"e") == b"" and it[b"e"] == b"" and b"e" in it and it.pop(b"e") == b"")
-    told("no key before others", outcome(it.__setitem__, b"", b"") == "ConflictError" and len(it) == 1)
-    found = [it.find(b""), it.next(b"")[0], it.previous(b""), [*it.prefix(b"")], [*it.range(b"", b"")], b"" in it]
-    told("an empty query", found == [None, b"a", None, [(b"a", b"1")], [], False], repr(found))
-    told("an empty prefix begins all", (it.remove_prefix(b""), len(it), it.remove_prefix(b"")) == (1, 0, 0))
-    it[b""] = b""
-    told("an empty key stands alone", outcome(it.__setitem__, b"x", b"") == "ConflictError" and dict(it) == {b"": b""})
-    found = [it.first(), it.last(), it.find(b"any"), it.find(b""), it.next(b""), it.previous(b"a"), it.pop(b"")]
-    told("and is found", found == [(b"", b"")] * 4 + [None, (b"", b""), b""], repr(found))
-
-
-def walks():
-    """The map changes during a walk."""
-    it, seen = art.Art({b"a": b"1", b"c": b"2", b"e": b"3", b"g": b"4"}), []
-    for key in it:
-        seen.append(key)
-        if key == b"c":
-            del it[b"a"], it[b"c"], it[b"e"]
-            it.update({b"b": b"", b"c": b"", b"d": b"", b"f": b""})
-    told("a walk while the map changes", seen == [b"a", b"c", b"d", b"f", b"g"], repr(seen))
-    told("all that is walked is taken out", [it.pop(key) for key in it] == [b""] * 4 + [b"4"] and not it, repr(it))
-    it.update({bytes([number]): b"" for number in range(200)})
-    down = [it.remove_prefix(key) for key, _ in it.items().__reversed__()]
-    told("and downwards", down == [1] * 200 and not it, repr(down))
-    long = {b"%03d" % at: b"%d" % at * (at % 50 * 8) for at in range(300)}
-    it.load(long)
-    told("300 pairs of all lengths", [*it.items()] == [*long.items()] and [*reversed(it)] == [*reversed(long)])
-    fits = all([*it.range(b"%03d" % at, b"%03d" % (at + 70))] == [*long.items()][at : at + 70] for at in range(231))
-    told("ranges of 70 of them", fits)
-    seen, wanted = [], [b"%03d" % at for at in range(300) if at % 7 != 3]
-    for key in it:
-        seen.append(key)
-        if int(key) % 7 == 2:
-            it.pop(b"%03d" % (int(key) + 1))  # (one ahead goes, which may be copied out already)
-    told("a walk that takes out what is ahead", seen == wanted == [*it], repr(seen))
-
-
-def many():
-    """Pairs go in many at a time."""
-    it, pairs = art.Art(), [(b"%05d" % at, b"%d" % at) for at in range(1500)]
-    it.load(iter(pairs))
-    told("1500 pairs from an iterator", [*it.items()] == pairs)
-    for name, more, why, left in (
-        ("a key that is not above", [(b"a", b""), (b"c", b""), (b"b", b"")], "NotAboveError", [b"a", b"c"]),
-        ("the same key twice", [(b"a", b""), (b"a", b"1")], "NotAboveError", [b"a"]),
-        ("a conflict", [(b"a", b""), (b"b", b""), (b"ba", b""), (b"c", b"")], "ConflictError", [b"a", b"b"]),
-        ("no bytes", [(b"a", b""), (b"b", b""), ("c", b""), (b"d", b"")], "TypeError", [b"a", b"b"]),
-    ):
-        for call in ("load", "update"):
-            it.clear()
-            if (name, call) in (("a key that is not above", "update"), ("the same key twice", "update")):
-                continue
-            told(f"{call}, {name}", outcome(getattr(it, call), more) == why and [*it] == left, repr(it))
-    it.clear()
-    it.update([(b"b", b"1"), (b"a", b"2"), (b"b", b"3")])
-    told("an update in any order", dict(it) == {b"a": b"2", b"b": b"3"}, repr(it))
-    it.update((key, it.get(b"a") + b"!") for key in [b"a", b"c", b"a"])
-    told("an update that reads the map", dict(it) == {b"a": b"2!!", b"b": b"3", b"c": b"2!!"}, repr(it))
-    told("no names", outcome(lambda: it.update(a=b"")) == "TypeError" and outcome(it.update, it) is None, repr(it))
-
-    def broken():
-        yield b"x", b"1"
-        yield b"y", b"2"
-        raise KeyError
-
-    told("an iterator that fails", outcome(it.load, broken()) == "KeyError" and b"y" in it, repr(it))
-
-
-def life():
-    """A map that is closed, copied, kept, or called from another thread."""
-    with art.Art({b"a": b"1"}) as it:
-        other = it.copy()
-        other[b"b"] = b"2"
-    told("a copy is a map of its own", dict(other) == {b"a": b"1", b"b": b"2"}, repr(other))
-    calls = [len, list, dict, it.first, it.clear, it.copy, it.popitem, it.items().__iter__().__next__, lambda: b"a" in it]
-    seen = {outcome(call, it) if call in (len, list, dict) else outcome(call) for call in calls}
-    told("a closed map", (seen, repr(it), it.close()) == ({"ValueError"}, "Art(closed)", None), repr(seen))
-    told("pickled", pickle.loads(pickle.dumps(other)) == other == copy.deepcopy(other))
-    told("pairs that conflict", outcome(art.Art, [(b"a", b""), (b"ab", b"")]) == "ConflictError")
-    seen = []
-    thread = threading.Thread(target=lambda: seen.extend([outcome(len, other), outcome(other.close), len(art.Art())]))
-    thread.start()
-    thread.join()
-    told("another thread", seen == ["RuntimeError", "RuntimeError", 0] and len(other) == 2, repr(seen))
-    shared = art.Art(check_thread=False)
-
-    def work(number):
-        for at in range(300):
-            shared[b"%d,%04d" % (number, at)] = b"v" * (at % 7 * 100)
-            seen.append(shared.find(b"%d,%04d" % (number, at) + b"..")[1] == b"v" * (at % 7 * 100))
-
-    seen.clear()
-    threads = [threading.Thread(target=work, args=[number]) for number in range(4)]
-    for thread in threads:
-        thread.start()
-    for thread in threads:
-        thread.join()
-    told("four threads", seen == [True] * 1200 and len(shared) == 1200, f"{len(seen)} {len(shared)}")
-    keys = {bytes([number]) for number in range(9)}
-    of = art.Art(dict.fromkeys(keys, b""))
-    told("views are sets", of.keys() & {b"\0", b"x", 5} == {b"\0"} and of.keys() == keys and (b"\1", b"") in of.items())
+def elsewhere(room, script, **env):
+    """The cases of another script, which prints them."""
+    out, err, status = run_of(room, "-X", "dev", f"{TOP}/tests/{script}", **env)
+    lines = out.splitlines()
+    for line in lines[:-1]:
+        if line.startswith(("ok: ", "FAILED: ")):
+            told(line.partition(": ")[2][:300], line.startswith("ok"), out[-1500:])
+    is_ended = status == 0 and lines and re.fullmatch(r"\d+ passed, 0 failed", lines[-1])
+    told(f"{script} ends", is_ended, f"status {status}: {out[-500:]} {err[-1500:]}")
 
 
 def read(path):
@@ -457,19 +325,33 @@ def read(path):
         return file.read()
 
 
-def main():
-    os.chdir(TOP)
-    with tempfile.TemporaryDirectory() as room:
-        examples(room)
-        words_of_all_kinds()
-        walks()
-        many()
-        life()
-        scripts()
-        of_maps()
-        refused(room)
+def end():
     print(f"{TALLY[True]} passed, {TALLY[False]} failed")
     sys.exit(TALLY[False] != 0)
+
+
+def main():
+    words = sys.argv[1:]
+    of = words[1] if words[:1] == ["--of"] else ""
+    word = (words[2:] if of else words)[-1:] or [""]
+    end_without_headers()
+    os.chdir(TOP)
+    with tempfile.TemporaryDirectory() as room:
+        installed(library(of), room)
+        from bindings_python_cases import cases
+        from bindings_python_maps import of_maps
+
+        parts = {
+            "examples": lambda: examples(room), "wheel": lambda: wheel(room), "stubs": lambda: stubs(room),
+            "cases": lambda: cases(told), "scripts": scripts, "maps": lambda: of_maps(told), "refused": lambda: refused(room),
+            "cpython": lambda: elsewhere(room, "bindings_python_cpython.py"),
+            "hold": lambda: elsewhere(room, "bindings_python_hold.py", PYTHONMALLOC="debug"),
+            "memory": lambda: elsewhere(room, "bindings_python_memory.py"),
+        }  # fmt: skip
+        for name, part in parts.items():
+            if word[0] in name:
+                part()
+    end()
 
 
 if __name__ == "__main__":

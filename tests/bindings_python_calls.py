@@ -1,54 +1,66 @@
 #!/usr/bin/env python3
-"""Calls of the map in Python to which a runner refuses memory (tests/bindings_python.py, tests/refuse.c).
+"""Calls of the maps of artmap to which a runner refuses memory (tests/bindings_python.py, tests/refuse.c).
 
-    tests/bindings_python_calls.py NAME     makes a map, and then this call in a window; art is on PYTHONPATH
+    tests/bindings_python_calls.py NAME     makes a map, and then this call in a window; artmap is on PYTHONPATH
 """
 import os
 import sys
 from collections.abc import Iterator
 
-import art
+from artmap import Art, ArtSet
 
-LONG = 3000  # bytes of a value for which a room must grow
-# Below `a` there is a node for five: a loss makes a smaller one, for which no room is spare. One value is too long for
-# the first room.
-PAIRS = {key.encode(): b"value" for key in ("aa", "ab", "ac", "ad", "ae", "b0", "b1", "c0", "c1", "d0")}
-PAIRS |= {b"d1": b"x" * LONG}
+LONG = b"x" * 3000  # a key for which each room must grow
+# Below `a` there is a node for five: a loss makes a smaller one, for which no room is spare.
+PAIRS = {key.encode(): [key] for key in ("aa", "ab", "ac", "ad", "ae", "b0", "b1", "c0", "c1", "d0")}
+PAIRS |= {b"e" + LONG: None}
+TEXTS = {"a": 1, "abc" * 40: 2, "\0": 3}
 CALLS = {
-    "Art()": lambda it: art.Art(),
-    "Art(pairs)": lambda it: art.Art(PAIRS),
+    "Art()": lambda it: Art(),
+    "Art(pairs)": lambda it: Art(PAIRS),
+    "Art of a map": lambda it: Art(it),
     "put a new pair": lambda it: it.__setitem__(b"af", b"new"),
-    "put a long value": lambda it: it.__setitem__(b"ag", b"y" * LONG),
+    "put a long key": lambda it: it.__setitem__(b"f" + LONG, b"new"),
+    "put a buffer": lambda it: it.__setitem__(bytearray(b"af"), b"new"),
     "replace": lambda it: it.__setitem__(b"aa", b"other"),
     "conflict": lambda it: it.__setitem__(b"aab", b"x"),
     "setdefault": lambda it: it.setdefault(b"af", b"new"),
-    "setdefault of a long one": lambda it: it.setdefault(b"d1", b"new"),
+    "setdefault of a stored one": lambda it: it.setdefault(b"aa", b"new"),
     "get": lambda it: it.get(b"aa"),
-    "get a long one": lambda it: it[b"d1"],
     "contains": lambda it: b"d1" in it,
     "len": len,
-    "find": lambda it: it.find(b"d1x"),
+    "longest_prefix": lambda it: it.longest_prefix(b"d0x"),
     "first": lambda it: it.first(),
     "last": lambda it: it.last(),
     "next": lambda it: it.next(b"d0"),
     "previous": lambda it: it.previous(b"d2"),
+    "peekitem": lambda it: it.peekitem(3),
     "range": lambda it: [*it.range(b"b", b"d5")],
     "prefix downwards": lambda it: [*it.prefix(b"d", reverse=True)],
+    "items": lambda it: [*it.items()],
+    "irange to a long key": lambda it: [*it.irange(b"b", b"e" + LONG)],
     "del": lambda it: it.__delitem__(b"ab"),
     "pop": lambda it: it.pop(b"ac"),
-    "pop a long one": lambda it: it.pop(b"d1"),
     "popitem": lambda it: it.popitem(),
-    "load one": lambda it: it.load([(b"af", b"new")]),
+    "popitem in the middle": lambda it: it.popitem(index=2),
+    "load one": lambda it: it.load([(b"f", b"new")]),
     "update by one": lambda it: it.update({b"aa": b"other"}),
     "remove_prefix": lambda it: it.remove_prefix(b"ac"),
     "clear": lambda it: it.clear(),
     "copy": lambda it: it.copy(),
     "equality": lambda it: it == PAIRS,
-    "close": lambda it: it.close(),
+    "merge": lambda it: it | {b"f": 1},
+    "repr": repr,
+    "keys in both": lambda it: it.keys() & {b"aa", b"zz"},
+    "getsizeof": lambda it: sys.getsizeof(it) > 0,
+    "texts": lambda it: [*Art(TEXTS, key=str).prefix("a")],
+    "longest of texts": lambda it: Art(TEXTS, key=str).longest_prefix("abc" * 41),
+    "numbers": lambda it: [*Art({5: 1, -5: 2}, key=int)],
+    "a set": lambda it: [*ArtSet([b"b", b"a"])],
 }
-# (These take memory in any case, so that the runs refuse something.)
-TAKE_MEMORY = {"Art()", "Art(pairs)", "put a new pair", "put a long value", "replace", "setdefault", "get a long one"}
-TAKE_MEMORY |= {"find", "last", "range", "del", "pop", "pop a long one", "popitem", "remove_prefix", "copy"}
+# (These ask malloc for memory in any case, so that the runs refuse something.)
+TAKE_MEMORY = {"Art(pairs)", "Art of a map", "put a new pair", "put a long key", "put a buffer", "setdefault", "last",
+               "items",
+               "irange to a long key", "load one", "copy", "merge", "texts", "numbers", "a set", "popitem"}  # fmt: skip
 
 
 def outcome(call, *words):
@@ -61,18 +73,17 @@ def outcome(call, *words):
 
 
 def one_call(name):
-    """A call in a window, and once more where it finds no memory. Prints whether the map is as it was, if it finds none,
-    and then what the last call returns and leaves."""
-    call, held = CALLS[name], art.Art(PAIRS)
-    outcome(call, art.Art(PAIRS))  # (Python makes here what it makes at a first call alone)
+    """A call in a window, and once more where it finds no memory. Prints whether the map is as it was, if it finds
+    none, and then what the last call returns and leaves."""
+    call, held = CALLS[name], Art(PAIRS)
+    outcome(call, Art(PAIRS))  # (Python makes here what it makes at a first call alone)
     os.write(2, b"refuse\n")
     first = outcome(call, held)
     os.write(2, b"told\n")
     is_refused = first == "MemoryError"
     kept = "kept" if is_refused and dict(held) == PAIRS else "changed" if is_refused else ""
     last = outcome(call, held) if is_refused else first
-    left = "closed" if repr(held) == "Art(closed)" else dict(held)
-    print(kept, repr((last, left)))
+    print(kept, repr((last, dict(held)))[:4000])
 
 
 if __name__ == "__main__":

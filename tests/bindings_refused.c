@@ -1,18 +1,19 @@
 /* Calls of the library for C in which a runner refuses memory (tests/bindings_c.py, tests/refuse.c).
  *
- *     bindings_refused N   makes a map, and then call N in a window; prints the code, and then whether the map is as it was
+ *     bindings_refused N   makes two maps, and then call N in a window; prints the code, and then whether the maps are as
+ *                          they were
  *
  * Where memory was refused the call is made once more, outside the window, and must do what it does in a free run. Of a
  * load, the map is to be as it was with those pairs put in that were told as taken.
  */
-#include "art.h"
+#include "artmap.h"
 
 #include <stdio.h>
 #include <stdlib.h>
 #include <string.h>
 #include <unistd.h>
 
-enum { PAIRS = 11, MOST = 64, PLACES = 4 };
+enum { PAIRS = 11, MOST = 64, PLACES = 4, LOADS = 20 };
 
 /* Below `a` there is a node for five, of which a loss makes one for four; the four others leave no spare one for that. */
 static const char *const keys[PAIRS] = {"aa", "ab", "ac", "ad", "ae", "b0", "b1", "c0", "c1", "d0", "d1"};
@@ -23,92 +24,136 @@ static const char *const loads[2][PLACES][2] = {
     {{"af", "other"}, {"c0", "x"}, {"e0", "last"}, {"e00", "none"}},
 };
 
-static const uint8_t *bytes(const char *text) { return (const uint8_t *)text; }
+struct maps {
+    artmap_words words, other_words;
+    artmap_bytes bytes, other_bytes;
+};
 
-static art_code put(art *map, const char *key, const char *value) {
-    return art_put(map, bytes(key), strlen(key), bytes(value), strlen(value));
+static uint64_t word_of(const char *value) { return strlen(value) + (unsigned char)value[0]; }
+
+static artmap_code put_both(struct maps *maps, const char *key, const char *value) {
+    artmap_code code = artmap_words_put(&maps->words, key, strlen(key), word_of(value), NULL);
+    return code > ARTMAP_REPLACED ? code : artmap_bytes_put(&maps->bytes, key, strlen(key), value, strlen(value));
 }
 
-/* The sum of all pairs in order, by a walk. */
-static unsigned long sum(art *map) {
-    uint8_t key[2][MOST], value[MOST];
-    size_t len[2], value_len;
+/* The sum of all pairs of both maps in order, by walks. */
+static unsigned long sum(struct maps *maps) {
+    unsigned char room[1024];
+    artmap_words_pair words[MOST];
+    artmap_bytes_pair bytes[MOST];
+    artmap_span all = {0};
+    size_t count = 0, more = 0, at = 0;
     unsigned long made = 17;
-    int now = 0;
-    art_code code = art_first(map, key[now], MOST, &len[now], value, MOST, &value_len);
-    for (; code == ART_DONE; now = !now) {
-        for (size_t i = 0; i < len[now]; i++) made = made * 31 + key[now][i];
-        for (size_t i = 0; i < value_len; i++) made = made * 37 + value[i];
-        code = art_next(map, key[now], len[now], key[!now], MOST, &len[!now], value, MOST, &value_len);
+    artmap_words_walk(&maps->words, &all, room, sizeof room, words, MOST, &count);
+    for (size_t i = 0; i < count; i++) {
+        for (size_t end = at + words[i].key_len; at < end; at++) made = made * 31 + room[at];
+        made = made * 37 + words[i].word;
     }
-    return made * 2 + (code == ART_NOT_FOUND);
+    at = 0;
+    artmap_bytes_walk(&maps->bytes, &all, room, sizeof room, bytes, MOST, &more);
+    for (size_t i = 0; i < more; i++)
+        for (size_t end = at + bytes[i].key_len + bytes[i].value_len; at < end; at++) made = made * 41 + room[at];
+    return made * 2 + artmap_words_is_frozen(&maps->words) + artmap_bytes_is_frozen(&maps->bytes) + count + more;
 }
 
-static art_code load(art *map, const char *const pairs[PLACES][2], size_t *taken) {
+static artmap_code load(struct maps *maps, int is_words, const char *const pairs[PLACES][2], size_t *taken) {
     char room[MOST] = "";
-    art_lens lens[PLACES];
+    artmap_words_pair words[PLACES];
+    artmap_bytes_pair bytes[PLACES];
     for (int i = 0; i < PLACES; i++) {
-        lens[i] = (art_lens){strlen(pairs[i][0]), strlen(pairs[i][1])};
-        strcat(strcat(room, pairs[i][0]), pairs[i][1]);
+        words[i] = (artmap_words_pair){strlen(pairs[i][0]), word_of(pairs[i][1])};
+        bytes[i] = (artmap_bytes_pair){strlen(pairs[i][0]), strlen(pairs[i][1])};
+        strcat(strcat(room, pairs[i][0]), is_words ? "" : pairs[i][1]);
     }
-    return art_load(map, bytes(room), strlen(room), lens, PLACES, taken);
+    return is_words ? artmap_words_load(&maps->words, room, strlen(room), words, PLACES, taken)
+                    : artmap_bytes_load(&maps->bytes, room, strlen(room), bytes, PLACES, taken);
 }
 
-static art_code call(art *map, int which, size_t *taken) {
-    uint8_t key[MOST], value[MOST];
-    size_t key_len, value_len, count;
-    art_lens lens[PLACES];
-    art_nodes nodes;
+static artmap_code call(struct maps *maps, int which, size_t *taken) {
+    artmap_words *words = &maps->words;
+    artmap_bytes *bytes = &maps->bytes;
+    char room[MOST], other[MOST];
+    artmap_words_pair pairs[PLACES];
+    artmap_bytes_pair lens[PLACES];
+    artmap_span span = {.from = ARTMAP_FROM_KEY, .from_key = "ab", .from_len = 2}, back = {.back = true};
+    artmap_nodes nodes;
+    uint64_t many[PLACES];
+    size_t len, count;
     switch (which) {
-    case 0: return art_new(map);
-    case 1: return put(map, "af", "new");
-    case 2: return put(map, "aa", "other");
-    case 3: return put(map, "aab", "x");
-    case 4: return art_remove(map, bytes("ab"), 2);
-    case 5: return art_remove_prefix(map, bytes("ac"), 2, &count);
-    case 6: return art_get(map, bytes("ad"), 2, value, MOST, &value_len);
-    case 7: return art_find(map, bytes("aex"), 3, key, MOST, &key_len, value, MOST, &value_len);
-    case 8: return art_last(map, key, MOST, &key_len, value, MOST, &value_len);
-    case 9: return art_previous(map, bytes("ad"), 2, key, MOST, &key_len, value, MOST, &value_len);
-    case 10: return art_last_behind(map, bytes("a"), 1, key, MOST, &key_len, value, MOST, &value_len);
-    case 11: return art_audit(map, &nodes);
-    case 12: return load(map, loads[0], taken);
-    case 13: return load(map, loads[1], taken);
-    case 14: return art_walk(map, ART_FROM_KEY, bytes("ab"), 2, key, MOST, lens, PLACES, &count);
-    case 15: return art_walk_back(map, ART_FROM_END, bytes(""), 0, key, MOST, lens, PLACES, &count);
+    case 0: return artmap_words_new(words);
+    case 1: return artmap_words_put(words, "af", 2, 1, NULL);
+    case 2: return artmap_words_put(words, "aab", 3, 1, NULL);
+    case 3: return artmap_words_remove(words, "ab", 2, NULL);
+    case 4: return artmap_words_remove_prefix(words, "ac", 2, &count);
+    case 5: return artmap_words_remove_prefix(words, "ad", 2, &count);
+    case 6: return artmap_words_audit(words, &nodes);
+    case 7: return artmap_words_clone(words, &maps->other_words);
+    case 8: return artmap_words_split_off(words, "b1", 2, &maps->other_words);
+    case 9: return artmap_words_reserve(words, 3);
+    case 10: return artmap_words_freeze(words);
+    case 11: return artmap_bytes_new(bytes);
+    case 12: return artmap_bytes_put(bytes, "af", 2, "new", 3);
+    case 13: return artmap_bytes_put(bytes, "aa", 2, "other", 5);
+    case 14: return artmap_bytes_put(bytes, "aab", 3, "x", 1);
+    case 15: return artmap_bytes_remove(bytes, "ab", 2);
+    case 16: return artmap_bytes_clone(bytes, &maps->other_bytes);
+    case 17: return artmap_bytes_split_off(bytes, "b1", 2, &maps->other_bytes);
+    case 18: return artmap_bytes_freeze(bytes);
+    case 19: return artmap_words_put(words, "aa", 2, 1, NULL);
+    case 20: return load(maps, 1, loads[0], taken);
+    case 21: return load(maps, 1, loads[1], taken);
+    case 22: return load(maps, 0, loads[0], taken);
+    case 23: return load(maps, 0, loads[1], taken);
+    case 24: return artmap_words_walk(words, &span, room, MOST, pairs, PLACES, &count);
+    case 25: return artmap_bytes_walk(bytes, &back, room, MOST, lens, PLACES, &count);
+    case 26: return artmap_words_find(words, "aex", 3, &len, many);
+    case 27: return artmap_bytes_last_with_prefix(bytes, "a", 1, room, MOST, &len, other, MOST, &count);
+    case 28: return artmap_words_walk_words(words, &back, many, PLACES, &count);
+    case 29: return artmap_words_clear(words);
+    case 30: return artmap_words_thaw(words);
     default: exit(3);
     }
 }
 
-/* A map with the pairs, and the first of those that a load puts in. */
-static void make(art *map, int which, size_t taken) {
-    if (art_new(map) != ART_DONE) exit(3);
+/* Both maps with the pairs, and the first of those that a load puts in. */
+static void make(struct maps *maps, int which, size_t taken) {
+    if (artmap_words_new(&maps->words) != ARTMAP_DONE || artmap_bytes_new(&maps->bytes) != ARTMAP_DONE) exit(3);
     for (int i = 0; i < PAIRS; i++)
-        if (put(map, keys[i], "value") != ART_DONE) exit(3);
+        if (put_both(maps, keys[i], "value") != ARTMAP_DONE) exit(3);
     for (size_t i = 0; i < taken; i++) {
-        const char *const *pair = loads[which - 12][i];
-        if (put(map, pair[0], pair[1]) > ART_REPLACED) exit(3);
+        const char *const *pair = loads[(which - LOADS) % 2][i];
+        artmap_code code = which < LOADS + 2
+            ? artmap_words_put(&maps->words, pair[0], strlen(pair[0]), word_of(pair[1]), NULL)
+            : artmap_bytes_put(&maps->bytes, pair[0], strlen(pair[0]), pair[1], strlen(pair[1]));
+        if (code > ARTMAP_REPLACED) exit(3);
     }
 }
 
+static void free_all(struct maps *maps) {
+    artmap_words_free(&maps->words);
+    artmap_words_free(&maps->other_words);
+    artmap_bytes_free(&maps->bytes);
+    artmap_bytes_free(&maps->other_bytes);
+}
+
 int main(int argc, char **argv) {
-    art map = ART_EMPTY, wanted = ART_EMPTY;
+    struct maps maps = {0}, wanted = {0};
     size_t taken = 0, all = 0;
     if (argc != 2) return 3;
     int which = atoi(argv[1]);
-    make(&map, which, 0);
+    make(&maps, which, 0);
     if (write(2, "refuse\n", 7) != 7) return 3;
-    art_code code = call(&map, which, &taken);
+    artmap_code code = call(&maps, which, &taken);
     if (write(2, "told\n", 5) != 5) return 3;
-    if (code == ART_NO_MEMORY) {
+    if (code == ARTMAP_NO_MEMORY) {
         make(&wanted, which, taken);
-        printf("%d %s ", code, sum(&map) == sum(&wanted) ? "kept" : "changed");
-        code = call(&map, which, &all);
+        printf("%d %s ", code, sum(&maps) == sum(&wanted) ? "kept" : "changed");
+        code = call(&maps, which, &all);
     } else {
         all = taken;
     }
-    printf("%d %zu\n", code, all);
-    art_free(&map);
-    art_free(&wanted);
+    printf("%d %zu %lu\n", code, all, artmap_words_len(&maps.other_words) + artmap_bytes_len(&maps.other_bytes));
+    free_all(&maps);
+    free_all(&wanted);
     return 0;
 }

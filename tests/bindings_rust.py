@@ -1,7 +1,9 @@
 #!/usr/bin/env python3
 """The crate for Rust (bindings/rust) over the library that ./lib makes: its tests, its examples, and want of memory.
 
-    tests/bindings_rust.py [--of FOLDER]   FOLDER: where libart.a stands; else out, where ./lib makes it if a source is newer
+    tests/bindings_rust.py [--of FOLDER] [PART ..]   FOLDER: where libartmap.a and artmap.h stand; else out, where ./lib
+                                                     makes them if a source is newer
+The parts are the functions of this script, from `declared` to `without_library`; all, if none is named.
 Cargo builds below out/cargo, without the network. A line for each case; the last is 'N passed, M failed'.
 """
 import os
@@ -18,12 +20,16 @@ import quick
 
 CRATE = f"{TOP}/bindings/rust"
 EXAMPLES = ("films", "paths", "sizes")
-CALLS = 12  # of examples/refused.rs
-TAKE_NO_MEMORY = {9}
-TYPES = {"art *": "*mut Handle", "const uint8_t *": "*const u8", "uint8_t *": "*mut u8", "size_t *": "*mut usize",
-         "size_t ": "usize", "uint32_t ": "u32", "const art_lens *": "*const Lens", "art_lens *": "*mut Lens"}
-CLAUSES = ("specs/Calls.antt", "specs/Loads.antt", "specs/Walks.antt", "src/calls.rt")
-ANSWERS = {"art_code": "u32", "size_t": "usize", "void": ""}
+CALLS = 22  # of examples/refused.rs
+TAKE_NO_MEMORY = {5, 9, 20, 21}
+NEVER_FAIL = {1, 19}  # (a stored key's value is set in its place; a walk goes on in the room that it has)
+SANITIZED = ("--lib", "--test", "differential", "--test", "panics", "--test", "map", "--test", "keys")
+SANITIZED_CALLS = 200_000  # of tests/differential.rs, which makes a million without the sanitizer
+TYPES = {"artmap_words *": "*mut Handle", "const void *": "*const u8", "void *": "*mut u8", "size_t *": "*mut usize",
+         "size_t ": "usize", "uint32_t ": "u32", "uint64_t ": "u64", "uint64_t *": "*mut u64", "bool ": "bool",
+         "const artmap_span *": "*const RawSpan", "const artmap_words_pair *": "*const Pair"}
+ANSWERS = {"artmap_code": "u32", "size_t": "usize", "void": "", "bool": "bool"}
+STRUCTS = {"artmap_words": "Handle", "artmap_span": "RawSpan", "artmap_words_pair": "Pair"}
 TALLY = {True: 0, False: 0}
 
 
@@ -43,41 +49,52 @@ def run(words, env, **how):
 
 
 def in_header(text):
-    """The calls of art.h and the codes, with types as Rust has them."""
+    """The calls of artmap.h on words, the codes, and the fields of structs, with types as Rust has them."""
     text = re.sub(r"(?s)/\*.*?\*/", "", text)
     calls = {}
-    for answer, name, words in re.findall(r"(?s)^(\w+) (art_\w+)\((.*?)\);", text, re.MULTILINE):
+    for answer, name, words in re.findall(r"(?s)^(\w+) (artmap_words_\w+)\((.*?)\);", text, re.MULTILINE):
         kinds = [re.fullmatch(r"(.*?)\w+", " ".join(it.split()))[1] for it in words.split(",")]
         calls[name] = [TYPES.get(it, it) for it in kinds], ANSWERS[answer]
-    return calls, dict(re.findall(r"ART_(\w+) = (\d+)", text))
+    structs = {}
+    for name, fields in re.findall(r"(?s)typedef struct (artmap_\w+) \{(.*?)\}", text):
+        kinds = re.findall(r"([\w ]+?[ *]+)(\w+(?:, \w+)*);", " ".join(fields.split()))
+        structs[name] = [TYPES.get(kind.lstrip(), kind) for kind, names in kinds for _ in names.split(",")]
+    return calls, dict(re.findall(r"ARTMAP_(\w+) = (\d+)", text)), structs
 
 
 def in_crate(text):
-    extern = re.search(r'(?s)extern "C" \{(.*?)\n\}', text)[1]
     calls = {}
+    extern = re.search(r'(?s)extern "C" \{(.*?)\n\}', text)[1]
     for name, words, answer in re.findall(r"(?s)fn (\w+)\((.*?)\)\s*(?:-> (\w+))?;", extern):
         calls[name] = [it.split(":")[1].strip() for it in words.split(",")], answer
-    return calls, dict(re.findall(r"(?m)^const (\w+): u32 = (\d+);", text))
+    structs = {}
+    for name, fields in re.findall(r"(?s)#\[repr\(C\)\].*?struct (\w+) \{(.*?)\}", text):
+        structs[name] = [it.replace("c_void", "u8") for it in re.findall(r": ([^,]+),", fields)]
+    return calls, dict(re.findall(r"(?m)^const (\w+): u32 = (\d+);", text)), structs
 
 
-def declared():
-    """What src/ffi.rs declares is as art.h has it; each of its blocks names a rule and a clause that are there."""
-    text, header = read(f"{CRATE}/src/ffi.rs"), read(f"{TOP}/bindings/c/art.h")
-    (calls, codes), (all_calls, all_codes) = in_crate(text), in_header(header)
-    others = {it: calls[it] for it in calls if calls[it] != all_calls.get(it)}
-    told("the calls are those of art.h", len(calls) > 12 and not others, f"{others} of {all_calls}")
-    told("the codes are those of art.h", codes == all_codes, f"{codes} and {all_codes}")
-    clauses = "".join(read(f"{TOP}/crates/art_c/{it}") for it in CLAUSES)
-    said = re.findall(r"(?s)// SAFETY: rules? (.*?)\n\s*[^/\s]", text)
-    blocks = len(re.findall(r"\bunsafe \{", re.sub(r"//.*", "", text)))
+def declared(of):
+    """What src/ffi.rs declares is as artmap.h has it; each of its blocks names a rule and a clause that are there."""
+    text = read(f"{CRATE}/src/ffi.rs")
+    (calls, codes, structs), (all_calls, all_codes, all_structs) = in_crate(text), in_header(read(f"{of}/artmap.h"))
+    others = {it: (calls[it], all_calls.get(it)) for it in calls if calls[it] != all_calls.get(it)}
+    told("the calls are those of artmap.h", len(calls) > 12 and not others, others)
+    others = {it: (codes.get(it), all_codes[it]) for it in all_codes if codes.get(it) != all_codes[it]}
+    told("the codes are those of artmap.h", len(codes) > 12 and codes.keys() == all_codes.keys() and not others, others)
+    others = {it: (all_structs.get(it), structs.get(STRUCTS[it])) for it in STRUCTS}
+    told("the structs are those of artmap.h", all(one and one == other for one, other in others.values()), others)
+    files = glob(f"{TOP}/crates/art_c/specs/*.antt") + glob(f"{TOP}/crates/art_c/src/**/*.rt", recursive=True)
+    clauses = "".join(read(it) for it in files)
+    said = re.findall(r"(?s)// SAFETY: (.*?)\n\s*[^/\s]", text)
+    blocks = len(re.findall(r"\bunsafe (?:\{|impl)", re.sub(r"//.*", "", text)))
     told("each unsafe block has its rules", blocks and len(said) == blocks, f"{blocks} blocks, {len(said)} reasons")
     for it in said:
         it = re.sub(r"\s*//\s*", " ", it)
-        calls = re.findall(r"`(art_\w+)`", it)
-        names = re.findall(r"\b(Is[A-Z]\w+|len|kept)\b", it.split("Clause")[-1])
+        calls = re.findall(r"`artmap_(\w+)`", it)
+        names = re.findall(r"\b((?:Is|Gets)[A-Z]\w+|len|kept|store_behind)\b", it)
         is_there = calls and all(re.search(rf"fn {call}\(", clauses) for call in calls)
         is_there = is_there and all(re.search(rf"\b{name}\b", clauses) for name in names)
-        told(f"the clause of {', '.join(calls)}", is_there and (names or calls == ["art_free"]), it)
+        told(f"the clause of {', '.join(calls)}", is_there and names and "ule" in it, it)
     others = [it for it in glob(f"{CRATE}/**/*.rs", recursive=True) if not it.endswith("/src/ffi.rs")]
     found = [it for it in others if re.search(r"\bunsafe\s*(?:\{|fn|impl|extern)", re.sub(r"//.*", "", read(it)))]
     told("no other file has unsafe", not found, found)
@@ -86,10 +103,48 @@ def declared():
 def tests(env):
     """Cargo's tests, and the examples of doc comments: a case each."""
     ran = run(["cargo", "test", "--offline", "--locked", "--no-fail-fast"], env)
-    cases = re.findall(r"(?m)^test (.+?)(?: - compile fail)? \.\.\. (\w+)", ran.stdout)
+    cases = re.findall(r"(?m)^test (.+?)(?: - should panic| - compile fail)? \.\.\. (\w+)", ran.stdout)
     for name, ended in cases:
         told(name, ended == "ok", ended)
-    told("cargo test", ran.returncode == 0 and len(cases) > 40, (ran.stdout + ran.stderr)[-6000:])
+    told("cargo test", ran.returncode == 0 and len(cases) > 300, (ran.stdout + ran.stderr)[-6000:])
+
+
+def tidy(env):
+    """Neither the compiler, clippy, rustdoc nor rustfmt has a word to say; the oldest toolchain that is here builds it."""
+    target = {**env, "CARGO_TARGET_DIR": f"{env['CARGO_TARGET_DIR']}/tidy"}
+    for words in (["clippy", "--offline", "--locked", "--all-targets", "--", "-D", "warnings"],
+                  ["fmt", "--check"], ["doc", "--offline", "--locked", "--no-deps"]):
+        more = {"RUSTDOCFLAGS": "-D warnings"} if words[0] == "doc" else {}
+        ran = run(["cargo", *words], {**target, **more})
+        told(f"cargo {' '.join(words)}", ran.returncode == 0, (ran.stdout + ran.stderr)[-4000:])
+    said = re.search(r'rust-version = "([\d.]+)"', read(f"{CRATE}/Cargo.toml"))[1]
+    names = [it.split()[0] for it in run(["rustup", "toolchain", "list"], env).stdout.splitlines()]
+    versions = {}
+    for it in names:
+        found = re.match(r"rustc (\d+)\.(\d+)", run(["rustc", f"+{it}", "--version"], env).stdout)
+        if found:
+            versions[int(found[1]), int(found[2])] = it
+    if versions:
+        least = min(versions)
+        ran = run(["cargo", f"+{versions[least]}", "build", "--offline", "--locked", "--all-targets"], target)
+        told(f"the oldest toolchain here, {least[0]}.{least[1]}", ran.returncode == 0, ran.stderr[-4000:])
+        told(f"it is that which the crate names, {said}", f"{least[0]}.{least[1]}" == said, least)
+
+
+def sanitized(env):
+    """Tests with the address sanitizer, where a nightly toolchain is here: of the crate, and of its calls of malloc."""
+    names = [it.split()[0] for it in run(["rustup", "toolchain", "list"], env).stdout.splitlines()]
+    nightly = next((it for it in names if it.startswith("nightly")), None)
+    if not nightly:
+        print("no nightly toolchain is here, so there is no run under the address sanitizer: skipped")
+        return
+    env = {**env, "CARGO_TARGET_DIR": f"{env['CARGO_TARGET_DIR']}/asan", "ARTMAP_CALLS": str(SANITIZED_CALLS),
+           "RUSTFLAGS": "-Zsanitizer=address", "ASAN_OPTIONS": "detect_leaks=1"}
+    words = ["cargo", f"+{nightly}", "test", "--offline", "--locked", "--target", "x86_64-unknown-linux-gnu", *SANITIZED]
+    ran = run(words, env)
+    cases = re.findall(r"(?m)^test (.+?) \.\.\. (\w+)", ran.stdout)
+    told(f"under the address sanitizer, {len(cases)} tests", ran.returncode == 0 and len(cases) > 40,
+         (ran.stdout + ran.stderr)[-6000:])
 
 
 def examples(env, made):
@@ -124,19 +179,20 @@ def refused(env, made, room):
                 if "x" not in marks:
                     is_right, why = "|" in marks and ran.stdout.strip() == free, f"free of refusal: {ran.stdout}"
                     break
-                # (a walk may go on in the room that it has)
+                # (some calls may go on in the room that they have)
                 is_right = ran.returncode == 0 and ran.stdout.strip() in (free, f"refused kept {free}")
                 kept += ran.stdout.startswith("refused kept")
                 why = f"request {number}{rest}: {ran.stdout} {ran.stderr}"
-            is_right = is_right and (kept == 0) == (number == 1) == (call in TAKE_NO_MEMORY)
-            told(f"call {call}, {number - 1} requests refused{rest}", is_right, why)
+            is_right = is_right and (number == 1) == (call in TAKE_NO_MEMORY)
+            is_right = is_right and (kept == 0) == (call in TAKE_NO_MEMORY | NEVER_FAIL)
+            told(f"call {call}, {number - 1} requests refused{rest}", is_right, why or f"refused {kept}")
 
 
 def without_library(env, room):
     """Where the library isn't there, the build says how to make it."""
-    env = {**env, "CARGO_TARGET_DIR": f"{room}/cargo", "ART_LIB_DIR": f"{room}/nowhere"}
+    env = {**env, "CARGO_TARGET_DIR": f"{room}/cargo", "ARTMAP_LIB_DIR": f"{room}/nowhere"}
     ran = run(["cargo", "build", "--offline", "--locked"], env)
-    said = f"there is no {room}/nowhere/libart.a" in ran.stderr and "run `./lib` at the top" in ran.stderr
+    said = "artmap: no libartmap.a for" in ran.stderr and "run ./lib in the repository" in ran.stderr
     told("without the library", ran.returncode != 0 and said, ran.stderr[-2000:])
 
 
@@ -149,20 +205,24 @@ def is_made(library):
 
 
 def main():
-    of = os.path.abspath(sys.argv[2]) if sys.argv[1:2] == ["--of"] else f"{TOP}/out"
+    words = sys.argv[1:]
+    of = f"{TOP}/out"
+    if words[:1] == ["--of"]:
+        of, words = os.path.abspath(words[1]), words[2:]
     if not shutil.which("cargo"):
         told("cargo", False, "it is not on the PATH: install Rust's toolchain")
-    elif of == f"{TOP}/out" and not is_made(f"{of}/libart.a") and subprocess.run([f"{TOP}/lib"], check=False).returncode:
+    elif of == f"{TOP}/out" and not is_made(f"{of}/libartmap.a") and subprocess.run([f"{TOP}/lib"], check=False).returncode:
         told("the library", False, "./lib failed")
     else:
         target = f"{TOP}/out/cargo"
-        env = {**os.environ, "ART_LIB_DIR": of, "CARGO_TARGET_DIR": target, "CARGO_TERM_COLOR": "never"}
-        declared()
-        tests(env)
+        env = {**os.environ, "ARTMAP_LIB_DIR": of, "CARGO_TARGET_DIR": target, "CARGO_TERM_COLOR": "never"}
         with tempfile.TemporaryDirectory() as room:
-            examples(env, f"{target}/debug/examples")
-            refused(env, f"{target}/debug/examples", room)
-            without_library(env, room)
+            parts = {"declared": lambda: declared(of), "tests": lambda: tests(env), "tidy": lambda: tidy(env),
+                     "examples": lambda: examples(env, f"{target}/debug/examples"),
+                     "refused": lambda: refused(env, f"{target}/debug/examples", room),
+                     "sanitized": lambda: sanitized(env), "without_library": lambda: without_library(env, room)}
+            for it in words or parts:
+                parts[it]()
     print(f"{TALLY[True]} passed, {TALLY[False]} failed")
     sys.exit(TALLY[False] != 0)
 

@@ -2,17 +2,19 @@
 """Looks that what the README of each library shows in Rust is a caller that is proved.
 
     tests/calling.py      at the top of the repository
-Each Rust block of crates/NAME/README.md is a part of crates/NAME_tests/src/calling.rt, letter for letter (for art_lines of
-that of art_engine_tests), and each library that has such callers shows one. uses/README.md has a section for each program crates/use_NAME: its Rust block is a part
+Each Rust block of crates/art_NAME/README.md is a part of crates/callers/src/NAME.rt, letter for letter (for art_lines of
+engine.rt), and each library that has such callers shows one. uses/README.md has a section for each program crates/use_NAME: its Rust block is a part
 of src/main.rt, letter for letter, and its text blocks are stdin and stdout.
 """
+import os
 import re
 import sys
 from glob import glob
 
 
+CALLERS = "crates/callers/src"
 # Libraries whose callers stand among those of another one.
-CALLED_IN = {"art_lines": "art_engine_tests"}
+CALLED_IN = {"art_lines": "art_engine"}
 
 
 def read(path):
@@ -29,8 +31,8 @@ def blocks(kind, page):
 
 def fault(name):
     """Says what the page of a library shows that no caller is, or nothing."""
-    tests = CALLED_IN.get(name, f"{name}_tests")
-    page, source = read(f"crates/{name}/README.md"), read(f"crates/{tests}/src/calling.rt")
+    file = CALLED_IN.get(name, name).removeprefix("art_")
+    page, source = read(f"crates/{name}/README.md"), read(f"{CALLERS}/{file}.rt")
     if page is None or source is None:
         return "no callers" if source is None else "no page"
     shown = blocks("rust", page)
@@ -55,8 +57,8 @@ def use_fault(name, page):
     return None
 
 
-paths = glob("crates/*_tests/src/calling.rt")
-names = {it.split("/")[1].removesuffix("_tests") for it in paths} | {*CALLED_IN}
+files = [os.path.basename(it).removesuffix(".rt") for it in glob(f"{CALLERS}/*.rt")]
+names = {f"art_{it}" for it in files if os.path.isdir(f"crates/art_{it}")} | {*CALLED_IN}
 faults = {name: fault(name) for name in sorted(names)}
 uses = sorted(it.split("/")[1] for it in glob("crates/use_*/src/main.rt"))
 faults.update({name: use_fault(name, read("uses/README.md") or "") for name in uses})

@@ -125,9 +125,9 @@ SPECS, CRATES = {}, []
 
 
 def read_specs():
-    """Reads the definitions of all crates of crates.txt, but for those of tests."""
+    """Reads the definitions of all crates of crates.txt, but for that of callers."""
     names = re.findall(r"(?m)^(\w+)[^#\n]*:", open("crates.txt", encoding="utf-8").read())
-    CRATES.extend(it for it in names if not it.endswith("_tests"))
+    CRATES.extend(it for it in names if it != "callers")
     for crate in CRATES:
         for path in glob(f"crates/{crate}/specs/**/*.antt", recursive=True):
             spec = Spec(crate, path)

@@ -1,14 +1,13 @@
 #!/usr/bin/env python3
 """Plays each call of maps and sets over trees with a branch at each byte, by play_map, under a stack of 256 KiB.
 
-    tests/deep.py [WORD]      at the top of the repository, after rt ci; WORD: only runs that have it in their name
+    tests/deep.py [WORD]      at the top of the repository; WORD: only runs that have it in their name
 The keys are so many bytes 01 and then 00, for each number up to one below 100,000: an inner node at each byte of the
 longest, each below the one before. A call that goes down by calling itself would need more stack than there is. The
 keys share their bytes (`tails`), else they would take gigabytes. Each call of the tables of tests/maps.py is made with
 keys that are stored, absent, in conflict, and go on behind one, near the root, halfway and at the last branch, and its
 answer is held against the model's; behind a call that changes keys the checker counts the nodes of a map, of the
-deepest behind some. A call that goes down once for each of many keys is made for one length of prefixes. The program as
-the other compiler makes it plays over keys of 5,000 bytes.
+deepest behind some. The player is built without checks at run time, as a proved build is (tests/players.py).
 """
 import functools
 import itertools
@@ -22,13 +21,14 @@ import map_entries
 import map_model
 import map_words
 import maps
+import players
 import set_model
 from map_words import Pairs
 
 STACK = 256 << 10
 DEEP, SMALL = 99_999, 4_999
-# How many bytes but one the longest key has, how many bytes of a prefix a node stores, and which compiler's program.
-RUNS = (DEEP, 0, ""), (DEEP, 4, ""), (DEEP, 16, ""), (SMALL, 4, ""), (SMALL, 4, ".by-rattle")
+# How many bytes but one the longest key has, and how many bytes of a prefix a node stores.
+RUNS = (DEEP, 0), (DEEP, 4), (DEEP, 16), (SMALL, 4)
 # Where so many keys at most are gone or new they are put back one by one.
 FEW = 120
 ENDS, STEPS = "fbfb", "fbpq"
@@ -283,13 +283,13 @@ def main():
     map_words.shown = shown
     word, counts = sys.argv[1] if len(sys.argv) > 1 else "", {True: 0, False: 0}
     resource.setrlimit(resource.RLIMIT_CORE, (0, 0))
-    for kind, (size, prefix_len, by) in itertools.product(maps.KINDS, RUNS):
-        name, ended = f"play_map{by} {kind} keys of {size + 1} bytes, prefixes of {prefix_len}", "ok"
+    for kind, (size, prefix_len) in itertools.product(maps.KINDS, RUNS):
+        name, ended = f"{maps.PLAYER} {kind} keys of {size + 1} bytes, prefixes of {prefix_len}", "ok"
         if word not in name:
             continue
         lines, wanted = script_of(kind, size)
         try:
-            play(maps.PROGRAM + by, prefix_len, kind, lines, wanted)
+            play(players.program(maps.PLAYER), prefix_len, kind, lines, wanted)
         except (AssertionError, OSError, subprocess.TimeoutExpired) as why:
             ended = f"FAILED: {str(why)[:500]}"
         counts[ended == "ok"] += 1

@@ -1,11 +1,11 @@
 #!/usr/bin/env python3
-"""Checks the pages: their set and length, their claims, links, examples, language, and the sentences at public calls.
+"""Checks the pages: their set, their claims, links, examples, language, and the sentences at public calls.
 
     tests/documents.py           at the top of the repository; its last line is 'N passed, M failed'
     tests/documents.py --long    and the sentences of pages that have more than 25 words
 It proves nothing, and takes a second. It looks at these:
-- The pages are those of PAGES, and none has more lines than its budget there. No line of a page, source or definition
-  is wider than 120 columns.
+- The pages are those of PAGES, and one of each library and binding. No line of a page, source or definition is wider
+  than 120 columns.
 - In a table of docs/PROOFS.md or README.md whose heads are 'Claim' and 'Carried by', each row names public calls of
   the crates in the heading above (of a program also those below it; in README.md of any) and, behind a colon, clauses
   that these calls have. The clauses in the glossary of docs/PROOFS.md are those of some call.
@@ -14,7 +14,7 @@ It proves nothing, and takes a second. It looks at these:
   each name of a file in backquotes is there.
 - Each block of Rust is a part of a program or caller that the gate runs; each edit shown is one that is there. (Lines
   and their replies are played by tests/program.py, the pages of the crates by tests/calling.py, blocks of Python by
-  tests/bindings_python.py.)
+  tests/bindings_python.py, those of a console by tests/packages.py.)
 - Dates and hashes stand in CHANGELOG.md and docs/PERFORMANCE.md alone. The picture there is drawn from its tables.
 - docs/TESTING.md has a row for each part of ./test, in its order.
 - Sentences: in README.md and docs/TOUR.md the mean has at most 20 words; in each page at most one in ten has more than
@@ -26,23 +26,12 @@ import subprocess
 import sys
 from glob import glob
 
-sys.path.insert(0, os.path.join(os.path.dirname(os.path.dirname(os.path.abspath(__file__))), "tools"))
+import cases
 import pages
 
 WIDTH, MEAN, LONG, LONGEST, PART = 120, 20, 25, 40, 0.1
-PAGES = {
-    "README.md": 120,
-    "docs/LANGUAGE.md": 120,
-    "docs/TOUR.md": 180,
-    "docs/PROOFS.md": 220,
-    "docs/TESTING.md": 120,
-    "CONTRIBUTING.md": 120,
-    "docs/DECISIONS.md": 300,
-    "docs/PERFORMANCE.md": 250,
-    "CHANGELOG.md": 40,
-    "tests/wrong/table.md": 80,
-}
-OF_A_CRATE, OF_A_PROGRAM = 60, 75
+PAGES = ["README.md", "docs/INSTALL.md", "docs/LANGUAGE.md", "docs/TOUR.md", "docs/PROOFS.md", "docs/TESTING.md",
+         "CONTRIBUTING.md", "docs/DECISIONS.md", "docs/PERFORMANCE.md", "CHANGELOG.md", "tests/wrong/table.md", "uses/README.md"]
 SHORT = ("README.md", "docs/TOUR.md")
 DATED = ("CHANGELOG.md", "docs/PERFORMANCE.md")
 MONTHS = "January|February|March|April|May|June|July|August|September|October|November|December"
@@ -63,13 +52,6 @@ def lines_in(numbers):
     return ", ".join(map(str, numbers[:8]))
 
 
-def budget(page):
-    """The lines that a page may have, or None where it is no page of the set."""
-    if page == "uses/README.md":
-        return OF_A_PROGRAM * len(glob("crates/use_*/src/main.rt"))
-    return OF_A_CRATE if re.fullmatch(r"(crates|bindings)/\w+/README\.md", page) else PAGES.get(page)
-
-
 def of_set(found):
     for page in sorted({*PAGES} - {*found}):
         yield page, "it is not there"
@@ -78,14 +60,16 @@ def of_set(found):
             has = f"crates/{crate}/README.md" in found
             yield f"crates/{crate}/README.md", "" if has else "the library has no page"
     for page in found:
-        size, most = len(pages.read(page).split("\n")) - 1, budget(page)
-        yield page, "it is no page of the set" if most is None else f"{size} lines, of {most}" if size > most else ""
+        is_known = page in PAGES or re.fullmatch(r"(crates|bindings)/\w+/README\.md", page)
+        yield page, "" if is_known else "it is no page of the set"
 
 
 def of_width():
     for path in files():
         if path.endswith((".md", ".rt")) or (path.endswith(".antt") and "/specs/" in path):
-            wide = [at for at, line in enumerate(pages.read(path).split("\n"), 1) if len(line) > WIDTH]
+            # (rt fmt writes a line of #![tactic(..)] whole, however long it is)
+            lines = enumerate(pages.read(path).split("\n"), 1)
+            wide = [at for at, line in lines if len(line) > WIDTH and not line.startswith("#![tactic(")]
             yield path, f"wider than {WIDTH} columns: lines {lines_in(wide)}" if wide else ""
 
 
@@ -183,7 +167,7 @@ def of_links(page):
             why = f"{to} has no heading {anchor}"
         yield f"{page}: link to {target}", why
     for path in sorted({*PATH.findall(" ".join(re.findall(r"`([^`\n]+)`", text)))}):
-        if not re.search(r"NAME|PART|FILE|\bX\b|\*|SOURCE|/out\b|CRATE", path) and page not in DATED:
+        if not re.search(r"NAME|PART|FILE|\bX\b|\*|SOURCE|/out\b|CRATE|\./artmap", path) and page not in DATED:
             yield f"{page}: {path}", "" if os.path.exists(path.rstrip(".")) else "it is not there"
 
 
@@ -202,7 +186,7 @@ def blocks(kind, page):
 
 def of_examples(page):
     """Rust is of a caller or of a program that is run; tests/newcomer.py runs that of README.md."""
-    played = glob("crates/*_tests/src/*.rt") + glob("crates/use_*/src/main.rt") + glob("bindings/rust/examples/*.rs")
+    played = glob("crates/callers/src/*.rt") + glob("crates/use_*/src/main.rt") + glob("bindings/rust/examples/*.rs")
     texts = [pages.read(it) for it in played]
     kept = [pages.read(it) for it in glob("crates/*/edits/**/*.edits", recursive=True)]
     for block in blocks("rust", page):
@@ -216,7 +200,7 @@ def of_examples(page):
         is_there = any(block in it for it in kept)
         yield f"{page}: {block[:50]!r}", "" if is_there else "no file of edits has this text"
     for block in re.findall(r"(?m)^```(\w*)\n", pages.read(page))[::2]:
-        why = "" if block in ("", "rust", "edit", "text", "sh", "c", "python") else "a block of this kind is played by none"
+        why = "" if block in ("", "rust", "edit", "text", "sh", "c", "python", "console") else "a block of this kind is played by none"
         yield f"{page}: block {block}", why
 
 
@@ -275,7 +259,7 @@ def of_language(page):
 
 def main():
     found = sorted(it for it in files() if it.endswith(".md"))
-    if sys.argv[1:2] == ["--long"]:
+    if "--long" in cases.given(__doc__, "--long", words=0):
         for page in found:
             told = [it for it in sentences(page) if len(it.split()) > LONG]
             sizes = [len(it.split()) for it in sentences(page)]
@@ -296,11 +280,10 @@ def main():
         rows += of_claims(page, known) if page in found else []
     for page in found:
         rows += [*of_links(page), *of_names(page), *of_examples(page), *of_language(page)]
-    failed = [(name, why) for name, why in rows if why]
-    for name, why in failed:
-        print(f"FAILED {name}: {why}")
-    print(f"{len(rows) - len(failed)} passed, {len(failed)} failed")
-    sys.exit(bool(failed) or not rows)
+    told = cases.Tally()
+    for name, why in rows:
+        told.count(name, why, is_shown=False)
+    told.end()
 
 
 main()

@@ -27,6 +27,8 @@ import re
 import sys
 from glob import glob
 
+import cases
+
 AT_MOST = 2
 TABLE = "tests/wrong/table.md"
 FOLDERS = ("src/", "specs/", "proofs/")
@@ -343,18 +345,11 @@ def main():
         return take(words[1:], words[0] == "--take")
     if words:
         sys.exit(__doc__)
-    passed, failed = 0, 0
-    for crate in sorted(glob("crates/*")):
-        for name, why in of_one(crate):
-            passed, failed = passed + (not why), failed + bool(why)
-            if why:
-                print(f"{name}: FAILED: {why}")
-    for name, why in [*of_programs(), *of_table()]:
-        passed, failed = passed + (not why), failed + bool(why)
-        if why:
-            print(f"{name}: FAILED: {why}")
-    print(f"{passed} passed, {failed} failed")
-    sys.exit(failed > 0 or not passed)
+    told = cases.Tally()
+    for found in [*map(of_one, sorted(glob("crates/*"))), of_programs(), of_table()]:
+        for name, why in found:
+            told.count(name, why, is_shown=False)
+    told.end()
 
 
 if __name__ == "__main__":

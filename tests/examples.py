@@ -25,6 +25,8 @@ import subprocess
 import sys
 import tempfile
 
+import cases
+
 TOP = os.path.dirname(os.path.dirname(os.path.abspath(__file__)))
 # Libraries that a user reaches through those above them: their calls need no example. Those of all others do, so far as
 # the crate's root exports them, by themselves or with their type. A law, whose comment begins so, needs none.
@@ -165,10 +167,10 @@ def needed(crate, calls, exports):
 
 
 def libraries():
-    """The libraries of the repository, lowest first: all but those of tests, and those for another language."""
+    """The libraries of the repository, lowest first: all but that of callers, and those for another language."""
     with open(f"{TOP}/crates.txt", encoding="utf-8") as file:
         names = [it.split("#")[0].partition(":")[0].strip() for it in file]
-    return [it for it in names if os.path.isfile(f"{TOP}/crates/{it}/src/lib.rt") and not it.endswith("_tests")]
+    return [it for it in names if os.path.isfile(f"{TOP}/crates/{it}/src/lib.rt") and it != "callers"]
 
 
 def exported(top, crate):
@@ -246,23 +248,16 @@ def ran(room, name, uses, examples, exports):
     return why
 
 
-def case(name, why):
-    print(f"FAILED {name}: {why}" if why else f"ok {name}", flush=True)
-    return not why
-
-
-def shows_failures(why_wrong, room):
-    """Whether this script tells what is wrong: a false assertion, what doesn't compile, a call without an example."""
-    done = [case("control: a false assertion fails", "" if "left: 2" in why_wrong else f"it did not: {why_wrong}")]
+def show_failures(told, why_wrong, room):
+    """Shows that this script tells what is wrong: a false assertion, what doesn't compile, a call without an example."""
+    told.count("control: a false assertion fails", "" if "left: 2" in why_wrong else f"it did not: {why_wrong}")
     why = ran(room, "control", [], {0: Example("control", "control", NOT_RATTLE)}, {})[0]
-    done.append(case("control: what doesn't compile fails", "" if "nothing" in why else f"it did not: {why}"))
+    told.count("control: what doesn't compile fails", "" if "nothing" in why else f"it did not: {why}")
     os.makedirs(f"{room}/none/crates/control/src")
-    with open(f"{room}/none/crates/control/src/lib.rt", "w", encoding="utf-8") as file:
-        file.write(NO_EXAMPLE)
+    cases.write(f"{room}/none/crates/control/src/lib.rt", NO_EXAMPLE)
     needs = needed("control", read(f"{room}/none", "control")[1], {"control": exported(f"{room}/none", "control")})
     wrong = "" if needs == {"control::Table::bare": 0, "control::Table::shown": 1} else f"it needs {needs}"
-    done.append(case("control: a call without an example is told", wrong))
-    return done
+    told.count("control: a call without an example is told", wrong)
 
 
 def main():
@@ -286,16 +281,17 @@ def main():
         return
     if sys.argv[1:]:
         sys.exit(__doc__)
-    done = []
+    told = cases.Tally()
     for crate, count in counts.items():
-        done += [case(f"an example of {title}", "there is none") for title, number in count.items() if not number]
+        for title in (it for it, number in count.items() if not number):
+            told.count(f"an example of {title}", "there is none")
         print(f"   {crate}: {sum(map(bool, count.values()))} of {len(count)} calls that need an example have one")
     with tempfile.TemporaryDirectory() as room:
         why = ran(room, "examples", every_library, every, exports)
-        done += [case(f"{it.place} {it.item}", why[number]) for number, it in found.items()]
-        done += shows_failures(why[control], room)
-    print(f"{done.count(True)} passed, {done.count(False)} failed")
-    sys.exit(not all(done))
+        for number, it in found.items():
+            told.count(f"{it.place} {it.item}", why[number])
+        show_failures(told, why[control], room)
+    told.end()
 
 
 if __name__ == "__main__":

@@ -1,7 +1,8 @@
 #!/usr/bin/env python3
 """Fails each read and each write of art_index in turn, after each number of bytes, with its ends cut in several ways.
 
-    tests/faults.py [WORD]      at the top of the repository, after rt ci; WORD: only what has it in its name
+    tests/faults.py [--program PATH] [--quick] [WORD]    at the top of the repository, after rt ci; WORD: only what has it
+                                                         in its name; --quick: over a build without proofs
 Under tests/fault.c the lines of tests/faults.lines, which have every word of the language, are played by the program
 as both compilers make it. What is wanted follows from reference.py: after a failed read the replies to all whole lines
 so far and nothing else, after a failed write its first bytes, and the text and status of each. A read or write that
@@ -11,11 +12,10 @@ import errno
 import itertools
 import os
 import subprocess
-import sys
 
+import cases
 from reference import WORDS, Reference
 
-PROGRAM, SHIM = "crates/art_index/out/art_index", os.path.abspath("out/fault.so")
 READ, WRITE = b"art_index: read failed\n", b"art_index: write failed\n"
 # Where a fault comes once it comes after so many bytes, and so many more, and so on.
 STEP = 7
@@ -33,13 +33,8 @@ def replies(lines):
     return b"".join(model.reply(line) for line in lines)
 
 
-def build_shim():
-    os.makedirs("out", exist_ok=True)
-    subprocess.run(["cc", "-O2", "-Wall", "-shared", "-fPIC", "-o", SHIM, "tests/fault.c"], check=True)
-
-
 def run(program, text, **faults):
-    env = {"LD_PRELOAD": SHIM, **{f"FAULT_{name.upper()}": str(value) for name, value in faults.items()}}
+    env = {"LD_PRELOAD": cases.shim("fault.c"), **{f"FAULT_{name.upper()}": str(value) for name, value in faults.items()}}
     ran = subprocess.run([program], input=text, capture_output=True, env=env, timeout=60)
     return ran.stdout, ran.stderr, ran.returncode
 
@@ -108,25 +103,17 @@ CALLS = [
 
 
 def main():
-    word, counts = sys.argv[1] if len(sys.argv) > 1 else "", {True: 0, False: 0}
-    build_shim()
+    given = cases.given(__doc__, "--program=PATH", "--quick")
+    told = cases.Tally(given.word)
     with open("tests/faults.lines", "rb") as file:
         text = file.read()
     missing = set(WORDS) - {line.split(b" ")[0].decode("latin1") for line in lines_of(text)}
     assert not missing, f"tests/faults.lines has no line of {missing}"
-    for program in (PROGRAM, f"{PROGRAM}.by-rattle"):
+    for program in cases.programs(given):
         for call, cuts in itertools.product(CALLS, (0, 1, 7)):
-            name, ended = f"{os.path.basename(program)} {call.__name__}, cut to {cuts or 'nothing'}", "ok"
-            if word not in name:
-                continue
-            try:
-                call(program, text, cuts)
-            except (AssertionError, OSError, subprocess.TimeoutExpired) as why:
-                ended = f"FAILED: {str(why)[:600]}"
-            counts[ended == "ok"] += 1
-            print(f"{name}: {ended}", flush=True)
-    print(f"{counts[True]} passed, {counts[False]} failed")
-    sys.exit(bool(counts[False]) or not counts[True])
+            name = f"{os.path.basename(program)} {call.__name__}, cut to {cuts or 'nothing'}"
+            told.case(name, call, program, text, cuts)
+    told.end()
 
 
 if __name__ == "__main__":

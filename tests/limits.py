@@ -1,7 +1,8 @@
 #!/usr/bin/env python3
 """Runs art_index where memory or the stack is short: nobody dies, no reply is lost, and what was stored is dumped.
 
-    tests/limits.py [WORD [PROGRAM..]]      at the top of the repository, after rt ci; WORD: only what has it in its name
+    tests/limits.py [--program PATH] [--quick] [WORD]    at the top of the repository, after rt ci; WORD: only what has it
+                                                         in its name; --quick: over a build without proofs
 The address space is limited by the page, from the least at which the program answers to where all that is put has room.
 Under each limit some thousand puts are answered `new` or `memory`, and then a line is answered, of each kind in turn; a
 dump tells exactly what was answered `new`. And the stack is limited: 64 KiB are enough for any line.
@@ -13,17 +14,16 @@ import random
 import resource
 import signal
 import subprocess
-import sys
 
+import cases
 from reference import WORDS, Reference
 
-PROGRAM = "crates/art_index/out/art_index"
 PAGE = resource.getpagesize()
 PUTS, SEED = 3000, 7
 # Pages beyond the least, at each of which a dump is asked for; for other lines, each so many of them.
 PAGES, STEP = 200, 9
-# KiB.
-STACKS = (64, 96, 128)
+# KiB; and those that a build with run-time checks, whose frames are larger, needs at least.
+STACKS, CHECKED = (64, 96, 128), 128
 # (Linux's ADDR_NO_RANDOMIZE: what a program takes to begin with is then the same in each run)
 IN_PLACE = 0x0040000
 LIBC = ctypes.CDLL(None)
@@ -156,28 +156,23 @@ def stack_is_short(program, kib):
         assert found == told, f"{words} under {kib} KiB: {found}"
 
 
-def tests():
-    named = [(f"the stack has {it} KiB", stack_is_short, it) for it in STACKS]
+def tests(least):
+    for it in STACKS:
+        if it < least:
+            print(f"the stack has {it} KiB: not tried of a build with run-time checks, which needs {least}")
+    named = [(f"the stack has {it} KiB", stack_is_short, it) for it in STACKS if it >= least]
     return named + [(f"space is short for {it}", space_is_short, it) for it in LAST]
 
 
 def main():
-    word, counts = sys.argv[1] if len(sys.argv) > 1 else "", {True: 0, False: 0}
+    given = cases.given(__doc__, "--program=PATH", "--quick")
+    told = cases.Tally(given.word)
     missing = set(WORDS) - set(LAST)
     assert not missing, f"no line of {missing}"
-    for name, test, of in tests():
-        for program in sys.argv[2:] or (PROGRAM, f"{PROGRAM}.by-rattle"):
-            if word not in name:
-                continue
-            said = "ok"
-            try:
-                test(os.path.abspath(program), of)
-            except (AssertionError, OSError, subprocess.SubprocessError) as why:
-                said = f"FAILED: {str(why)[:600]}"
-            counts[said == "ok"] += 1
-            print(f"{os.path.basename(program)} {name}: {said}", flush=True)
-    print(f"{counts[True]} passed, {counts[False]} failed")
-    sys.exit(bool(counts[False]) or not counts[True])
+    for name, test, of in tests(CHECKED if "--quick" in given else 0):
+        for program in cases.programs(given) if told.wants(name) else ():
+            told.case(f"{os.path.basename(program)} {name}", test, program, of)
+    told.end()
 
 
 if __name__ == "__main__":

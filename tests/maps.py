@@ -2,10 +2,10 @@
 """Plays scripts of calls of maps and sets through play_map, and holds what it prints against a model (map_model.py,
 set_model.py) made from the contracts.
 
-    tests/maps.py [WORD]           at the top of the repository, after rt ci; WORD: only scripts that have it in a name
+    tests/maps.py [WORD]           at the top of the repository; WORD: only scripts that have it in a name
     tests/maps.py --show FILE      prints what the model answers to a script
 The scripts of tests/maps/ are worked rows; others are made at random from fixed seeds, or go through all small maps.
-Each is played over three lengths of stored prefixes, by the program as both compilers make it.
+Each is played over three lengths of stored prefixes, by the player that tests/players.py builds.
 """
 import itertools
 import os
@@ -14,11 +14,12 @@ import subprocess
 import sys
 from glob import glob
 
+import players
 from map_model import Model
 from map_words import FILLING, PREFIX_FILLING
 from set_model import SetModel
 
-PROGRAM = os.path.abspath("crates/play_map/out/play_map")
+PLAYER = "play_map"
 PREFIX_LENS = (0, 4, 16)
 KINDS = ("free", "ended", "set")
 # All keys of two bytes over three letters; what bounds and prefixes are made of: none, one or two of these letters, one
@@ -206,17 +207,18 @@ def main():
         print(wanted(sys.argv[2].split(".")[-2], open(sys.argv[2]).read().splitlines()), end="")
         return
     word, counts, played = sys.argv[1] if len(sys.argv) > 1 else "", {True: 0, False: 0}, 0
+    program = players.program(PLAYER)
     for name, kind, lines in itertools.chain(scripts(word), long_scripts(word)):
         model = wanted(kind, lines)
-        for prefix_len, by in itertools.product(PREFIX_LENS, ("", ".by-rattle")):
+        for prefix_len in PREFIX_LENS:
             ended = "ok"
             try:
-                play(PROGRAM + by, prefix_len, kind, lines, model)
+                play(program, prefix_len, kind, lines, model)
             except (AssertionError, OSError, subprocess.TimeoutExpired) as why:
                 ended = f"FAILED: {str(why)[:500]}"
             counts[ended == "ok"] += 1
             played += len(lines)
-            print(f"play_map{by} {name}, {kind} keys, prefixes of {prefix_len}: {ended}")
+            print(f"{PLAYER} {name}, {kind} keys, prefixes of {prefix_len}: {ended}")
     print(f"{played} lines played")
     print(f"{counts[True]} passed, {counts[False]} failed")
     sys.exit(bool(counts[False]) or not counts[True])

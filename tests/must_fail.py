@@ -5,36 +5,42 @@
     tests/must_fail.py --beside-ci        those of the gate, over the libraries that rt ci proves (out/rlibs): those of a
                                           crate once those below it are proved, in order, one crate at a time.
                                           So ./test calls it; where no ci runs, and none has, it waits
+    tests/must_fail.py --none-is-fine ..  where no edit is chosen, nothing fails
     tests/must_fail.py --anew ..          tries also what an earlier run saw refused (out/must_fail.json), of the same
                                           sources and by the same script
 All edits of a crate are carried out on one copy, and one `rattle check` judges their functions, each named by `--only`
-(tests/edits.py has their form; two of one function go in two rounds). An edit is refused where a goal of its function
-stays open, or where a written answer no longer fits its goal. It is no refusal, and fails, where the function is proved
-with it (whatever else it calls), where the text no longer applies or compiles, or where the proof only names what the
-edit took away. What rattle says stands in out/must_fail-CRATE-ROUND.log; the last line is 'N passed, M failed'.
+(tests/edits.py has their form; two of one function go in two rounds). Three things are told apart:
+- a goal of the function is open, which has no written answer: the edit is refused;
+- a written answer no longer fits its goal: the function is judged again without that answer. Where `search` then leaves
+  the goal open the edit is refused; where it proves it, the next such answer is left out; where it proves all, the edit
+  is let through;
+- a written answer names what the edit took away, and nothing else is open: that says nothing, and fails.
+It also fails where the function is proved with it (whatever else it calls), and where the text no longer applies or
+compiles. What rattle says stands in out/must_fail-CRATE-ROUND.log; the last line is 'N passed, M failed'.
 """
 import concurrent.futures
-import contextlib
 import hashlib
 import json
 import os
 import re
 import shutil
 import subprocess
-import sys
 import tempfile
 import threading
 import time
 from glob import glob
 
+import cases
 import edits
-
-sys.path.insert(0, os.path.join(os.path.dirname(os.path.dirname(os.path.abspath(__file__))), "tools"))
 import quick
 
 TOP = os.getcwd()
 PARTS, RLIBS = ("src", "specs", "proofs"), "out/rlibs"
 TREE, ENDED = f"{RLIBS}/tree", f"{RLIBS}/ended"
+# What is written behind the answers of each function that is tried. It is refused, and where an answer is, rattle does not
+# try once more what it could offer for the open goals, which takes as long as the check itself.
+NO_OFFERS = "no_offers"
+REFUSED = f"\npub {NO_OFFERS} : no_such_goal\n{NO_OFFERS} = no_such_goal\n"
 # What rattle says of an answer that names what is not there, or rests on what is not proved.
 GONE = re.compile(r"is not in scope|has no field|has no `|that can be named|was not admitted|is no name")
 
@@ -52,28 +58,83 @@ class Said:
             return False
         return bool(re.search(r"part in its proof is not made yet|it calls `.*, which (is|are) not proved", self.state))
 
-    def verdict(self, answers=""):
-        """Whether the edit of the function is refused, and by what. `answers`: what the proof of the right body has."""
+    def none(self):
+        """Why there is no verdict on the function, or None."""
+        words = "could not tell|no proof: expected `|.*the borrow checker does not cover|.*is not made yet"
+        if self.state is None or re.match(words, self.state):
+            return f"NOT JUDGED: rattle says of its function: {(self.state or 'nothing')[:300]}"
+        return None
+
+    def parted(self):
+        """The errors in written answers: those by a name that is gone, and the goals or helpers that no longer fit."""
         gone = [it for it in self.errors if GONE.search(it)]
-        fits = list(dict.fromkeys(goal_of(it) for it in self.errors if it not in gone))
-        none = "could not tell|no proof: expected `|.*the borrow checker does not cover|.*is not made yet"
-        if self.state is None or re.match(none, self.state):
-            return False, f"NOT JUDGED: rattle says of its function: {(self.state or 'nothing')[:300]}"
+        return gone, list(dict.fromkeys(goal_of(it) for it in self.errors if it not in gone))
+
+    def own(self, answers):
+        """The open goals that have no written answer of the right body's. They are of the wrong body: `search` proves them
+        of the right one, or it has no such goal. (Where a goal that has an answer is gone, a new one may be that goal by
+        another name: then only goals that go by the name of one that stays are.)"""
+        gone, _ = self.parted()
+        lost = [goal_of(it) for it in gone if goal_of(it) in answers.goals and re.search(r"\bgoal\.|Goals", it)]
+        ways = {re.sub(r"-clause-.*", "", it) for it in answers.goals if it not in lost}
+        fresh = [it for it in self.open if it not in answers.goals]
+        return [it for it in fresh if not lost or re.sub(r"-clause-.*", "", it) in ways]
+
+    def verdict(self, answers, without=()):
+        """Whether the edit of the function is refused, and by what; None where it is to be judged again without the answers
+        that no longer fit. `answers`: those of the right body; `without`: those that were left out."""
+        why = self.none()
+        gone, fits = self.parted()
+        own = [it for it in self.open if it in without] + self.own(answers)
+        if why:
+            return False, why
         if self.false:
-            return True, f"open, and false at some values: {', '.join(self.false)}"
-        # (search proves these of the right body: it has another clause's answer at the same way out, and none for them)
-        ways = set(re.findall(r"(?m)^pub (\S+-clause)-\S+ :", answers))
-        own = [it for it in self.open if re.sub(r"-clause-.*", "-clause", it) in ways and f"pub {it} :" not in answers]
-        if gone and not fits and own:
-            return True, f"open: {', '.join(own)} (its proof also names what the edit took away)"
-        if gone and not fits:
-            told = f"; goals without an answer beside it: {', '.join(self.open)}" if self.open else ""
+            told = " without its answer" if {*self.false} <= {*without} else ""
+            return True, f"open{told}, and false at some values: {', '.join(self.false)}"
+        if own:
+            told = " without its answer" if {*own} <= {*without} else ""
+            beside = " (its proof also names what the edit took away)" if gone else ""
+            return True, f"open{told}: {', '.join(dict.fromkeys(own))}{beside}"
+        if fits:
+            return None
+        if gone:
+            told = f"; open beside it: {', '.join(self.open)}" if self.open else ""
             return False, f"REFUSED BY A NAME ALONE, which its proof has and the edit took away: {gone[0][:200]}{told}"
-        if self.open or fits:
-            told = [f"open: {', '.join(self.open)}"] * bool(self.open)
-            return True, "; ".join(told + [f"its answer no longer fits: {', '.join(fits)}"] * bool(fits))
-        why = "is proved" if self.state == "proved" else "has no open goal of its own"
-        return False, f"LET THROUGH: the function {why} with it ({self.state[:160]})"
+        if self.open:
+            return True, f"open: {', '.join(self.open)}"
+        how = f", without the answers that no longer fit: {', '.join(without)}" if without else ""
+        return False, f"LET THROUGH: the function has no open goal with it{how} ({self.state[:160]})"
+
+
+class Answers:
+    """The written answers of a function: the text of their file, and what each of them is called."""
+
+    HEAD = re.compile(r"(?m)^(?:pub |abbrev |unfoldable )*(\S+) :(?=\s)")
+
+    def __init__(self, path):
+        self.text = open(path, encoding="utf-8").read() if os.path.isfile(path) else ""
+        self.names = [it[1] for it in self.HEAD.finditer(self.text)]
+        self.goals = {it for it in self.names if f" {it} : goal.{it}" in f" {self.text}"}
+
+    def parts(self):
+        """The text from one answer to the next, each with its name; None for what stands before the first."""
+        found, last = [[None, []]], None
+        for line in self.text.split("\n"):
+            made = self.HEAD.match(line)
+            if made:
+                last = made[1]
+                found.append([last, []])
+            found[-1][1].append(line)
+        return [(name, "\n".join(lines)) for name, lines in found]
+
+    def without(self, names):
+        """The text without these answers and those that name them, and all that were left out."""
+        left, more = {*names} & {*self.names}, True
+        while more:
+            uses = lambda text: any(re.search(rf"(?<![\w.-]){re.escape(it)}(?![\w-])", text) for it in left)
+            more = {name for name, text in self.parts() if name and name not in left and uses(text.partition(" =")[2])}
+            left |= more
+        return "\n".join(text for name, text in self.parts() if name not in left), left
 
 
 def goal_of(error):
@@ -86,12 +147,12 @@ def said_by(text, crate):
     """What rattle printed, by function. The notes of a function's open goals stand before its line."""
     found, waiting, errors = {}, [], []
     for line in text.split("\n"):
-        note = re.match(r"note: \S+: it is not proved that .*?\(`([^`]+)`\)(.*)", line)
+        note = re.match(r"note: \S+: (?:it is not proved that .*?|`search` found no proof )\(`([^`]+)`\)(.*)", line)
         error = re.match(r"(?:\./)?proofs/(\S+)/\w+\.antt:\d+:\d+: error: (.*)", line)
         made = re.match(rf"fn {crate}::(\S+): (.*)", line)
         if note:
             waiting.append((note[1], "at which this goal is false" in note[2]))
-        elif error and not re.match(r"\d+ declarations? that depend", error[2]):
+        elif error and not re.match(rf"\d+ declarations? that depend|`{NO_OFFERS}`", error[2]):
             errors.append((error[1].replace("/", "::"), error[2]))
         elif made:
             it = found.setdefault(made[1], Said())
@@ -160,14 +221,6 @@ def mark_tree():
     with open(f"{TREE}.part", "w", encoding="utf-8") as file:
         file.write(sum_of_tree())
     os.rename(f"{TREE}.part", TREE)
-
-
-def give_way():
-    """Leaves most of a processor to rt ci where both want it. (Linux may weigh sessions, and not processes.)"""
-    os.nice(5)
-    with contextlib.suppress(OSError):
-        with open("/proc/self/autogroup", "w", encoding="utf-8") as file:
-            file.write("5")
 
 
 def wait_for(path):
@@ -273,22 +326,56 @@ class Crate:
                 found = said_by(text, self.name)
                 waits = [it for it in chosen if found.get(it.function, Said()).waits()]
                 waits = waits if len(waits) < len(chosen) else []
-                for edit in (it for it in chosen if it not in waits):
-                    file = f"{self.room}/proofs/{edit.function.replace('::', '/')}/Answers.antt"
-                    answers = open(file, encoding="utf-8").read() if os.path.isfile(file) else ""
-                    self.tell(edit, *found.get(edit.function, Said()).verdict(answers))
+                self.judge([it for it in chosen if it not in waits], found)
                 chosen = waits
                 continue
             for edit, why in bad:
                 self.tell(edit, False, why)
             chosen = [it for it in chosen if it not in [edit for edit, _ in bad]]
 
-    def check(self, chosen):
-        """What rattle says of a copy with these edits, and the edits that keep it from judging, each with why."""
+    def answers(self, edit):
+        return f"proofs/{edit.function.replace('::', '/')}/Answers.antt"
+
+    def judge(self, chosen, found):
+        """Tells what came of edits in one check. Those by whose answers alone it shows nothing yet are judged again."""
+        left = {}
+        while chosen:
+            again = []
+            for edit in chosen:
+                said, answers = found.get(edit.function, Said()), Answers(f"{self.room}/{self.answers(edit)}")
+                verdict = said.verdict(answers, left.get(edit, ()))
+                if verdict is None:
+                    # (one goal that stays open is enough: each that is searched for costs seconds)
+                    fits = said.parted()[1]
+                    goals = [it for it in fits if it in answers.goals][:1] or fits
+                    more = answers.without([*left.get(edit, ()), *goals])[1]
+                    if more == left.get(edit, set()):
+                        verdict = False, f"NOT JUDGED: this fits no longer, and can't be left out: {', '.join(fits)}"
+                    left[edit] = more
+                if verdict is None:
+                    again.append(edit)
+                else:
+                    self.tell(edit, *verdict)
+            chosen = again
+            if chosen:
+                text, bad = self.check(chosen, left)
+                found = said_by(text, self.name)
+                for edit, why in bad:
+                    self.tell(edit, False, why)
+                chosen = [it for it in chosen if it not in [edit for edit, _ in bad]]
+
+    def check(self, chosen, left=()):
+        """What rattle says of a copy with these edits, and the edits that keep it from judging, each with why. Of those in
+        `left` some answers are left out."""
         texts = {}
         for edit in chosen:
             texts = edit.carried_out(texts)
-        was = {path: open(f"{self.room}/{path}", encoding="utf-8").read() for path in texts}
+            if edit in left:
+                texts[self.answers(edit)] = Answers(f"{self.room}/{self.answers(edit)}").without(left[edit])[0]
+        for path in (self.answers(it) for it in chosen):
+            if not os.path.exists(f"{self.room}/{path.replace('Answers', 'Proof')}"):
+                texts[path] = (texts[path] if path in texts else Answers(f"{self.room}/{path}").text) + REFUSED
+        was = {path: cases.read(f"{self.room}/{path}") if os.path.exists(f"{self.room}/{path}") else None for path in texts}
         write(self.room, texts)
         self.number += 1
         words = [*self.libraries.words(self.name), "--incremental", "kept"]
@@ -330,9 +417,12 @@ def distance(edit, path, line, texts):
 
 
 def write(folder, texts):
+    """Writes texts by their paths below a folder; one that is None is a file that goes."""
     for path, text in texts.items():
-        with open(f"{folder}/{path}", "w", encoding="utf-8") as file:
-            file.write(text)
+        if text is None:
+            os.remove(f"{folder}/{path}")
+        else:
+            cases.write(f"{folder}/{path}", text)
 
 
 def link(one, other):
@@ -366,13 +456,10 @@ def rounds(todo):
 
 
 def main():
-    flags = [it for it in sys.argv[1:] if it.startswith("--")]
-    words = [it for it in sys.argv[1:] if it not in flags]
-    if set(flags) - {"--all", "--beside-ci", "--anew"}:
-        sys.exit(__doc__)
-    libraries, kept, chosen = Libraries("--beside-ci" in flags), Kept("--anew" in flags), {}
+    given = cases.given(__doc__, "--all", "--beside-ci", "--anew", "--none-is-fine", words=1 << 20)
+    libraries, kept, chosen, words = Libraries("--beside-ci" in given), Kept("--anew" in given), {}, given.words
     for name in libraries.crates:
-        every = [it for it in edits.of_crate(f"crates/{name}") if it.gate or "--all" in flags]
+        every = [it for it in edits.of_crate(f"crates/{name}") if it.gate or "--all" in given]
         every = [it for it in every if not it.place.startswith("tests/")]
         every = [it for it in every if not words or any(word in it.title() for word in words)]
         chosen.update({name: every} if every else {})
@@ -381,15 +468,17 @@ def main():
     lanes = int(number) if number.isdigit() and int(number) else len(os.sched_getaffinity(0))
     if libraries.beside_ci:
         lanes = 1
-        give_way()
     with tempfile.TemporaryDirectory() as room, concurrent.futures.ThreadPoolExecutor(lanes) as pool:
         # (the libraries are built one by one; the crates that take longest begin first)
         order = [Crate(name, every, libraries, kept, room) for name, every in chosen.items()]
         order = order if libraries.beside_ci else order[::-1]
         told = [it for tries in pool.map(Crate.run, order) for it in tries.values()]
-    failed = sum(not refused for refused, _ in told)
-    print(f"{len(told) - failed} passed, {failed} failed")
-    sys.exit(failed > 0 or not told)
+    tally = cases.Tally()
+    tally.passed, tally.failed = (sum(refused is it for refused, _ in told) for it in (True, False))
+    if "--none-is-fine" in given and not told:
+        print(tally.last())
+        return
+    tally.end()
 
 
 if __name__ == "__main__":

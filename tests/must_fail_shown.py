@@ -8,7 +8,8 @@ import os
 import re
 import subprocess
 import sys
-import tempfile
+
+import cases
 
 SOURCE = """#![tactic(auto)]
 //! Functions whose wrong bodies are tried.
@@ -51,62 +52,135 @@ pub fn same_again(n: u64) -> u64
     let m = same(n);
     same(m)
 }
+
+/// A number that is at most another.
+pub fn at_most(n: u64) -> u64
+    ensures { result ≤ n }
+{
+    let found = same(n);
+    found
+}
+
+/// The number itself, which is not 0.
+pub fn positive(k: u64) -> u64
+    requires { 1 ≤ k }
+    ensures { result ≡ k }
+{
+    k
+}
+
+/// The number 2.
+pub fn two() -> u64
+    ensures { result ≡ 2 }
+{
+    let start = same(2);
+    let p = positive(start);
+    p
+}
+
+/// The number, counted.
+pub fn counted(n: u64) -> u64
+    ensures { result ≡ n }
+{
+    let first = same(n);
+    let mut at: u64 = 0;
+    for it in 0..first {
+        at = it + 1;
+    }
+    at
+}
 """
-ANSWERS = """use Rattle.std.proofs.Common.{◌∙◌}
+ANSWERS = {
+    "same_again/Answers": """use Rattle.std.proofs.Common.{◌∙◌}
 use Rattle.tiny.proofs.same_again.Goals as goal
 
 pub returns : goal.returns
 returns c = c.same.ensures ∙ c.same-m.ensures
-"""
-# An edit's name, its function, the text and what takes its place, and how its line goes on.
+""",
+    "at_most/Answers": """use Rattle.std.proofs.Common.{arith}
+use Rattle.tiny.proofs.at_most.Goals as goal
+
+pub returns : goal.returns
+returns c = rw c.same-found.ensures (omega arith)
+""",
+    "two/Answers": """use Rattle.std.proofs.Common.{arith}
+use Rattle.tiny.proofs.two.Goals as goal
+
+pub positive-p-requires : goal.positive-p-requires
+positive-p-requires c = omega (arith, c.same-start.ensures)
+""",
+    "counted/Answers": """use Rattle.std.proofs.Common.{arith}
+use Rattle.tiny.proofs.counted.Goals as goal
+
+pub returns : goal.returns
+returns c = omega (arith, c.same-first.ensures)
+""",
+    "counted/Invariants": """use Rattle.std.proofs.Common.{◌≡◌}
+use Rattle.tiny.proofs.counted.Given as goal
+
+abbrev pub invariant-loop-it : goal.invariant-loop-it
+invariant-loop-it l = l.at ≡ l.it
+""",
+}
+# The text of a function, and what takes its place, so that an answer names what is gone.
+FIRST = ("let first = same(n);", "let one = same(n); let first = one;")
+# An edit's name, its function, the texts with what takes their place, and how its line goes on.
 EDITS = (
-    ("smaller", "larger", "if a < b {", "if b < a {", "refused: open, and false at some values: returns"),
-    ("of_another", "same_again", "same(m)", "same(m) / 2", "refused: its answer no longer fits: returns"),
-    ("equal_body", "bit", "    0", "    1", "FAILED: LET THROUGH: the function is proved with it"),
+    ("smaller", "larger", [("if a < b {", "if b < a {")], "refused: open, and false at some values: returns"),
+    ("of_another", "same_again", [("same(m)", "same(m) / 2")], "refused: open without its answer, .*: returns"),
+    ("no_answer_fits", "at_most", [("    found", "    0")], "FAILED: LET THROUGH: .* without the answers that no longer fit"),
+    ("equal_body", "bit", [("    0", "    1")], "FAILED: LET THROUGH: the function has no open goal with it"),
     # (it calls `larger`, which another edit of its round breaks: it is tried again alone)
-    ("equal_caller", "largest", "larger(a, c)", "larger(a, b)", "FAILED: LET THROUGH: the function is proved"),
-    ("no_such_value", "same", "    n", "    m", "FAILED: IT DOES NOT COMPILE: src/lib.rt:32: .*`m`"),
-    ("name_alone", "same_again", "let m = same(n);", "let k = same(n); let m = k;", "FAILED: REFUSED BY A NAME ALONE"),
-    ("no_function", "half::bit", "    0", "    1", "FAILED: NO SUCH FUNCTION"),
-    ("gone", "same", "    n + 0", "    n + 1", "FAILED: IT NO LONGER APPLIES: its text stands 0 times"),
-    ("stands_often", "same", "same(", "other(", "FAILED: IT NO LONGER APPLIES: its text stands 3 times"),
-    ("elsewhere", "same", "larger(a, c)", "larger(c, a)", "FAILED: IT NO LONGER APPLIES: it stands in largest"),
+    ("equal_caller", "largest", [("larger(a, c)", "larger(a, b)")], "FAILED: LET THROUGH: the function has no open goal with it"),
+    ("no_such_value", "same", [("    n", "    m")], "FAILED: IT DOES NOT COMPILE: src/lib.rt:32: .*`m`"),
+    ("name_alone", "same_again", [("let m = same(n);", "let k = same(n); let m = k;")], "FAILED: REFUSED BY A NAME ALONE"),
+    ("other_name", "two", [("let p =", "let q ="), ("    p\n", "    q\n")], "FAILED: REFUSED BY A NAME ALONE"),
+    ("one_clause", "two", [("let start = same(2);", "let one = same(3); let start = one;")], "refused: open.*: returns"),
+    ("of_a_loop", "counted", [FIRST, ("at = it + 1;", "at = it;")], "refused: open.*: loop-it-preserved"),
+    ("new_way_out", "counted", [FIRST, ("at: u64 = 0;", "at: u64 = 0; if n == 7 { return 8; }")], "refused: open.*: returns"),
+    ("no_function", "half::bit", [("    0", "    1")], "FAILED: NO SUCH FUNCTION"),
+    ("gone", "same", [("    n + 0", "    n + 1")], "FAILED: IT NO LONGER APPLIES: its text stands 0 times"),
+    ("stands_often", "same", [("same(", "other(")], "FAILED: IT NO LONGER APPLIES: its text stands 6 times"),
+    ("elsewhere", "same", [("larger(a, c)", "larger(c, a)")], "FAILED: IT NO LONGER APPLIES: it stands in largest"),
 )
 
 
 def make(top):
     """Writes the crate with its edits into a folder."""
-    os.makedirs(f"{top}/crates/tiny/src")
-    os.makedirs(f"{top}/crates/tiny/proofs/same_again")
-    os.makedirs(f"{top}/crates/tiny/edits")
-    answers = "crates/tiny/proofs/same_again/Answers.antt"
-    files = {"crates.txt": "tiny:\n", "crates/tiny/src/lib.rt": SOURCE, answers: ANSWERS}
     lines = "# What is tried.\n"
-    for name, function, old, new, _ in EDITS:
-        lines += f"\nedit {name} gate\nin: {function}\nold: {old}\nnew: {new}\n"
-    for path, text in {**files, "crates/tiny/edits/lib.edits": lines}.items():
-        with open(f"{top}/{path}", "w", encoding="utf-8") as file:
-            file.write(text)
+    for name, function, pairs, _ in EDITS:
+        lines += f"\nedit {name} gate\nin: {function}\n" + "".join(f"old: {old}\nnew: {new}\n" for old, new in pairs)
+    files = {"crates.txt": "tiny:\n", "crates/tiny/src/lib.rt": SOURCE, "crates/tiny/edits/lib.edits": lines}
+    files |= {f"crates/tiny/proofs/{name}.antt": text for name, text in ANSWERS.items()}
+    for path, text in files.items():
+        cases.write(f"{top}/{path}", text)
+
+
+def line_of(said, name, wanted):
+    """The line of an edit, where it is as it must be."""
+    found = re.search(rf"(?m)^tiny/{name}: .*", said)
+    assert found and re.match(f"tiny/{name}: {wanted}", found[0]), f"{found[0] if found else 'no line'}, and not {wanted}"
+    return f"as it must be: {found[0]}"
+
+
+def ends(ran):
+    refused = sum(it[-1].startswith("refused") for it in EDITS)
+    wanted = f"\n{refused} passed, {len(EDITS) - refused} failed\n"
+    assert ran.stdout.endswith(wanted) and ran.returncode == 1, f"status {ran.returncode}, {ran.stdout[-300:]}"
 
 
 def main():
-    script, failed = os.path.abspath("tests/must_fail.py"), 0
-    with tempfile.TemporaryDirectory() as top:
+    told = cases.Tally(cases.given(__doc__, words=0).word)
+    with cases.folder() as top:
         make(top)
         how = {"cwd": top, "stdin": subprocess.DEVNULL, "text": True, "errors": "replace"}
-        ran = subprocess.run([sys.executable, "-B", script], stdout=subprocess.PIPE, stderr=subprocess.STDOUT, **how)
+        words = [sys.executable, "-B", os.path.abspath("tests/must_fail.py")]
+        ran = subprocess.run(words, stdout=subprocess.PIPE, stderr=subprocess.STDOUT, **how)
     for name, *_, wanted in EDITS:
-        found = re.search(rf"(?m)^tiny/{name}: .*", ran.stdout)
-        right = found and re.match(f"tiny/{name}: {wanted}", found[0])
-        failed += not right
-        line = found[0] if found else "no line"
-        print(f"{name}: as it must be: {line}" if right else f"{name}: FAILED: {line}, and not {wanted}")
-    refused = sum(it[-1].startswith("refused") for it in EDITS)
-    ended = ran.stdout.endswith(f"\n{refused} passed, {len(EDITS) - refused} failed\n") and ran.returncode == 1
-    failed += not ended
-    print(f"the end: {'passed' if ended else f'FAILED: status {ran.returncode}, {ran.stdout[-300:]}'}")
-    print(f"{len(EDITS) + 1 - failed} passed, {failed} failed")
-    sys.exit(failed > 0)
+        told.case(name, line_of, ran.stdout, name, wanted)
+    told.case("the end", ends, ran)
+    told.end()
 
 
-main()
+if __name__ == "__main__":
+    main()

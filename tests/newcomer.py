@@ -9,12 +9,9 @@ builds it. What it prints is looked at.
 import os
 import re
 import subprocess
-import sys
-import tempfile
 from glob import glob
 
-TOP = os.getcwd()
-sys.path.insert(0, os.path.join(os.path.dirname(os.path.dirname(os.path.abspath(__file__))), "tools"))
+import cases
 import quick
 
 PRINTED = """Office Space goes in: true
@@ -25,9 +22,8 @@ Some((StrKey("Brazil"), 5)) is the first of 2
 
 
 def block(kind, page):
-    with open(page, encoding="utf-8") as file:
-        text = file.read()
-    of_bindings = [open(it, encoding="utf-8").read() for it in glob("bindings/rust/examples/*.rs")]
+    text = cases.read(page)
+    of_bindings = [cases.read(it) for it in glob("bindings/rust/examples/*.rs")]
     found = re.findall(rf"(?m)^```{kind}\n((?:.*\n)*?)```$", text)
     found = [it for it in found if not any(it in example for example in of_bindings)]
     assert len(found) == 1, f"{page} has {len(found)} blocks of {kind}, and not one"
@@ -35,27 +31,20 @@ def block(kind, page):
 
 
 def a_map_of_ones_own(room):
-    os.symlink(TOP, f"{room}/art")
+    os.symlink(cases.TOP, f"{room}/art")
     ran = subprocess.run(["sh", "-e"], input=block("sh", "uses/README.md"), text=True, cwd=room, capture_output=True)
     assert ran.returncode == 0, ran.stderr
-    with open(f"{room}/mine/crates/films/src/main.rt", "w", encoding="utf-8") as file:
-        file.write(block("rust", "README.md"))
+    cases.write(f"{room}/mine/crates/films/src/main.rt", block("rust", "README.md"))
     said = quick.build(f"{room}/mine", "films", f"{room}/films")
     assert said is None, said
-    ran = subprocess.run([f"{room}/films"], stdin=subprocess.DEVNULL, text=True, capture_output=True, timeout=60)
-    assert (ran.stdout, ran.stderr, ran.returncode) == (PRINTED, "", 0), (ran.stdout, ran.stderr, ran.returncode)
+    cases.wants(cases.ended([f"{room}/films"], text=True), (PRINTED, "", 0))
 
 
 def main():
-    ended = "ok"
-    with tempfile.TemporaryDirectory() as room:
-        try:
-            a_map_of_ones_own(room)
-        except (AssertionError, OSError, quick.NotToBeHad, subprocess.SubprocessError) as why:
-            ended = f"FAILED: {str(why)[:2000]}"
-    print(f"a_map_of_ones_own: {ended}")
-    print("1 passed, 0 failed" if ended == "ok" else "0 passed, 1 failed")
-    sys.exit(ended != "ok")
+    told = cases.Tally(cases.given(__doc__, words=0).word)
+    with cases.folder() as room:
+        told.case("a_map_of_ones_own", a_map_of_ones_own, room)
+    told.end()
 
 
 main()

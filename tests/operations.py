@@ -2,10 +2,10 @@
 """Plays scripts of calls of the tree and its nodes through play_operations, and holds what it prints against a model
 (operations_model.py) made from the contracts.
 
-    tests/operations.py [WORD]           at the top of the repository, after rt ci; WORD: only scripts with it in a name
+    tests/operations.py [WORD]           at the top of the repository; WORD: only scripts with it in a name
     tests/operations.py --show N FILE    prints what the model answers to a script, where N bytes of a prefix are stored
 The scripts of tests/operations/ are worked rows; others are made at random from fixed seeds, and two have a tree as deep
-as its keys are long. Each is played over three lengths of stored prefixes, by the program as both compilers make it,
+as its keys are long. Each is played over three lengths of stored prefixes, by the player that tests/players.py builds,
 under a stack of 256 KiB.
 """
 import itertools
@@ -17,10 +17,11 @@ import sys
 from collections import Counter
 from glob import glob
 
+import players
 from operations_model import bytes_in, hold_tree, Inner, Model, overlap, tree_of
 
 PREFIX_LENS = (0, 4, 16)
-PROGRAM = os.path.abspath("crates/play_operations/out/play_operations")
+PLAYER = "play_operations"
 STACK = 256 << 10
 PUTS = ("insert", "insert_placed", "insert_at_point", "put_over")
 # What each line names: `k` a key, `s` one that is stored if it can be, `n` a number, `b` a bound, `c` a command.
@@ -305,19 +306,19 @@ def main():
         return
     word, counts, told = sys.argv[1] if len(sys.argv) > 1 else "", Counter(), Counter()
     sys.setrecursionlimit(50_000)
+    program = players.program(PLAYER)
     for prefix_len in PREFIX_LENS:
         for name, lines in itertools.chain(scripts(prefix_len, word=word), long_scripts(word)):
             allowed = wanted(prefix_len, lines)
             for line, those in zip(lines, allowed):
                 told.update(those if line.startswith("check") and not any("leaves" in it for it in those) else ())
-            for program in (PROGRAM, f"{PROGRAM}.by-rattle"):
-                ended = "ok"
-                try:
-                    play(program, prefix_len, lines, allowed)
-                except (AssertionError, OSError, subprocess.TimeoutExpired) as why:
-                    ended = f"FAILED: {str(why)[:500]}"
-                counts[ended == "ok"] += 1
-                print(f"{os.path.basename(program)} {name}, prefixes of {prefix_len}: {ended}")
+            ended = "ok"
+            try:
+                play(program, prefix_len, lines, allowed)
+            except (AssertionError, OSError, subprocess.TimeoutExpired) as why:
+                ended = f"FAILED: {str(why)[:500]}"
+            counts[ended == "ok"] += 1
+            print(f"{PLAYER} {name}, prefixes of {prefix_len}: {ended}")
     print("faults that stood at a check: " + ", ".join(f"{it} {number}" for it, number in sorted(told.items())))
     print(f"{counts[True]} passed, {counts[False]} failed")
     sys.exit(bool(counts[False]) or not counts[True])

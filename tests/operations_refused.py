@@ -1,7 +1,7 @@
 #!/usr/bin/env python3
 """Refuses memory to each line of the scripts of the tree in turn: each request, alone and with all later ones.
 
-    tests/operations_refused.py [WORD]   at the top of the repository, after rt ci; WORD: only lines named by it
+    tests/operations_refused.py [WORD]   at the top of the repository; WORD: only lines named by it
 Under tests/refuse.c, which says what a window is, play_operations plays each script of tests/operations but the long
 ones, and six that are made at random, once for each line of it. The line stands twice, and is refused the first time: it must answer a
 refusal that it may answer, the checker must find the tree as it was in between, and all else must be as if it stood
@@ -16,6 +16,7 @@ import subprocess
 import sys
 
 import operations
+import players
 import windows
 from operations_model import Model, bytes_in, shown
 
@@ -143,22 +144,22 @@ def main():
     resource.setrlimit(resource.RLIMIT_CORE, (0, 0))
     os.makedirs("out", exist_ok=True)
     windows.build(SHIM)
-    for by in ("", ".by-rattle"):  # as LLVM builds it, and as Rattle's own compiler does
-        for name, lines in operations.scripts(4, 6, 60, 1):
-            if name.startswith("long_"):
+    program = players.program(operations.PLAYER)
+    for name, lines in operations.scripts(4, 6, 60, 1):
+        if name.startswith("long_"):
+            continue
+        lines = lines[:180]
+        for at, line in enumerate(lines):
+            told = f"{operations.PLAYER} {name}, line {at + 1}, {line[:40]}"
+            if word not in told or line in PLAYERS_OWN:
                 continue
-            lines = lines[:180]
-            for at, line in enumerate(lines):
-                told = f"play_operations{by} {name}, line {at + 1}, {line[:40]}"
-                if word not in told or line in PLAYERS_OWN:
-                    continue
-                ended = "ok"
-                try:
-                    one_line(operations.PROGRAM + by, lines, at)
-                except (AssertionError, OSError, subprocess.TimeoutExpired) as why:
-                    ended = f"FAILED: {str(why)[:500]}"
-                counts[ended == "ok"] += 1
-                print(f"{told}: {ended}")
+            ended = "ok"
+            try:
+                one_line(program, lines, at)
+            except (AssertionError, OSError, subprocess.TimeoutExpired) as why:
+                ended = f"FAILED: {str(why)[:500]}"
+            counts[ended == "ok"] += 1
+            print(f"{told}: {ended}")
     with open("out/operations_refused.md", "w", encoding="utf-8") as file:
         for (call, told), numbers in sorted(seen_of.items()):
             file.write(f"| `{call}` | {told} | {' | '.join(map(str, numbers))} |\n")

@@ -15,6 +15,8 @@ MARK = "ART_RUN"
 # Whoever starts a process in a thread of its own holds this meanwhile. A run that is ended takes it for good.
 STARTS = threading.Lock()
 TICKS = os.sysconf("SC_CLK_TCK")
+# The words before a command that leave most of a processor to others. (Linux may weigh sessions, and not processes.)
+GIVES_WAY = ["sh", "-c", 'echo 5 2>/dev/null >/proc/self/autogroup; exec nice -n 5 "$@"', "sh"]
 # (Linux's PF_KTHREAD, among the flags of a process)
 KERNEL_THREAD = 0x0020_0000
 

@@ -1,57 +1,31 @@
 #!/usr/bin/env python3
 """Runs art_index as others see it: its replies, its statuses and texts, its replies while it waits, its system calls.
 
-    tests/program.py [--program PATH] [WORD]     at the top of the repository, after rt ci; WORD: only tests that have it
-                                                 in their name
+    tests/program.py [--program PATH] [--quick] [WORD]   at the top of the repository, after rt ci; WORD: only tests that
+                                                         have it in their name
 Each test runs both of the programs that rt ci has built, as LLVM and as Rattle's own compiler make it, or one that is
-built otherwise, at PATH (then ./run, which starts what rt ci has built, is not tried). The first tests are worked rows:
+built otherwise: at PATH, or without proofs (--quick). Then ./run, which starts what rt ci has built, is not tried. The first tests are worked rows:
 the lines of tests/rows/NAME.lines are answered by tests/rows/NAME.replies, which were written by hand and not by a
 program, however the lines are cut, and the model of tests/reference.py answers the same.
 """
 import os
 import re
 import select
-import signal
 import subprocess
-import sys
 import tempfile
 import time
 from functools import partial
 from glob import glob
 
+import cases
 import faults
+from cases import LIMIT, end_group, ended, wants
 from reference import Reference
 
-PROGRAM = os.path.abspath("crates/art_index/out/art_index")
 FIRST_RUN = b"put 7 0a0b 6869\nget 7 0a0b\nget 8 0a0b\n"
 FIRST_REPLIES = b"new\nis 6869\nnone\n"
-LIMIT = 60  # seconds, which no wait exceeds
 # A text is cut at each place, unless it is longer: then at each so many, at its end, and around the longest line.
 SHORT, STEP, END, LONGEST = 1000, 97, 20, 4096
-
-
-def ended(words, input=None, **how):
-    """Runs a program to its end, and gives what it wrote to standard output and to standard error, and its status."""
-    how.setdefault("stdout", subprocess.PIPE)
-    how.setdefault("stdin", subprocess.PIPE if input is not None else subprocess.DEVNULL)
-    with subprocess.Popen(words, stderr=subprocess.PIPE, start_new_session=True, **how) as ran:
-        try:
-            out, err = ran.communicate(input, timeout=LIMIT)
-        finally:
-            end_group(ran)
-    return out, err, ran.returncode
-
-
-def end_group(ran):
-    """Ends a program that has not ended, and what it started, so that nothing holds a pipe which is waited for."""
-    try:
-        os.killpg(ran.pid, signal.SIGKILL)
-    except OSError:
-        pass
-
-
-def wants(found, wanted):
-    assert found == wanted, f"{found} and not {wanted}"
 
 
 def places_in(text):
@@ -360,25 +334,15 @@ def tests():
 
 
 def main():
-    words, programs, counts = sys.argv[1:], (PROGRAM, f"{PROGRAM}.by-rattle"), {True: 0, False: 0}
-    if words[:1] == ["--program"]:
-        programs, words = (os.path.abspath(words[1]),), words[2:]
+    given = cases.given(__doc__, "--program=PATH", "--quick")
+    told = cases.Tally(given.word)
+    if given.flags:
         TESTS.remove(first_run_by_the_script)
-    word = words[0] if words else ""
-    faults.build_shim()
     for name, test in tests():
-        for program in programs:
-            if word not in name:
-                continue
-            ended_as = "ok"
-            try:
-                test(program)
-            except (AssertionError, OSError, StopIteration, subprocess.TimeoutExpired) as why:
-                ended_as = f"FAILED: {str(why)[:600]}"
-            counts[ended_as == "ok"] += 1
-            print(f"{os.path.basename(program)} {name}: {ended_as}", flush=True)
-    print(f"{counts[True]} passed, {counts[False]} failed")
-    sys.exit(bool(counts[False]) or not counts[True])
+        for program in cases.programs(given) if told.wants(name) else ():
+            told.case(f"{os.path.basename(program)} {name}", test, program)
+    told.end()
 
 
-main()
+if __name__ == "__main__":
+    main()

@@ -8,10 +8,9 @@ which the toolchain names itself (tools/quick.py). It is true once ./test has pa
 line that is told is what to commit.
 """
 import os
-import sys
 import time
 
-sys.path.insert(0, os.path.join(os.path.dirname(os.path.dirname(os.path.abspath(__file__))), "tools"))
+import cases
 import quick
 
 HEAD = "# When ./test passed last, and the sum of the text that it passed; 'tests/record.py --write' writes this.\n"
@@ -36,21 +35,15 @@ def wrong():
 
 
 def main():
-    if sys.argv[1:] == ["--write"]:
-        with open(quick.RECORD, "w", encoding="utf-8") as file:
-            file.write(f"{HEAD}{line()}\n")
+    if "--write" in cases.given(__doc__, "--write", words=0):
+        cases.write(quick.RECORD, f"{HEAD}{line()}\n")
         print(line())
         return
-    if sys.argv[1:]:
-        sys.exit(__doc__)
-    why = wrong()
+    told, why = cases.Tally(), wrong()
     if why:
-        print(f"FAILED record: {why}. Where all else passes, commit the line that 'tests/record.py --write' writes:")
-        print(f"FAILED record: {line()}")
-    else:
-        print(f"record: {' '.join(quick.recorded('.'))} is of this tree")
-    print(f"{int(not why)} passed, {int(bool(why))} failed")
-    sys.exit(bool(why))
+        why = f"{why}. Where all else passes, commit the line that 'tests/record.py --write' writes: {line()}"
+    told.count("record", why, told=f"{' '.join(quick.recorded('.') or ())} is of this tree")
+    told.end()
 
 
 main()

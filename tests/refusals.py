@@ -1,13 +1,13 @@
 #!/usr/bin/env python3
-"""Refuses memory to what rt ci has proved and built: each request of a call in turn, alone and with all later ones.
+"""Refuses memory to calls of the libraries and lines of the program: each request in turn, alone and with all later ones.
 
-    tests/refusals.py [WORD]      at the top of the repository; WORD: only what has it in its name
+    tests/refusals.py [--program PATH | --quick] [WORD]    at the top of the repository; WORD: only what has it in its name
+art_index is that which rt ci has built, by both compilers; with --program that at PATH, with --quick one without proofs.
 Under tests/refuse.c, which says what a window is, it runs
-- each #[test] once with nothing refused, and it must pass; then each that opens windows by eprintln!(rt; "refuse") and
-  closes each by eprintln!(rt; "ok") or "refused",
-- each scenario of crates/refusals, named by the lines 'scenario NAME' of its file stdout,
+- the player `refusals` (tests/players.py), which must write tests/refusals.scenarios, and each scenario of it, a line
+  'scenario NAME' and those behind it,
 - art_index over tests/refusals.lines with nothing refused: it must answer tests/refusals.replies, in which no line is
-  refused,
+  refused, by the program as both compilers make it,
 - each of these lines: the line stands twice, and is refused the first time. It must answer `memory` then, and all else
   must be as if it stood once. Only lines that may be refused by the definition may ask for memory.
 - each script of tests/maps, and the first lines of six that are made at random, line by line likewise, by play_map;
@@ -23,16 +23,17 @@ import re
 import resource
 import subprocess
 import sys
-from glob import glob
 
 import map_model
 import map_words
 import maps
+import players
 import reference
 import windows
 
-SCENARIOS, PROGRAM, REFUSED, CONFLICT = "refusals", "art_index", b"memory\n", b"conflict\n"
-# A scenario or test whose name ends so must ask for nothing in its window, and each other must ask for something.
+SCENARIOS, TOLD = "refusals", "tests/refusals.scenarios"
+PROGRAM, REFUSED, CONFLICT = "art_index", b"memory\n", b"conflict\n"
+# A scenario whose name ends so must ask for nothing in its window, and each other must ask for something.
 NO_MEMORY = "takes_no_memory"
 # Calls of the map that take out or put in several pairs, one by one, and calls that take no memory.
 SEVERAL = {"retain", "extract_if", "extraction", "extend", "from_vec", "from_iter"}
@@ -67,7 +68,15 @@ TAKE_NONE |= {"read_get", "read_prefix_get", "read_prefix", "read_range"}
 # First words of replies that list nothing.
 REPLIES = {"new", "old", "conflict", "over", "is", "none", "at", "gone", "bounds", "bytes", "dropped", "bad"}
 SHIM = os.path.abspath("out/refuse.so")
-word = sys.argv[1] if len(sys.argv) > 1 else ""
+given = sys.argv[1:]
+PROGRAMS = [f"crates/{PROGRAM}/out/{PROGRAM}{by}" for by in ("", ".by-rattle")]
+if given[:1] == ["--program"]:
+    PROGRAMS = [os.path.abspath(given[1])]
+    given = given[2:]
+elif given[:1] == ["--quick"]:
+    PROGRAMS = [os.path.abspath(players.quick.kept(players.quick.TOP))]
+    given = given[1:]
+word = given[0] if given else ""
 counts, runs, requests = {True: 0, False: 0}, 0, 0
 # Of each call and kind of keys, and of each word of the program and reply: its lines, those that made no request, the
 # most requests that one made, and the runs in which one was refused.
@@ -109,23 +118,19 @@ def states(out):
     return {when: [rest for it, _, rest in lines if it == when] for when, _, _ in lines}
 
 
-def calls(name, words, prints_states):
-    """Calls in windows. A test asserts what each leaves; a scenario has one window, and prints it."""
+def scenario(name, wanted):
+    """A call in a window: it prints what stands before it, and what is left."""
+    words = [players.program(SCENARIOS), name]
     seen, free, err = run(words, "0")
-    assert err == said(seen) and (seen.count("|") == 1 or not prints_states), f"windows {seen} say {err}"
+    assert free == wanted, f"it writes {free}"
+    assert err == said(seen) and seen.count("|") == 1, f"windows {seen} say {err}"
     assert ("." not in seen) == name.endswith(NO_MEMORY), f"the calls make {seen.count('.')} requests"
     for label, out, err, wanted in each_refusal(words):
         assert err == wanted, f"{label}: it says {err}"
-        if prints_states:
-            was, now = states(free), states(out)
-            assert now["before"] == was["before"], f"{label}: another state before: {out}"
-            assert now["after"] == now["before"], f"{label}: the refused call changed the state: {out}"
-            assert now.get("again") == was["after"], f"{label}: the second call left another state: {out}"
-
-
-def fails(ran):
-    """A test that fails though nothing is refused: no window of it tells anything then."""
-    raise AssertionError(f"status {ran.returncode}: {ran.stdout[-300:]} {ran.stderr[-300:]}")
+        was, now = states(free), states(out)
+        assert now["before"] == was["before"], f"{label}: another state before: {out}"
+        assert now["after"] == now["before"], f"{label}: the refused call changed the state: {out}"
+        assert now.get("again") == was["after"], f"{label}: the second call left another state: {out}"
 
 
 def one_line(words, lines, at):
@@ -161,13 +166,13 @@ def free_run(words, lines, wanted):
 
 def start(words, lines, replies):
     """Refused before it reads its first line, the program counts its arguments as wrong, and has answered nothing. For
-    its replies a smaller room serves where one is refused; without any it says that it can't write."""
-    ends = [(b"", b"art_index: takes no arguments\n"), (replies, b""), (b"", b"art_index: write failed\n")]
+    its replies a smaller room serves where one is refused; without any they leave one by one."""
+    ends = [(b"", b"art_index: takes no arguments\n"), (replies, b"")]
     met = set()
-    for label, out, err, _ in each_refusal(words, line=0, given=b"".join(lines), statuses=(0, 1, 2)):
+    for label, out, err, _ in each_refusal(words, line=0, given=b"".join(lines), statuses=(0, 2)):
         assert (out, err) in ends, f"{label}: it answers {out[-100:]} and says {err}"
         met.add(ends.index((out, err)))
-    assert met == {0, 1, 2}, f"only {met} of {ends}"
+    assert met == {0, 1}, f"only {met} of {ends}"
 
 
 def count(kind, name, call, *given):
@@ -182,27 +187,21 @@ def count(kind, name, call, *given):
     print(f"{kind} {name}: {runs - had} runs, {ended}")
 
 
-def of_tests():
-    for program in sorted(glob("crates/*/out/*_tests")):
-        listed = subprocess.run([program, "--list"], capture_output=True, text=True, check=True, timeout=60).stdout
-        for test in re.findall(r"(?m)^(.+): test$", listed):
-            free = subprocess.run([program, test], capture_output=True, timeout=60)
-            if free.returncode:
-                count(program, test, fails, free)
-            elif b"refuse\n" in free.stderr:
-                count(program, test, calls, test, [program, test], False)
+def tells_all(wanted):
+    out = run([players.program(SCENARIOS)], "0")[1]
+    assert out == wanted, f"it writes {out[-300:]}"
 
 
-def of_scenarios(by):
-    names = f"crates/{SCENARIOS}/stdout"
-    program = f"crates/{SCENARIOS}/out/{SCENARIOS}{by}"
-    if os.path.exists(names):
-        for name in [it.split()[1] for it in open(names) if it.startswith("scenario ")]:
-            count(program, name, calls, name, [program, name], True)
+def of_scenarios():
+    with open(TOLD, "rb") as file:
+        told = file.read()
+    count(SCENARIOS, "all, with nothing refused", tells_all, told)
+    for part in re.findall(rb"(?m)^scenario .+\n(?:(?!scenario ).*\n)*", told):
+        name = part.splitlines()[0].decode().split()[1]
+        count(SCENARIOS, name, scenario, name, part)
 
 
-def of_program(by):
-    program = f"crates/{PROGRAM}/out/{PROGRAM}{by}"
+def of_program(program):
     with open("tests/refusals.lines", "rb") as script, open("tests/refusals.replies", "rb") as told:
         lines, replies = script.readlines(), told.read()
     count(program, "free run", free_run, [program], lines, replies)
@@ -249,7 +248,7 @@ def builds_all(call, model, kind):
     return is_first and all(one < other for one, other in zip(given, given[1:]))
 
 
-def one_call(words, kind, lines, at, model, before):
+def one_call(kind, lines, at, model, before):
     """A line of a script stands twice, and is refused the first time. Both maps are looked at in between, and all must
     be as if the line stood once. Of a line that takes out or puts in several pairs, those before the refused one are
     gone, or stand there, and of a line that hands over a bag nothing is left in it. Where a line does without what it
@@ -258,10 +257,10 @@ def one_call(words, kind, lines, at, model, before):
     call, behind = lines[at].split(" ")[0], look(kind, model) + lines[at:]
     has_room = call == "extend" and 0 < len(model.bag) <= model.room
     title = WITH_ROOM if has_room else call, "set" if kind == "set" else "map"
-    twice = "".join(f"{it}\n" for it in [words[1], *lines[: at + 1], *behind]).encode()
+    twice = "".join(f"{it}\n" for it in [f"map 4 {kind}", *lines[: at + 1], *behind]).encode()
     free, refused = played(model.again(), behind), 0
     whole = played(model.again(), [lines[at], *behind]) if call in BUILDING else None
-    for label, out, *_ in each_refusal(words[:1], line=at + 2, given=twice):
+    for label, out, *_ in each_refusal([players.program(maps.PLAYER)], line=at + 2, given=twice):
         assert out.startswith(before), f"{label}: it answers {out[-300:]}"
         rest = out[len(before) :]
         if rest == whole:
@@ -288,17 +287,17 @@ def is_cut(model, refuse, line, behind, rest):
     return rest.startswith(answers) and b"memory" in answers and rest == answers + played(model.again(), behind)
 
 
-def made_new(words, first):
+def made_new(first):
     """A map or set with no pairs, or two, is made with every request refused."""
-    seen = run(words, "1+", line=1, given=f"{first}\nlen\n".encode())[0]
+    seen = run([players.program(maps.PLAYER)], "1+", line=1, given=f"{first}\nlen\n".encode())[0]
     assert seen == "|", f"it makes requests: {seen}"
 
 
-def of_players(by):
+def of_players():
     """The scripts of the map, and some more that are made at random."""
     for kind, size in itertools.product(maps.KINDS, maps.PREFIX_LENS):
         first = f"map {size} {kind}"
-        count("play_map", f"new, {first}", made_new, [f"crates/play_map/out/play_map{by}"], first)
+        count(maps.PLAYER, f"new, {first}", made_new, first)
     for name, kind, lines in maps.scripts():
         at_random = name.startswith("random")
         first = len(lines) if not at_random else 60 if int(name.split()[1]) <= 5 else 0
@@ -306,9 +305,8 @@ def of_players(by):
         for at, line in enumerate(lines):
             call = line.split(" ")[0]
             if call not in PLAYERS_OWN and (at < first or call in RARE and model.size() <= MOST):
-                words = [f"crates/play_map/out/play_map{by}", f"map 4 {kind}"]
                 title, some = f"{name}, line {at + 1}, {line[:40]}", lines[: at + 20]
-                count("play_map", title, one_call, words, kind, some, at, model.again(), before)
+                count(maps.PLAYER, title, one_call, kind, some, at, model.again(), before)
             before += played(model, [line])
 
 
@@ -328,22 +326,21 @@ def table():
     every = {"map": [*maps.CALLS, *maps.FREE, *maps.ENDED_CALLS, "reserve", WITH_ROOM], "set": maps.SET_CALLS}
     for of, calls_of in every.items():
         missing = [it for it in calls_of if (it, of) not in told]
-        count("play_map", f"each call of a {of} has a line that is refused", enough, -len(missing), 0)
+        count(maps.PLAYER, f"each call of a {of} has a line that is refused", enough, -len(missing), 0)
     for call, of in sorted(told):
         if call not in TAKE_NONE | KEY_ALONE:
-            count("play_map", f"refusals of {call} of a {of}", enough, told[call, of][3], LEAST.get(call, 1))
+            count(maps.PLAYER, f"refusals of {call} of a {of}", enough, told[call, of][3], LEAST.get(call, 1))
         if call in WITHOUT:
-            count("play_map", f"{call} of a {of} that does without", enough, without[call, of], WITHOUT[call])
+            count(maps.PLAYER, f"{call} of a {of} that does without", enough, without[call, of], WITHOUT[call])
 
 
 resource.setrlimit(resource.RLIMIT_CORE, (0, 0))
 os.makedirs("out", exist_ok=True)
 windows.build(SHIM)
-of_tests()
-for by in ("", ".by-rattle"):  # as LLVM builds them, and as Rattle's own compiler does
-    of_scenarios(by)
-    of_program(by)
-    of_players(by)
+of_scenarios()
+for path in PROGRAMS:
+    of_program(path)
+of_players()
 table()
 print(f"{counts[True]} passed, {counts[False]} failed")
 sys.exit(bool(counts[False]) or not counts[True])

@@ -15,12 +15,10 @@ import random
 import resource
 import subprocess
 import sys
-import tempfile
 import time
 
-sys.path.insert(0, os.path.join(os.path.dirname(os.path.dirname(os.path.abspath(__file__))), "tools"))
+import cases
 import limits
-import quick
 from reference import WORDS, Reference, parsed
 
 program, shim, least = "crates/art_index/out/art_index", None, 0
@@ -197,24 +195,26 @@ def counted(name):
 
 def main():
     global program, shim, least
-    minutes = float(sys.argv[1]) if len(sys.argv) > 1 else 1
-    seed = int(sys.argv[2]) if len(sys.argv) > 2 else random.randrange(1 << 40)
-    program = os.path.abspath(sys.argv[3] if len(sys.argv) > 3 else program if os.path.exists(program) else quick.kept("."))
+    words = cases.given(__doc__, words=3).words
+    if not all(it.isdigit() for it in words[:2]):
+        sys.exit(__doc__)
+    minutes = int(words[0]) if words else 1
+    seed = int(words[1]) if len(words) > 1 else random.randrange(1 << 40)
+    program = os.path.abspath(words[2] if len(words) > 2 else program if os.path.exists(program) else cases.kept())
     start, runs = time.monotonic(), 0
     print(f"first seed {seed}, {os.path.relpath(program)}", flush=True)
-    with tempfile.TemporaryDirectory() as room:
-        shim = f"{room}/fault.so"
-        subprocess.run(["cc", "-O2", "-Wall", "-shared", "-fPIC", "-o", shim, "tests/fault.c"], check=True)
-        least = limits.least_of(is_answering)
-        while time.monotonic() - start < 60 * minutes:
-            told["faults"][play(seed + runs)] += 1
-            runs += 1
-            if runs % 1000 == 0:
-                minute = (time.monotonic() - start) / 60
-                print(f"{minute:.0f} min: {runs} scripts", file=sys.stderr, flush=True)
+    shim = cases.shim("fault.c")
+    least = limits.least_of(is_answering)
+    while time.monotonic() - start < 60 * minutes:
+        told["faults"][play(seed + runs)] += 1
+        runs += 1
+        if runs % 1000 == 0:
+            minute = (time.monotonic() - start) / 60
+            print(f"{minute:.0f} min: {runs} scripts", file=sys.stderr, flush=True)
     print(f"{runs} scripts, {sum(told['lines'].values())} lines, no difference")
     print(f"scripts by what was to go wrong: {counted('faults')}\nmet: {counted('met')}")
     print(f"lines: {counted('lines')}\nrefused: {counted('refused')}")
 
 
-main()
+if __name__ == "__main__":
+    main()

@@ -4,7 +4,8 @@ each type or predicate that its proofs/ export, is defined by that crate alone. 
 import collections
 import os
 import re
-import sys
+
+import cases
 
 TOP = os.path.dirname(os.path.dirname(os.path.abspath(__file__)))
 # Lemmas are called by what they say, and that may be the same of two things: they begin with a small letter, or have a
@@ -32,6 +33,7 @@ def exported(path, all_names):
 
 
 def main():
+    cases.given(__doc__, words=0)
     defines = collections.defaultdict(lambda: collections.defaultdict(list))
     for crate in sorted(os.listdir(f"{TOP}/crates")):
         for room in ("specs", "proofs"):
@@ -41,14 +43,12 @@ def main():
                         path = f"{folder}/{file}"
                         for name in exported(path, room == "specs"):
                             defines[name][crate].append(os.path.relpath(path, TOP))
-    failed = 0
+    told = cases.Tally()
     for name, crates in sorted(defines.items()):
-        if len(crates) > 1:
-            failed += 1
-            print(f"FAILED {name}: defined by " + " and ".join(path for paths in crates.values() for path in paths))
-    print(f"{len(defines) - failed} passed, {failed} failed")
-    return 1 if failed else 0
+        paths = " and ".join(path for paths in crates.values() for path in paths)
+        told.count(name, f"defined by {paths}" if len(crates) > 1 else None, is_shown=False)
+    told.end()
 
 
 if __name__ == "__main__":
-    sys.exit(main())
+    main()

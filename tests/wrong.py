@@ -5,7 +5,7 @@
 It is a part of ./test. Each row of tests/wrong/programs.lines names an edit as CRATE/NAME (tests/edits.py has their form
 and their places), the program that is built with it, and a run of tests/ with its word. The run must pass with the
 program as it is, and fail with the edit. What it says is in out/wrong-NAME-PROGRAM.log; at the end stands how much
-processor time all took. Of a crate of tests, `rt try --test` runs the tests: those that are named must fail.
+processor time all took.
 
 A program is built once for all its edits, on a copy of the repository, from sources as tools/quick.py tells. Each
 function that an edit stands in begins with a wrong body beside its own, which runs only where `art_bytes::wrong_body`
@@ -23,6 +23,7 @@ from glob import glob
 
 sys.path.insert(0, os.path.join(os.path.dirname(os.path.dirname(os.path.abspath(__file__))), "tools"))
 import edits
+import players
 import quick
 
 TOP, ROWS = os.getcwd(), "tests/wrong/programs.lines"
@@ -54,20 +55,27 @@ def body_around(text, at):
     return (brace.end(), end.start()) if brace and brace.end() <= at < end.start() else None
 
 
+def adds_field(old, new):
+    """Whether an edit only puts another field behind one, where a value is made."""
+    pattern = re.compile(r" *\w+: [^;{}]*,")
+    return bool(pattern.fullmatch(old) and new.startswith(old) and pattern.fullmatch(new[len(old) :]))
+
+
 class Switched:
     """A copy of the repository whose functions have wrong bodies beside their own, each under its number."""
 
     def __init__(self, top, chosen):
         self.top, self.wrong = top, {}
-        # (what an edit puts outside of bodies is there for all; only its own bodies use it)
+        # (what an edit puts outside of bodies is there for all, and a field that it adds; only its own bodies use it)
         for edit in chosen.values():
             for path, old, new in self.pairs(edit):
-                if not self.place(edit, path, old):
+                if adds_field(old, new) or not self.place(edit, path, old):
                     text = self.read(f"{edit.crate}/{path}")
                     self.put(f"{edit.crate}/{path}", text.replace(old, new))
         for number, edit in chosen.items():
             for path, old, new in self.pairs(edit):
-                if place := self.place(edit, path, old):
+                place = None if adds_field(old, new) else self.place(edit, path, old)
+                if place:
                     text = self.read(f"{edit.crate}/{path}")
                     bodies = self.wrong.setdefault((f"{edit.crate}/{path}", *place), {})
                     bodies[number] = bodies.get(number, text[slice(*place)]).replace(old, new)
@@ -103,19 +111,30 @@ class Switched:
         self.put("crates/art_bytes/src/lib.rt", self.read("crates/art_bytes/src/lib.rt") + SWITCH)
 
 
-def plain_toolchain(room, kept, toolchain_in=quick.toolchain_in):
-    """A toolchain whose compiler folds no call."""
-    return toolchain_in(room, kept, quick.CLANG.replace("-O3", "-O0"))
+def is_player(program):
+    return os.path.isdir(f"{TOP}/{players.FOLDER}/{program}")
+
+
+def sources(program, to):
+    """Copies what a program is built of."""
+    return players.copied(TOP, to, program) if is_player(program) else quick.copied(TOP, to)
+
+
+def place(program, room):
+    """Where, below the top, the runs of tests/ find a program that is built."""
+    if is_player(program):
+        return players.path_of(sources(program, f"{room}/{program}.right"), program)
+    return f"crates/{program}/out/{program}"
 
 
 def built(room, program, chosen):
     """Gives the bytes of the program with wrong bodies, each under its number. What was built is kept in out/wrong."""
-    switched = Switched(quick.copied(TOP, f"{room}/{program}"), chosen)
+    switched = Switched(sources(program, f"{room}/{program}"), chosen)
     switched.write()
     kept = f"{TOP}/out/wrong/{program}-{quick.digest(switched.top, quick.BUILT_OF)[:16]}"
     if not os.path.exists(kept):
-        quick.toolchain_in = plain_toolchain
-        said = quick.build(switched.top, program, f"{room}/{program}.made")
+        # (compiled so that no call is folded)
+        said = quick.build(switched.top, program, f"{room}/{program}.made", quick.CLANG.replace("-O3", "-O0"))
         if said:
             raise ValueError(f"{program} was not built: {said}")
         for it in glob(f"{TOP}/out/wrong/{program}-*"):
@@ -135,17 +154,18 @@ def limit():
     resource.setrlimit(resource.RLIMIT_CORE, (0, 0))
 
 
-def counts_of(copy, made, number, row, log):
-    """Plays the run of a row with the wrong body of a number, and returns how many of its cases passed and failed."""
+def counts_of(copy, at, made, number, row, log):
+    """Plays the run of a row with the wrong body of a number, in the program at a place in a copy of the repository.
+    Returns how many of its cases passed and failed."""
     _, program, runner, word = row
-    out = f"{copy}/crates/{program}/out"
-    os.makedirs(out, exist_ok=True)
+    path = f"{copy}/{at}"
+    os.makedirs(os.path.dirname(path), exist_ok=True)
     # (a run plays what both compilers make; in place of the other one's it has the program as it is)
-    bodies = {program: number, f"{program}.by-rattle": RIGHT}
+    bodies = {path: number} if is_player(program) else {path: number, f"{path}.by-rattle": RIGHT}
     for it, of_it in bodies.items():
-        with open(f"{out}/{it}", "wb") as file:
+        with open(it, "wb") as file:
             file.write(made.replace(RIGHT.to_bytes(8, "little"), of_it.to_bytes(8, "little")))
-        os.chmod(f"{out}/{it}", 0o755)
+        os.chmod(it, 0o755)
     words = [sys.executable, "-uB", f"tests/{runner}", *([word] if word else [])]
     how = {"cwd": copy, "stdin": subprocess.DEVNULL, "stderr": subprocess.STDOUT, "preexec_fn": limit}
     with open(log, "wb") as file:
@@ -157,41 +177,19 @@ def counts_of(copy, made, number, row, log):
     return int(found[1]), int(found[2])
 
 
-def play(copy, made, number, row, right):
+def play(copy, at, made, number, row, right):
     """Plays the run of a row without its wrong body and with it. Returns how it went, or raises ValueError."""
     edit, program, runner, word = row
     name = edit.partition("/")[2]
     if (program, runner, word) not in right:
-        right[program, runner, word] = counts_of(copy, made, RIGHT, row, f"{TOP}/out/wrong-right-{program}.log")
+        right[program, runner, word] = counts_of(copy, at, made, RIGHT, row, f"{TOP}/out/wrong-right-{program}.log")
     passed, failed = right[program, runner, word]
     if not passed or failed:
         raise ValueError(f"{runner} {word} fails without the edit: {passed} passed, {failed} failed")
-    passed, failed = counts_of(copy, made, number, row, f"{TOP}/out/wrong-{name}-{program}.log")
+    passed, failed = counts_of(copy, at, made, number, row, f"{TOP}/out/wrong-{name}-{program}.log")
     if not failed:
         raise ValueError(f"LET THROUGH by {runner} {word}: {passed} passed")
     return f"refused by {runner} {word}: {passed} passed, {failed} failed"
-
-
-def play_test(copy, row):
-    """Runs the tests of a crate with the wrong body: those that are named must fail. Without it, rt ci runs them."""
-    title, crate, _, words = row
-    edit = edits.named(title)
-    texts = edit.carried_out({})
-    for path, text in texts.items():
-        with open(f"{copy}/{edit.crate}/{path}", "w", encoding="utf-8") as file:
-            file.write(text)
-    how = {"cwd": f"{copy}/crates/{crate}", "stdin": subprocess.DEVNULL, "text": True, "errors": "replace"}
-    ran = subprocess.run(["rt", "try", "--test"], stdout=subprocess.PIPE, stderr=subprocess.STDOUT, **how)
-    for path in texts:
-        shutil.copy(f"{edit.crate}/{path}", f"{copy}/{edit.crate}/{path}")
-    with open(f"{TOP}/out/wrong-{edit.name}-{crate}.log", "w", encoding="utf-8") as log:
-        log.write(ran.stdout)
-    found = re.findall(r"(?m)^test (\S+) \.\.\. (ok)?", ran.stdout)
-    failed = [name for name, is_ok in found if not is_ok]
-    if set(words.split()) - {it.split("::")[-1] for it in failed}:
-        last = ([""] + ran.stdout.strip().splitlines())[-1][:200]
-        raise ValueError(f"of {len(found)} tests these fail: {', '.join(failed) or 'none'}; the last line is {last}")
-    return f"refused by the tests {words}: {len(found) - len(failed)} passed, {len(failed)} failed"
 
 
 def main():
@@ -205,20 +203,19 @@ def main():
         os.makedirs(f"{copy}/out")
         for program, of_program in programs.items():
             numbers = {title: number for number, title in enumerate(dict.fromkeys(it[0] for it in of_program), 1)}
-            made = None
+            made, at = None, ""
             for row in of_program:
                 try:
-                    if row[2] == "rt":
-                        ended = play_test(copy, row)
-                    else:
-                        made = made or built(room, program, {n: edits.named(it) for it, n in numbers.items()})
-                        ended = play(copy, made, numbers[row[0]], row, right)
+                    if not made:
+                        made = built(room, program, {n: edits.named(it) for it, n in numbers.items()})
+                        at = place(program, room)
+                    ended = play(copy, at, made, numbers[row[0]], row, right)
                     counts[0] += 1
                 except (ValueError, OSError) as why:
                     ended = f"FAILED: {str(why)[:500]}"
                     counts[1] += 1
                 print(f"{row[0]} in {program}: {ended}", flush=True)
-                if not made and row[2] != "rt":
+                if not made:
                     break
     spent = sum(os.times()[:4])
     print(f"{spent:.0f} s of processor time")

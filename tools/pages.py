@@ -20,7 +20,8 @@ FUNCTION = re.compile(
     r"(\s*)(pub )?(?:pub\(\w+\) )?(?:final )?(?:const )?(?:unsafe )?(?:extern \"C\" )?fn (\w+)"
 )
 CLAUSE = re.compile(r"\s*(?:(?:requires|ensures)\*?\s+(\w+)?|(passed)\b)")
-OF_TESTS = ("_tests", "play_script", "play_map", "play_operations", "refusals")
+# A crate that is no part of the product.
+CALLERS = "callers"
 
 
 def read(path):
@@ -29,9 +30,9 @@ def read(path):
 
 
 def crates():
-    """The names of crates.txt, lowest first, without those that are for tests alone."""
+    """The names of crates.txt, lowest first, without that of callers."""
     names = re.findall(r"(?m)^([\w-]+)(?: [^:#\n]*)?:", read("crates.txt"))
-    return [it for it in names if not it.endswith(OF_TESTS)]
+    return [it for it in names if it != CALLERS]
 
 
 def is_for_c(crate):

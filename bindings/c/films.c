@@ -1,19 +1,20 @@
 /* Titles of films and their stars. A title that begins another one is refused. */
-#include "art.h"
+#include "artmap.h"
 
 #include <stdio.h>
 
 int main(void) {
-    art films = ART_EMPTY;
-    uint8_t title[40], stars;
-    size_t len, stars_len;
-    if (art_new(&films) != ART_DONE) return 1;
-    art_put(&films, (const uint8_t *)"Office Space", 12, (const uint8_t *)"4", 1);
-    art_put(&films, (const uint8_t *)"Brazil", 6, (const uint8_t *)"5", 1);
-    art_code code = art_put(&films, (const uint8_t *)"Office", 6, (const uint8_t *)"2", 1);
-    printf("Office goes in: %s\n", code == ART_CONFLICT ? "no" : "yes");
-    if (art_first(&films, title, sizeof title, &len, &stars, 1, &stars_len) == ART_DONE)
-        printf("%.*s: %c, of %zu\n", (int)len, (char *)title, stars, art_len(&films));
-    art_free(&films);
+    artmap_words films = ARTMAP_WORDS_EMPTY;
+    char title[40];
+    size_t len;
+    uint64_t stars;
+    if (artmap_words_new(&films) != ARTMAP_DONE) return 1;
+    artmap_words_put(&films, "Office Space", 12, 4, NULL);
+    artmap_words_put(&films, "Brazil", 6, 5, NULL);
+    artmap_code code = artmap_words_put(&films, "Office", 6, 2, NULL);
+    printf("Office goes in: %s\n", code == ARTMAP_CONFLICT ? "no" : "yes");
+    if (artmap_words_first(&films, title, sizeof title, &len, &stars) == ARTMAP_DONE)
+        printf("%.*s: %d, of %zu\n", (int)len, title, (int)stars, artmap_words_len(&films));
+    artmap_words_free(&films);
     return 0;
 }

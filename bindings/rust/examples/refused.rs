@@ -1,20 +1,25 @@
-//! Calls in which a runner refuses memory (tests/bindings_rust.py, tests/refuse.c).
+//! Calls in which a runner refuses memory (`tests/bindings_rust.py`, tests/refuse.c).
 //!
 //!     refused N   makes a map, and then call N in a window; prints what it answers, and then whether the map is as it was
 //!
-//! Where memory was refused the call is made once more, outside the window, and must do what it does in a free run.
-use art_map::{AllocError, ArtMap, TryInsertError};
+//! Where memory was refused the call is made once more, outside the window, and must do what it does in a free run. Calls
+//! that stop where they are (`try_retain` and its like) leave some of the pairs.
+use artmap::{AllocError, ArtMap, Entry, FrozenMap, TryInsertError};
 use std::io::Write;
+use std::ops::Bound;
 use std::process::exit;
 
 type Pairs = Vec<(String, Vec<u8>)>;
 type Map = ArtMap<String, Vec<u8>>;
 
-/// Below `a` there is a node for five, of which a loss makes one for four. Keys and values are longer than what is copied
-/// out without memory.
+/// Below `a` there is a node for five, of which a loss makes one for four.
 fn pairs() -> Pairs {
     let ends = ["aa", "ab", "ac", "ad", "ae", "b0", "b1", "c0", "c1", "d0", "d1"];
     ends.iter().map(|end| (format!("{}{end}", "k".repeat(50)), end.repeat(40).into_bytes())).collect()
+}
+
+fn ascending() -> Pairs {
+    (0..600).map(|at| (format!("{}{at:03}", "l".repeat(50)), vec![7])).collect()
 }
 
 /// What a call is given is made before the window opens.
@@ -22,69 +27,122 @@ struct Given {
     all: Pairs,
     new: Option<(String, Vec<u8>)>,
     old: Option<(String, Vec<u8>)>,
-    first: Option<(String, Vec<u8>)>,
+    /// For the first time and the second.
+    many: [Pairs; 2],
+    other: Map,
+    large: Map,
+    numbers: ArtMap<u32, u32>,
+    long: ArtMap<String, u32>,
+    frozen: FrozenMap<String, Vec<u8>>,
+    part: String,
 }
 
 fn given() -> Given {
     let all = pairs();
-    let new = (format!("{}af", "k".repeat(50)), vec![1; 90]);
-    let old = (all[0].0.clone(), vec![2; 90]);
-    Given { first: Some(new.clone()), new: Some(new), old: Some(old), all }
+    let some: Map = all.iter().skip(3).cloned().collect();
+    Given {
+        new: Some((format!("{}af", "k".repeat(50)), vec![1; 90])),
+        old: Some((all[0].0.clone(), vec![2; 90])),
+        many: [ascending(), ascending()],
+        other: ascending().into_iter().chain(all[..2].iter().cloned()).collect(),
+        large: ascending().into_iter().collect(),
+        numbers: (0..600).map(|it| (it, it)).collect(),
+        long: (0..9).map(|it| ("m".repeat(100 * it), 7)).collect(),
+        frozen: some.freeze(),
+        part: all[2].0[..51].to_string(),
+        all,
+    }
+}
+
+/// Puts a pair back where it was not stored.
+fn kept<T>(
+    from: &mut Option<(String, Vec<u8>)>,
+    call: impl FnOnce(String, Vec<u8>) -> Result<T, TryInsertError<String, Vec<u8>>>,
+) -> Result<T, AllocError> {
+    let (key, value) = from.take().unwrap_or_default();
+    call(key, value).map_err(|why| {
+        *from = Some(why.into_pair());
+        AllocError
+    })
+}
+
+fn entered(map: &mut Map, key: String, value: Vec<u8>) -> Result<usize, TryInsertError<String, Vec<u8>>> {
+    match map.try_entry(key) {
+        Ok(Entry::Vacant(entry)) => entry.try_insert_entry(value).map(|it| it.get().len()),
+        _ => exit(3),
+    }
+}
+
+fn size(pair: Option<(String, Vec<u8>)>) -> usize {
+    pair.map_or(0, |(key, value)| key.len() + value.len())
 }
 
 /// What a call answers, as a number.
 fn call(map: &mut Map, which: usize, given: &mut Given) -> Result<usize, AllocError> {
-    let len = |it: Option<Vec<u8>>| it.map_or(0, |it| it.len());
+    let last = given.all[given.all.len() - 1].0.as_str();
     match which {
-        0 => {
-            let (key, value) = given.new.take().unwrap_or_default();
-            map.insert(key, value).map(len).map_err(|why| {
-                given.new = Some((why.key, why.value));
-                AllocError
-            })
-        }
-        1 => {
-            let (key, value) = given.old.take().unwrap_or_default();
-            map.insert(key, value).map(len).map_err(|why| {
-                given.old = Some((why.key, why.value));
-                AllocError
-            })
-        }
-        2 => map.remove(given.all[1].0.as_str()).map(len),
-        3 => map.remove_prefix(&given.all[2].0.as_bytes()[..52]),
-        4 => Ok(map.pop_first()?.map_or(0, |(key, value)| key.len() + value.len())),
-        5 => Ok(map.pop_last()?.map_or(0, |(key, value)| key.len() + value.len())),
-        6 => map.try_clone().map(|it| it.len()),
-        7 => {
-            // A map of its own, whose first pair makes it.
-            let mut made = Map::new();
-            made.try_extend(given.first.take()).map(|()| made.len()).map_err(|why| match why {
-                TryInsertError::Memory { key, value } => {
-                    given.first = Some((key, value));
-                    AllocError
-                }
-                TryInsertError::Prefix { .. } => exit(3),
-            })
-        }
-        8 | 10 => {
-            // The last pair is changed, or goes. (Before that, what memory is refused for changes nothing.)
-            let last = given.all[given.all.len() - 1].0.as_str();
-            map.retain(|key, value| {
-                value[0] = if key == last { b'!' } else { value[0] };
-                which == 8 || key != last
-            })?;
+        0 => kept(&mut given.new, |key, value| map.try_insert(key, value)).map(|old| old.map_or(0, |it| it.len())),
+        1 => kept(&mut given.old, |key, value| map.try_insert(key, value)).map(|old| old.map_or(0, |it| it.len())),
+        2 => Ok(map.try_remove(given.all[1].0.as_str())?.map_or(0, |it| it.len())),
+        3 => {
+            map.try_remove_prefix(given.part.as_str())?;
             Ok(map.len())
         }
-        11 => map.load(given.first.take()).map(|()| map.len()).map_err(|why| {
-            given.first = Some(why.into_pair());
-            AllocError
-        }),
+        4 => map.try_pop_first().map(size),
+        5 => map.try_pop_last().map(size),
+        // (clones of keys and values need no memory here)
+        6 => given.numbers.try_clone().map(|it| it.len()),
+        7 => {
+            // (a map of its own, whose first pair makes it)
+            let mut made = Map::new();
+            kept(&mut given.new, |key, value| made.try_insert(key, value)).map(|_| made.len())
+        }
+        8 => {
+            map.try_retain(|key, _| key != last && !key.ends_with('c'))?;
+            Ok(map.len())
+        }
         9 => {
             map.clear();
             Ok(map.len())
         }
+        10 => {
+            let [one, other] = std::mem::take(&mut given.many);
+            given.many = [other, Vec::new()];
+            map.try_extend(one).map_err(|_| AllocError)?;
+            Ok(map.len())
+        }
+        11 => map.try_split_off(given.all[4].0.as_str()).map(|it| it.len()),
+        12 => map.try_append(&mut given.other).map(|()| given.other.len()).map_err(|_| AllocError),
+        13 => {
+            for taken in map.try_extract_if::<str, _, _>(.., |key, _| key.ends_with('a') || key == last) {
+                drop(taken?);
+            }
+            Ok(map.len())
+        }
+        14 => kept(&mut given.new, |key, value| entered(map, key, value)),
+        15 => map.first_entry().map_or(Err(AllocError), artmap::OccupiedEntry::try_remove_entry).map(|it| it.1.len()),
+        16 => {
+            kept(&mut given.new, |key, value| map.try_prefix_insert(key, value))?;
+            Ok(map.len())
+        }
+        17 => map.try_reserve(1000).map(|()| 0),
+        18 => given.frozen.try_clone().map(|it| it.len()),
+        19 => Ok(given.large.iter().count() + given.large.values_mut().map(|it| it.len()).sum::<usize>()),
+        20 => Ok(map.get(last).map_or(0, Vec::len)
+            + given.frozen.range::<str, _>((Bound::Included(last), Bound::Unbounded)).count()),
+        21 => {
+            // (texts that have no room on the stack)
+            let text = given.long.last_key_value().map_or("", |it| it.0.as_str());
+            let absent = text.strip_prefix('m').unwrap_or(text);
+            Ok(usize::from(given.long.contains_key(text)) + usize::from(given.long.contains_key(absent)))
+        }
         _ => exit(3),
     }
+}
+
+/// Those that stop where they are.
+fn leaves_some(which: usize) -> bool {
+    [8, 10, 13, 16].contains(&which)
 }
 
 fn window(is_open: bool) {
@@ -97,17 +155,24 @@ fn window(is_open: bool) {
 fn main() {
     let which = std::env::args().nth(1).and_then(|it| it.parse().ok()).unwrap_or(usize::MAX);
     let mut given = given();
-    let mut map: Map = given.all.iter().cloned().collect();
+    // (pair by pair, so that no room for nodes is left over, as it may be where many go in at once)
+    let mut map = Map::new();
+    for (key, value) in given.all.iter().cloned() {
+        map.insert(key, value);
+    }
     window(true);
     let mut answer = call(&mut map, which, &mut given);
     window(false);
     if answer.is_err() {
-        let is_kept = map.iter().eq(given.all.iter().cloned()) && map.iter().rev().eq(given.all.iter().rev().cloned());
-        print!("refused {} ", if is_kept { "kept" } else { "CHANGED" });
+        let all = || given.all.iter().map(|it| (&it.0, &it.1));
+        let is_kept = map.iter().eq(all()) && map.iter().rev().eq(all().rev());
+        let is_whole =
+            map.keys().rev().eq(map.keys().collect::<Vec<_>>().into_iter().rev()) && map.keys().count() == map.len();
+        print!("refused {} ", if is_kept || is_whole && leaves_some(which) { "kept" } else { "CHANGED" });
         answer = call(&mut map, which, &mut given);
     }
     let sum = map.iter().fold(17u64, |sum, (key, value)| {
-        key.bytes().chain(value).fold(sum, |sum, it| sum.wrapping_mul(31).wrapping_add(u64::from(it)))
+        key.bytes().chain(value.iter().copied()).fold(sum, |sum, it| sum.wrapping_mul(31).wrapping_add(u64::from(it)))
     });
     println!("{answer:?} {} {sum}", map.len());
 }

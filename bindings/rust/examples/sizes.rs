@@ -1,15 +1,28 @@
-//! Sizes of files by their paths: texts as keys, a prefix, both ends.
-use art_map::{AllocError, ArtMap};
+//! Sizes of files by their paths: values of any type, a prefix, a range, readers in other threads.
+use artmap::ArtMap;
+use std::thread;
 
-fn main() -> Result<(), AllocError> {
-    let mut sizes = ArtMap::<String, u64>::new();
-    sizes.insert("usr/bin/cc".to_string(), 912)?;
-    sizes.insert("usr/lib".to_string(), 4)?;
-    sizes.insert("usr/lib/libc".to_string(), 2_030)?;
-    for (path, size) in sizes.prefix(b"usr/lib") {
-        println!("{path}: {size}");
+struct File {
+    size: u64,
+    names: Vec<String>,
+}
+
+fn main() {
+    let mut files = ArtMap::<String, File>::new();
+    for (path, size) in [("usr/bin/cc", 912), ("usr/lib", 4), ("usr/lib/libc", 2_030), ("var/log", 77)] {
+        files.insert(path.to_string(), File { size, names: Vec::new() });
     }
-    println!("{:?} is the first of {}", sizes.pop_first()?, sizes.len() + 1);
-    println!("{:?}", sizes.range("usr/lib/".to_string()..).next_back());
-    Ok(())
+    if let Some(file) = files.get_mut("usr/bin/cc") {
+        file.names.push("gcc".to_string());
+    }
+    for (path, file) in files.prefix("usr/") {
+        println!("{path}: {} {:?}", file.size, file.names);
+    }
+    println!("{} is behind usr/lib", files.range("usr/lib0".to_string()..).map(|it| it.0.as_str()).collect::<String>());
+    let frozen = files.freeze();
+    let readers = ["usr/lib", "var/log"].map(|path| {
+        let mine = frozen.clone();
+        thread::spawn(move || mine[path].size)
+    });
+    println!("{:?}", readers.map(|it| it.join().expect("a reader")));
 }

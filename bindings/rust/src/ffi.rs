@@ -1,57 +1,85 @@
-//! The calls of `art.h`, and all `unsafe` of this crate.
+//! The calls of `artmap.h`, and all `unsafe` of this crate.
 //!
-//! `art.h` has six rules, which a caller keeps and nothing checks. They are kept so:
+//! `artmap.h` has six rules, which a caller keeps and nothing checks. They are kept so:
 //!
-//! 1. The handle is private to [`Art`]. It begins as `ART_EMPTY`, and only the calls below write it. A move of an `Art`
-//!    is the one copy that is used from then on; it is no `Copy`, and has no `Clone`.
-//! 2. A call runs while `&Art` or `&mut Art` is held, and calls nothing of Rust. `Art` is neither `Send` nor `Sync`, since
-//!    it holds a raw pointer in an `UnsafeCell`. So it has one call at a time, on the thread that made it.
-//! 3. Pointers and lengths are those of slices, which Rust has never null and at most `isize::MAX` long. What is read or
-//!    written is initialised: a [`Room`] is all written.
-//! 4. What a call writes is `&mut`, and so overlaps nothing else: the handle by its cell, two rooms, two locals.
+//! 1. The handle is private to [`Words`]. It begins as `ARTMAP_WORDS_EMPTY`, and only the calls below write it. A move of
+//!    a `Words` is the one copy that is used from then on; it is no `Copy`, and has no `Clone`.
+//! 2. A call runs while `&Words` or `&mut Words` is held, and calls nothing of Rust. `Words` is not `Sync`, since its handle
+//!    stands in an `UnsafeCell`. So it has one call at a time. It is `Send`, as the rule allows: Rust orders what a thread
+//!    does before it hands a value on before what the next one does with it.
+//! 3. Pointers and lengths are those of slices, which Rust has at most `isize::MAX` long, or of locals. What is read or
+//!    written is initialised.
+//! 4. What a call writes is `&mut` or a local, and so overlaps nothing else: the handles by their cells, one room, locals.
 //! 5. `malloc`, `realloc` and `free` are those of the C library that Rust's std stands on.
 //! 6. A call in a handler of signals or behind a fork needs `unsafe` of the user's own.
 //!
-//! At each block stands the clause of art_c that says what its call answers (`crates/art_c/src/calls.rt`, in the words of
-//! `crates/art_c/specs/Calls.antt`).
+//! At each block stands the clause of `art_c` that says what its call answers (`crates/art_c`).
+use crate::Key;
 use crate::error::AllocError;
-use crate::room::Room;
+use crate::slab::{Slab, Slot};
+use crate::walk::{Limits, Walk, Way};
 use std::cell::UnsafeCell;
 use std::ffi::c_void;
+use std::marker::PhantomData;
+use std::panic::{RefUnwindSafe, UnwindSafe};
 use std::ptr;
 
-/// `art` of the header.
+/// `artmap_words` of the header.
 #[repr(C)]
 struct Handle {
     held: *mut c_void,
     is_made: bool,
 }
 
-#[rustfmt::skip]
-extern "C" {
-    fn art_new(map: *mut Handle) -> u32;
-    fn art_free(map: *mut Handle);
-    fn art_len(map: *mut Handle) -> usize;
-    fn art_put(map: *mut Handle, key: *const u8, key_len: usize, value: *const u8, value_len: usize) -> u32;
-    fn art_get(map: *mut Handle, key: *const u8, key_len: usize, room: *mut u8, room_len: usize, value_len: *mut usize)
-        -> u32;
-    fn art_load(map: *mut Handle, bytes: *const u8, bytes_len: usize, lens: *const Lens, count: usize, taken: *mut usize)
-        -> u32;
-    fn art_walk(map: *mut Handle, from: u32, key: *const u8, key_len: usize, room: *mut u8, room_len: usize,
-        lens: *mut Lens, lens_len: usize, count: *mut usize) -> u32;
-    fn art_walk_back(map: *mut Handle, from: u32, key: *const u8, key_len: usize, room: *mut u8, room_len: usize,
-        lens: *mut Lens, lens_len: usize, count: *mut usize) -> u32;
-    fn art_remove(map: *mut Handle, key: *const u8, key_len: usize) -> u32;
-    fn art_remove_prefix(map: *mut Handle, prefix: *const u8, prefix_len: usize, count: *mut usize) -> u32;
-    fn art_find(map: *mut Handle, query: *const u8, query_len: usize, key_room: *mut u8, key_room_len: usize,
-        key_len: *mut usize, value_room: *mut u8, value_room_len: usize, value_len: *mut usize) -> u32;
-    fn art_first(map: *mut Handle, key_room: *mut u8, key_room_len: usize, key_len: *mut usize, value_room: *mut u8,
-        value_room_len: usize, value_len: *mut usize) -> u32;
-    fn art_last(map: *mut Handle, key_room: *mut u8, key_room_len: usize, key_len: *mut usize, value_room: *mut u8,
-        value_room_len: usize, value_len: *mut usize) -> u32;
+/// `artmap_span` of the header.
+#[repr(C)]
+struct RawSpan {
+    back: bool,
+    from: u32,
+    to: u32,
+    from_key: *const u8,
+    from_len: usize,
+    to_key: *const u8,
+    to_len: usize,
 }
 
-// `art_code` of the header.
+/// `artmap_words_pair` of the header: how long a key is, and its word.
+#[repr(C)]
+#[derive(Clone, Copy)]
+pub(crate) struct Pair {
+    pub(crate) key_len: usize,
+    pub(crate) word: u64,
+}
+
+#[rustfmt::skip]
+unsafe extern "C" {
+    fn artmap_words_new(map: *mut Handle) -> u32;
+    fn artmap_words_free(map: *mut Handle);
+    #[cfg(test)]
+    fn artmap_words_len(map: *mut Handle) -> usize;
+    fn artmap_words_put(map: *mut Handle, key: *const u8, key_len: usize, word: u64, old: *mut u64) -> u32;
+    fn artmap_words_get(map: *mut Handle, key: *const u8, key_len: usize, word: *mut u64) -> u32;
+    fn artmap_words_remove(map: *mut Handle, key: *const u8, key_len: usize, word: *mut u64) -> u32;
+    fn artmap_words_remove_prefix(map: *mut Handle, prefix: *const u8, prefix_len: usize, count: *mut usize) -> u32;
+    fn artmap_words_find(map: *mut Handle, query: *const u8, query_len: usize, key_len: *mut usize, word: *mut u64) -> u32;
+    fn artmap_words_first_word(map: *mut Handle, word: *mut u64) -> u32;
+    fn artmap_words_last_word(map: *mut Handle, word: *mut u64) -> u32;
+    fn artmap_words_first_word_with_prefix(map: *mut Handle, prefix: *const u8, prefix_len: usize, word: *mut u64) -> u32;
+    fn artmap_words_first_with_prefix(map: *mut Handle, prefix: *const u8, prefix_len: usize, room: *mut u8, room_len: usize,
+        key_len: *mut usize, word: *mut u64) -> u32;
+    fn artmap_words_walk_words(map: *mut Handle, span: *const RawSpan, words: *mut u64, places: usize, count: *mut usize)
+        -> u32;
+    fn artmap_words_load(map: *mut Handle, keys: *const u8, keys_len: usize, pairs: *const Pair, count: usize,
+        taken: *mut usize) -> u32;
+    fn artmap_words_clone(map: *mut Handle, to: *mut Handle) -> u32;
+    fn artmap_words_split_off(map: *mut Handle, key: *const u8, key_len: usize, to: *mut Handle) -> u32;
+    fn artmap_words_shrink(map: *mut Handle) -> u32;
+    fn artmap_words_freeze(map: *mut Handle) -> u32;
+    fn artmap_words_share(map: *mut Handle, to: *mut Handle) -> u32;
+    fn artmap_words_thaw(map: *mut Handle) -> u32;
+}
+
+// `artmap_code` of the header.
 const DONE: u32 = 0;
 const REPLACED: u32 = 1;
 const NOT_FOUND: u32 = 2;
@@ -61,62 +89,56 @@ const NO_MEMORY: u32 = 5;
 const NO_MAP: u32 = 6;
 const NOT_ABOVE: u32 = 7;
 const CUT_OFF: u32 = 8;
+const MORE: u32 = 9;
+#[allow(dead_code, reason = "no call changes a map that is frozen")]
+const FROZEN: u32 = 10;
+const SHARED: u32 = 11;
 
-// `art_from` of the header.
+// `artmap_from` and `artmap_to` of the header.
 const FROM_END: u32 = 0;
 const FROM_KEY: u32 = 1;
-const BEHIND_KEY: u32 = 2;
-
-/// `art_lens` of the header: how long a key and its value are.
-#[repr(C)]
-#[derive(Clone, Copy)]
-pub(crate) struct Lens {
-    pub(crate) key: usize,
-    pub(crate) value: usize,
-}
+const AFTER_KEY: u32 = 2;
+const TO_END: u32 = 0;
+const TO_KEY: u32 = 1;
+const BEFORE_KEY: u32 = 2;
+const WITH_PREFIX: u32 = 3;
 
 /// A code that the call's clause does not have.
 #[cold]
 fn not_told(code: u32) -> ! {
-    unreachable!("libart.a is not that of this crate: a call answered {code}")
+    unreachable!("libartmap.a is not that of this crate: a call answered {code}")
 }
 
-/// Which pair is read.
+/// Where a walk begins.
 #[derive(Clone, Copy)]
-pub(crate) enum Wanted<'a> {
-    First,
-    Last,
-    /// The one whose key begins the query, or equals it.
-    FrontOf(&'a [u8]),
-}
-
-/// Where a walk goes on.
-#[derive(Clone, Copy, PartialEq, Eq)]
-pub(crate) enum From {
+pub(crate) enum From<'a> {
     /// At its end of the map.
     End,
     /// With the pair of the key, if it is stored.
-    Key,
-    /// With the pair behind the key.
-    Behind,
+    Key(&'a [u8]),
+    /// With the pair after the key.
+    After(&'a [u8]),
 }
 
-/// Which way a walk goes.
-#[derive(Clone, Copy, PartialEq, Eq)]
-pub(crate) enum Way {
-    Up,
-    Down,
-}
-
-/// What came of copying pairs out.
-#[derive(Clone, Copy, PartialEq, Eq, Debug)]
-pub(crate) enum Walked {
-    /// So many are in the room, one at least.
-    Pairs(usize),
-    /// There is none from there on.
+/// Where a walk ends.
+#[derive(Clone, Copy)]
+pub(crate) enum To<'a> {
     End,
-    /// The first takes so many bytes.
-    NoRoom(usize),
+    /// With the pair of the key, if it is stored.
+    Key(&'a [u8]),
+    /// With the pair before the key.
+    Before(&'a [u8]),
+    /// With the last one whose key begins with these bytes.
+    Prefix(&'a [u8]),
+}
+
+/// What came of a put.
+#[derive(Clone, Copy, PartialEq, Eq, Debug)]
+pub(crate) enum Put {
+    New,
+    /// The word that it had.
+    Replaced(u64),
+    Conflict,
 }
 
 /// Why pairs were not all put in.
@@ -126,43 +148,45 @@ pub(crate) enum Stop {
     Memory,
 }
 
-/// What came of putting a pair in.
-#[derive(Clone, Copy, PartialEq, Eq, Debug)]
-pub(crate) enum Put {
-    New,
-    Replaced,
-    Conflict,
-}
-
-/// A map of byte strings, made by its first pair. Without one the handle has no map, and reads as an empty one.
-pub(crate) struct Art {
+/// A map from byte strings to words, made by its first pair. Without one the handle has no map, and reads as an empty one.
+pub(crate) struct Words {
     handle: UnsafeCell<Handle>,
 }
 
-impl Art {
+// SAFETY: rules 1, 2: a handle may go to another thread between two calls. Clause of `artmap_words_new`: IsNew, of a handle
+// that is proved to be `Send`.
+unsafe impl Send for Words {}
+
+// A panic of Rust never comes out of a call, so what it leaves is whole.
+impl UnwindSafe for Words {}
+impl RefUnwindSafe for Words {}
+
+impl Words {
     /// Needs no memory.
-    pub(crate) const fn new() -> Art {
-        Art { handle: UnsafeCell::new(Handle { held: ptr::null_mut(), is_made: false }) }
+    pub(crate) const fn new() -> Words {
+        Words { handle: UnsafeCell::new(Handle { held: ptr::null_mut(), is_made: false }) }
     }
 
+    #[cfg(test)]
     pub(crate) fn len(&self) -> usize {
-        // SAFETY: rules 1, 2. Clauses of `art_len`: len, kept.
-        unsafe { art_len(self.handle.get()) }
+        // SAFETY: rules 1, 2. Clauses of `artmap_words_len`: len, kept.
+        unsafe { artmap_words_len(self.handle.get()) }
     }
 
     /// Frees the map: there are no pairs from then on.
     pub(crate) fn clear(&mut self) {
-        // SAFETY: rules 1, 2. Clause of `art_free`: the handle has no map then, and may be used again.
-        unsafe { art_free(self.handle.get()) }
+        // SAFETY: rules 1, 2. Clause of `artmap_words_free`: store_behind.
+        unsafe { artmap_words_free(self.handle.get()) }
     }
 
     /// Makes the map where there is none.
+    #[inline]
     fn make(&mut self) -> Result<(), AllocError> {
         if self.handle.get_mut().is_made {
             return Ok(());
         }
-        // SAFETY: rules 1, 2. Clause of `art_new`: IsNew.
-        match unsafe { art_new(self.handle.get()) } {
+        // SAFETY: rules 1, 2. Clause of `artmap_words_new`: IsNew.
+        match unsafe { artmap_words_new(self.handle.get()) } {
             DONE => Ok(()),
             NO_MEMORY => Err(AllocError),
             code => not_told(code),
@@ -170,28 +194,156 @@ impl Art {
     }
 
     /// Puts a pair in. Where it conflicts, or there is no memory, the pairs are as they were.
-    pub(crate) fn put(&mut self, key: &[u8], value: &[u8]) -> Result<Put, AllocError> {
+    #[inline]
+    pub(crate) fn put(&mut self, key: &[u8], word: u64) -> Result<Put, AllocError> {
         self.make()?;
-        // SAFETY: rules 1 to 4; both are read alone. Clause of `art_put`: IsPairPut.
-        match unsafe { art_put(self.handle.get(), key.as_ptr(), key.len(), value.as_ptr(), value.len()) } {
+        let mut old = 0;
+        // SAFETY: rules 1 to 4; the key is read alone, `old` is a local. Clause of `artmap_words_put`: IsWordPut.
+        match unsafe { artmap_words_put(self.handle.get(), key.as_ptr(), key.len(), word, &raw mut old) } {
             DONE => Ok(Put::New),
-            REPLACED => Ok(Put::Replaced),
+            REPLACED => Ok(Put::Replaced(old)),
             CONFLICT => Ok(Put::Conflict),
             NO_MEMORY => Err(AllocError),
             code => not_told(code),
         }
     }
 
+    /// The word of a key.
+    #[inline]
+    pub(crate) fn get(&self, key: &[u8]) -> Option<u64> {
+        let mut word = 0;
+        // SAFETY: rules 1 to 4; `word` is a local. Clause of `artmap_words_get`: IsWordRead.
+        match unsafe { artmap_words_get(self.handle.get(), key.as_ptr(), key.len(), &raw mut word) } {
+            DONE => Some(word),
+            NOT_FOUND | NO_MAP => None,
+            code => not_told(code),
+        }
+    }
+
+    /// The word of the key that begins the query, or equals it.
+    pub(crate) fn find(&self, query: &[u8]) -> Option<u64> {
+        let (mut len, mut word) = (0, 0);
+        let at = self.handle.get();
+        // SAFETY: rules 1 to 4; both are locals. Clause of `artmap_words_find`: IsFrontRead.
+        match unsafe { artmap_words_find(at, query.as_ptr(), query.len(), &raw mut len, &raw mut word) } {
+            DONE => Some(word),
+            NOT_FOUND | NO_MAP => None,
+            code => not_told(code),
+        }
+    }
+
+    /// The word of the least key, or of the greatest.
+    pub(crate) fn end(&self, way: Way) -> Option<u64> {
+        let (at, mut word) = (self.handle.get(), 0);
+        // SAFETY: rules 1 to 4; `word` is a local. Clauses of `artmap_words_first_word`, `artmap_words_last_word`:
+        // IsPairsWordRead.
+        let code = unsafe {
+            match way {
+                Way::Up => artmap_words_first_word(at, &raw mut word),
+                Way::Down => artmap_words_last_word(at, &raw mut word),
+            }
+        };
+        match code {
+            DONE => Some(word),
+            NOT_FOUND | NO_MAP => None,
+            code => not_told(code),
+        }
+    }
+
+    /// Whether a key begins with these bytes.
+    pub(crate) fn has_prefix(&self, prefix: &[u8]) -> bool {
+        let (at, mut word) = (self.handle.get(), 0);
+        // SAFETY: rules 1 to 4; `word` is a local. Clause of `artmap_words_first_word_with_prefix`: IsPairsWordRead.
+        match unsafe { artmap_words_first_word_with_prefix(at, prefix.as_ptr(), prefix.len(), &raw mut word) } {
+            DONE => true,
+            NOT_FOUND | NO_MAP => false,
+            code => not_told(code),
+        }
+    }
+
+    /// The word of the key that is these bytes and a zero, in a map whose keys end with a zero and have no other.
+    pub(crate) fn get_ended(&self, front: &[u8]) -> Option<u64> {
+        let (at, to, mut len, mut word) = (self.handle.get(), ptr::NonNull::dangling().as_ptr(), 0, 0);
+        let (front_at, front_len) = (front.as_ptr(), front.len());
+        // SAFETY: rules 1 to 4; the room has no bytes, the rest are locals. Clause of `artmap_words_first_with_prefix`:
+        // IsWordPairRead.
+        match unsafe { artmap_words_first_with_prefix(at, front_at, front_len, to, 0, &raw mut len, &raw mut word) } {
+            // (the least of those that begin so is the one that ends there)
+            NO_ROOM | DONE if len == front_len + 1 => Some(word),
+            NO_ROOM | DONE | NOT_FOUND | NO_MAP => None,
+            code => not_told(code),
+        }
+    }
+
+    /// Takes a pair out, and tells its word.
+    #[inline]
+    pub(crate) fn remove(&mut self, key: &[u8]) -> Result<Option<u64>, AllocError> {
+        let mut word = 0;
+        // SAFETY: rules 1 to 4; `word` is a local. Clause of `artmap_words_remove`: IsWordRemoved.
+        match unsafe { artmap_words_remove(self.handle.get(), key.as_ptr(), key.len(), &raw mut word) } {
+            DONE => Ok(Some(word)),
+            NOT_FOUND | NO_MAP => Ok(None),
+            NO_MEMORY => Err(AllocError),
+            code => not_told(code),
+        }
+    }
+
+    /// Takes out all pairs whose keys begin with these bytes, or none for want of memory.
+    pub(crate) fn remove_prefix(&mut self, prefix: &[u8]) -> Result<(), AllocError> {
+        let (at, mut count) = (self.handle.get(), 0);
+        // SAFETY: rules 1 to 4; `count` is a local. Clause of `artmap_words_remove_prefix`: IsPrefixRemoved.
+        match unsafe { artmap_words_remove_prefix(at, prefix.as_ptr(), prefix.len(), &raw mut count) } {
+            DONE | NO_MAP => Ok(()),
+            NO_MEMORY => Err(AllocError),
+            code => not_told(code),
+        }
+    }
+
+    /// Tells the words of the pairs of a span in order, as many as there are places for. Tells how many these are, and
+    /// whether others are left.
+    #[inline]
+    pub(crate) fn walk(&self, way: Way, from: From<'_>, to: To<'_>, words: &mut [u64]) -> (usize, bool) {
+        let (from, from_key) = match from {
+            From::End => (FROM_END, &[][..]),
+            From::Key(key) => (FROM_KEY, key),
+            From::After(key) => (AFTER_KEY, key),
+        };
+        let (to, to_key) = match to {
+            To::End => (TO_END, &[][..]),
+            To::Key(key) => (TO_KEY, key),
+            To::Before(key) => (BEFORE_KEY, key),
+            To::Prefix(key) => (WITH_PREFIX, key),
+        };
+        let span = RawSpan {
+            back: way == Way::Down,
+            from,
+            to,
+            from_key: from_key.as_ptr(),
+            from_len: from_key.len(),
+            to_key: to_key.as_ptr(),
+            to_len: to_key.len(),
+        };
+        let (at, places, mut count) = (self.handle.get(), words.len(), 0);
+        // SAFETY: rules 1 to 4; the places are lent alone, the keys beside them, and the rest are locals. Clause of
+        // `artmap_words_walk_words`: IsWordsWalked.
+        match unsafe { artmap_words_walk_words(at, &raw const span, words.as_mut_ptr(), places, &raw mut count) } {
+            DONE => (count, false),
+            MORE | NO_ROOM => (count, true),
+            NOT_FOUND | NO_MAP => (0, false),
+            code => not_told(code),
+        }
+    }
+
     /// Puts in the pairs of a buffer, whose keys ascend, up to the first that is refused. Tells how many went in, and why
     /// not all did, if so.
-    pub(crate) fn load(&mut self, bytes: &[u8], lens: &[Lens]) -> (usize, Option<Stop>) {
+    pub(crate) fn load(&mut self, keys: &[u8], pairs: &[Pair]) -> (usize, Option<Stop>) {
         let mut taken = 0;
         if self.make().is_err() {
             return (taken, Some(Stop::Memory));
         }
-        let (to, at, count) = (self.handle.get(), bytes.as_ptr(), lens.len());
-        // SAFETY: rules 1 to 4; both slices are read alone, `taken` is a local. Clause of `art_load`: IsLoaded.
-        match unsafe { art_load(to, at, bytes.len(), lens.as_ptr(), count, &mut taken) } {
+        let (to, at, count) = (self.handle.get(), keys.as_ptr(), pairs.len());
+        // SAFETY: rules 1 to 4; both slices are read alone, `taken` is a local. Clause of `artmap_words_load`: IsLoaded.
+        match unsafe { artmap_words_load(to, at, keys.len(), pairs.as_ptr(), count, &raw mut taken) } {
             DONE => (taken, None),
             CONFLICT => (taken, Some(Stop::Conflict)),
             NO_MEMORY => (taken, Some(Stop::Memory)),
@@ -201,166 +353,121 @@ impl Art {
         }
     }
 
-    /// Copies out the pairs that come next, as many as go in.
-    pub(crate) fn walk(&self, way: Way, from: From, key: &[u8], room: &mut [u8], lens: &mut [Lens]) -> Walked {
-        let (at, key_at, key_len, mut count) = (self.handle.get(), key.as_ptr(), key.len(), 0);
-        let (to, len, lens_at, places) = (room.as_mut_ptr(), room.len(), lens.as_mut_ptr(), lens.len());
-        let from = match from {
-            From::End => FROM_END,
-            From::Key => FROM_KEY,
-            From::Behind => BEHIND_KEY,
-        };
-        // SAFETY: rules 1 to 4; the room and the places are lent alone, the key is lent beside them, and `count` is a
-        // local. Clauses of `art_walk`, `art_walk_back`: IsWalked.
-        let code = unsafe {
-            match way {
-                Way::Up => art_walk(at, from, key_at, key_len, to, len, lens_at, places, &mut count),
-                Way::Down => art_walk_back(at, from, key_at, key_len, to, len, lens_at, places, &mut count),
-            }
-        };
-        match code {
-            DONE => Walked::Pairs(count),
-            NOT_FOUND | NO_MAP => Walked::End,
-            NO_ROOM => Walked::NoRoom(lens.first().map_or(0, |it| it.key + it.value)),
-            code => not_told(code),
-        }
-    }
-
-    /// Takes a pair out, and tells whether there was one.
-    pub(crate) fn remove(&mut self, key: &[u8]) -> Result<bool, AllocError> {
-        // SAFETY: rules 1 to 4. Clause of `art_remove`: IsRemoved.
-        match unsafe { art_remove(self.handle.get(), key.as_ptr(), key.len()) } {
-            DONE => Ok(true),
-            NOT_FOUND | NO_MAP => Ok(false),
+    /// A copy, with the same words.
+    pub(crate) fn try_clone(&self) -> Result<Words, AllocError> {
+        let mut made = Words::new();
+        // SAFETY: rules 1 to 4; the two handles are different ones. Clause of `artmap_words_clone`: GetsCopy.
+        match unsafe { artmap_words_clone(self.handle.get(), made.handle.get_mut()) } {
+            DONE | NO_MAP => Ok(made),
             NO_MEMORY => Err(AllocError),
             code => not_told(code),
         }
     }
 
-    /// Takes all pairs behind a prefix out, or none for want of memory, and tells how many.
-    pub(crate) fn remove_prefix(&mut self, prefix: &[u8]) -> Result<usize, AllocError> {
-        let mut count = 0;
-        // SAFETY: rules 1 to 4; `count` is a local. Clause of `art_remove_prefix`: IsPrefixRemoved.
-        match unsafe { art_remove_prefix(self.handle.get(), prefix.as_ptr(), prefix.len(), &mut count) } {
-            DONE => Ok(count),
-            NO_MAP => Ok(0),
+    /// Takes out all pairs from a key on. Where memory lacks, all stay.
+    pub(crate) fn cut_off(&mut self, key: &[u8]) -> Result<(), AllocError> {
+        let mut rest = Words::new();
+        let at = self.handle.get();
+        // SAFETY: rules 1 to 4; the two handles are different ones. Clause of `artmap_words_split_off`: IsSplitOff.
+        match unsafe { artmap_words_split_off(at, key.as_ptr(), key.len(), rest.handle.get_mut()) } {
+            DONE | NO_MAP => Ok(()),
             NO_MEMORY => Err(AllocError),
             code => not_told(code),
         }
     }
 
-    pub(crate) fn has(&self, key: &[u8]) -> bool {
-        let (mut none, mut len) = ([0; 0], 0);
-        // SAFETY: rules 1 to 4; the room has no bytes and a pointer, `len` is a local. Clause of `art_get`: IsValueRead.
-        match unsafe { art_get(self.handle.get(), key.as_ptr(), key.len(), none.as_mut_ptr(), 0, &mut len) } {
-            DONE | NO_ROOM => true,
-            NOT_FOUND | NO_MAP => false,
+    /// Gives memory back that no node uses.
+    pub(crate) fn shrink(&mut self) {
+        // SAFETY: rules 1, 2. Clause of `artmap_words_shrink`: IsShrunk.
+        match unsafe { artmap_words_shrink(self.handle.get()) } {
+            DONE | NO_MAP => {}
             code => not_told(code),
         }
     }
 
-    /// Copies a value out, and tells whether there is one. The room grows to it; that alone needs memory.
-    pub(crate) fn get(&self, key: &[u8], value: &mut Room) -> Result<bool, AllocError> {
-        loop {
-            let (to, mut len) = (value.space(), 0);
-            // SAFETY: rules 1 to 4; `to` is lent alone, `len` is a local. Clause of `art_get`: IsValueRead.
-            match unsafe { art_get(self.handle.get(), key.as_ptr(), key.len(), to.as_mut_ptr(), to.len(), &mut len) } {
-                DONE => {
-                    value.hold(len);
-                    return Ok(true);
-                }
-                NO_ROOM => value.grow(len)?,
-                NOT_FOUND | NO_MAP => return Ok(false),
-                code => not_told(code),
-            }
+    /// Freezes the map: from then on [`share`](Self::share) makes other handles on it.
+    pub(crate) fn freeze(&mut self) -> Result<(), AllocError> {
+        self.make()?;
+        // SAFETY: rules 1, 2. Clause of `artmap_words_freeze`: IsFrozen.
+        match unsafe { artmap_words_freeze(self.handle.get()) } {
+            DONE => Ok(()),
+            NO_MEMORY => Err(AllocError),
+            code => not_told(code),
         }
     }
 
-    /// Copies a pair out, and tells whether there is one. The rooms grow to it; that alone needs memory.
-    pub(crate) fn read(&self, wanted: Wanted<'_>, key: &mut Room, value: &mut Room) -> Result<bool, AllocError> {
-        loop {
-            let (mut key_len, mut value_len) = (0, 0);
-            match self.read_once(wanted, key.space(), &mut key_len, value.space(), &mut value_len) {
-                DONE => {
-                    key.hold(key_len);
-                    value.hold(value_len);
-                    return Ok(true);
-                }
-                NO_ROOM => {
-                    key.grow(key_len)?;
-                    value.grow(value_len)?;
-                }
-                NOT_FOUND | NO_MAP => return Ok(false),
-                code => not_told(code),
-            }
+    /// Another handle on a frozen map.
+    pub(crate) fn share(&self) -> Result<Words, AllocError> {
+        let mut made = Words::new();
+        // SAFETY: rules 1 to 4; the two handles are different ones. Clause of `artmap_words_share`: IsShared.
+        match unsafe { artmap_words_share(self.handle.get(), made.handle.get_mut()) } {
+            DONE => Ok(made),
+            NO_MEMORY => Err(AllocError),
+            code => not_told(code),
         }
     }
 
-    fn read_once(
-        &self,
-        wanted: Wanted<'_>,
-        key: &mut [u8],
-        key_len: &mut usize,
-        value: &mut [u8],
-        value_len: &mut usize,
-    ) -> u32 {
-        let (at, key_to, key_room) = (self.handle.get(), key.as_mut_ptr(), key.len());
-        let (value_to, room) = (value.as_mut_ptr(), value.len());
-        // SAFETY: rules 1 to 4; both rooms and both lengths are lent alone, and what is read is lent beside them. Clauses
-        // of `art_first`, `art_last`, `art_find`: IsPairRead.
-        unsafe {
-            match wanted {
-                Wanted::First => art_first(at, key_to, key_room, key_len, value_to, room, value_len),
-                Wanted::Last => art_last(at, key_to, key_room, key_len, value_to, room, value_len),
-                Wanted::FrontOf(query) => {
-                    art_find(at, query.as_ptr(), query.len(), key_to, key_room, key_len, value_to, room, value_len)
-                }
-            }
+    /// Makes a frozen map one that can be changed. False where another handle has it, too.
+    pub(crate) fn thaw(&mut self) -> bool {
+        // SAFETY: rules 1, 2. Clause of `artmap_words_thaw`: IsThawed.
+        match unsafe { artmap_words_thaw(self.handle.get()) } {
+            DONE => true,
+            SHARED => false,
+            code => not_told(code),
         }
     }
 }
 
-impl Drop for Art {
+impl Drop for Words {
     fn drop(&mut self) {
         self.clear();
     }
 }
 
-#[cfg(test)]
-mod tests {
-    use super::*;
+/// A walk that lends values to be written, each pair once.
+pub(crate) struct WalkMut<'a, K, V, L> {
+    words: &'a mut Words,
+    slots: *mut Slot<K, V>,
+    len: usize,
+    walk: Walk<L>,
+    /// The key that was lent last at each end.
+    front: Option<&'a K>,
+    back: Option<&'a K>,
+    of: PhantomData<&'a mut Slot<K, V>>,
+}
 
-    #[test]
-    fn calls_answer_what_the_header_says() {
-        let (mut art, mut key, mut value) = (Art::new(), Room::new(), Room::new());
-        assert!(!art.has(b"ab") && art.len() == 0 && !art.remove(b"ab").unwrap());
-        assert!(!art.read(Wanted::First, &mut key, &mut value).unwrap());
-        assert_eq!(art.remove_prefix(b""), Ok(0));
-        assert_eq!(art.put(b"ab", b"one"), Ok(Put::New));
-        assert_eq!(art.put(b"ab", &[7; 5000]), Ok(Put::Replaced));
-        assert_eq!(art.put(b"a", b""), Ok(Put::Conflict));
-        assert_eq!(art.put(b"abc", b""), Ok(Put::Conflict));
-        assert_eq!(art.put(&[b'b'; 300], b""), Ok(Put::New));
-        assert!(art.get(b"ab", &mut value).unwrap() && value.bytes() == [7; 5000]);
-        assert!(art.has(b"ab") && art.has(&[b'b'; 300]) && !art.has(b"b"));
-        assert!(art.read(Wanted::FrontOf(b"abc"), &mut key, &mut value).unwrap() && key.bytes() == b"ab");
-        assert!(art.read(Wanted::Last, &mut key, &mut value).unwrap());
-        assert_eq!((key.bytes(), value.bytes()), (&[b'b'; 300][..], &b""[..]));
-        assert_eq!((art.len(), art.remove_prefix(b"b"), art.len()), (2, Ok(1), 1));
-        let mut lens = [Lens { key: 0, value: 0 }; 2];
-        assert_eq!(art.walk(Way::Up, From::End, b"", &mut [0; 9], &mut lens), Walked::NoRoom(5002));
-        assert_eq!(art.load(b"acxad", &[Lens { key: 2, value: 1 }, Lens { key: 2, value: 0 }]), (2, None));
-        let stopped =
-            art.load(b"aeaexf", &[Lens { key: 2, value: 0 }, Lens { key: 3, value: 0 }, Lens { key: 1, value: 0 }]);
-        assert_eq!(stopped, (1, Some(Stop::Conflict)));
-        let mut room = [0; 9];
-        assert_eq!(art.walk(Way::Down, From::Behind, b"ae", &mut room, &mut lens), Walked::Pairs(2));
-        assert_eq!((&room[..5], lens[1].value), (&b"adacx"[..], 1));
-        assert_eq!(art.walk(Way::Up, From::Key, b"af", &mut room, &mut lens), Walked::End);
-        art.clear();
-        assert!(art.len() == 0 && !art.has(b"ab"));
-        assert_eq!(art.walk(Way::Up, From::End, b"", &mut room, &mut lens), Walked::End);
-        assert_eq!(art.put(b"", b""), Ok(Put::New));
-        assert!(art.read(Wanted::Last, &mut key, &mut value).unwrap() && key.bytes() == b"");
+// SAFETY: rule 2 is kept by its `&mut` of the words. Clause of `artmap_words_walk_words`: IsWordsWalked, of that handle alone.
+// What else it has is a `&mut` of the slots, and shared references to keys.
+unsafe impl<K: Send + Sync, V: Send, L: Send> Send for WalkMut<'_, K, V, L> {}
+
+impl<'a, K: Key, V, L: Limits> WalkMut<'a, K, V, L> {
+    pub(crate) fn new(words: &'a mut Words, slab: &'a mut Slab<K, V>, walk: Walk<L>) -> Self {
+        let slots = slab.slots_mut();
+        WalkMut { words, len: slots.len(), slots: slots.as_mut_ptr(), walk, front: None, back: None, of: PhantomData }
+    }
+
+    /// The next pair from one of the ends.
+    pub(crate) fn next(&mut self, way: Way) -> Option<(&'a K, &'a mut V)> {
+        let last = match way {
+            Way::Up => self.front,
+            Way::Down => self.back,
+        };
+        let index = self.walk.next_sure(self.words, way, |_| last.expect("a key was lent"))?;
+        assert!(index < self.len, "libartmap.a is not that of this crate: it told the word {index}");
+        // SAFETY: rules 1 to 4 are kept by `Words`. Clause of `artmap_words_walk_words`: IsWordsWalked: the words are those of
+        // pairs that ascend (or descend), all behind the key given. `next_sure` goes on behind the very pair that was lent
+        // last at this end, since `artmap_words_get` (IsWordRead) told its word for the bytes of that key; and it ends at the
+        // word that the other end lent last. So no pair is met twice. No two pairs of a map have one word, since a word is
+        // put in as that of a free slot. So this slot is lent once while `'a` lasts, and the slots are lent to `self` alone.
+        let slot: &'a mut Slot<K, V> = unsafe { &mut *self.slots.add(index) };
+        let (key, value) = slot.lend(index);
+        match way {
+            Way::Up => self.front = Some(key),
+            Way::Down => self.back = Some(key),
+        }
+        Some((key, value))
     }
 }
+
+#[cfg(test)]
+mod tests;

@@ -1,106 +1,315 @@
-//! The iterators of a map.
-use crate::error::{or_end, AllocError};
-use crate::ffi::{Art, Way};
-use crate::key::Key;
-use crate::value::Value;
-use crate::walk::Walk;
-use std::borrow::Borrow;
+//! Walks over a map that lend its pairs.
+use crate::Key;
+use crate::error::or_end;
+use crate::ffi::{From, To, Words};
+use crate::room::Room;
+use crate::slab::Slot;
+use crate::view::{View, index_of};
+use crate::walk::{All, Between, Limits, Under, Walk, Way};
 use std::fmt;
 use std::iter::FusedIterator;
-use std::marker::PhantomData;
+use std::slice;
 
-/// A walk over a map that is lent (`&Art`) or owned (`Art`).
-struct Steps<A> {
-    art: A,
-    walk: Walk,
-    /// How many pairs are left at most.
+/// Of slots in order those within some limits.
+fn within<'a, K, V, L: Limits>(all: &'a [Slot<K, V>], words: &Words, limits: &L) -> &'a [Slot<K, V>] {
+    let end = |way| match limits.from(way) {
+        // (each has its index as its word)
+        From::End if matches!(limits.to(way), To::End | To::Key(_) | To::Before(_)) => {
+            if way == Way::Up {
+                Some(0)
+            } else {
+                all.len().checked_sub(1)
+            }
+        }
+        from => {
+            let mut word = [0];
+            let (count, _) = words.walk(way, from, limits.to(way), &mut word);
+            (count == 1).then(|| index_of(word[0]))
+        }
+    };
+    match (end(Way::Up), end(Way::Down)) {
+        (Some(first), Some(last)) => all.get(first..=last).unwrap_or(&[]),
+        _ => &[],
+    }
+}
+
+/// What a walk over some keys holds.
+pub(crate) struct Pairs<'a, K, V, L> {
+    view: View<'a, K, V>,
+    walk: Walk<L>,
+    /// Where the slots are in order, those that are left.
+    slots: Option<slice::Iter<'a, Slot<K, V>>>,
+}
+
+impl<K, V, L: Clone> Clone for Pairs<'_, K, V, L> {
+    fn clone(&self) -> Self {
+        Pairs { view: self.view, walk: self.walk.clone(), slots: self.slots.clone() }
+    }
+}
+
+impl<'a, K: Key, V, L: Limits> Pairs<'a, K, V, L> {
+    pub(crate) fn new(view: View<'a, K, V>, limits: L) -> Self {
+        let slots = view.slab.in_order().map(|all| within(all, view.words, &limits).iter());
+        Pairs { view, walk: Walk::new(limits), slots }
+    }
+
+    #[inline]
+    fn step(&mut self, way: Way) -> Option<(&'a K, &'a V)> {
+        if let Some(slots) = &mut self.slots {
+            let slot = if way == Way::Up { slots.next() } else { slots.next_back() };
+            return slot.and_then(Slot::pair);
+        }
+        let slab = self.view.slab;
+        let index = self.walk.next(self.view.words, way, |index| slab.pair(index).0)?;
+        Some(slab.pair(index))
+    }
+}
+
+/// The pairs of a map in ascending order, from both ends. [`ArtMap::iter`](crate::ArtMap::iter) makes it.
+///
+/// ```
+/// let map = artmap::ArtMap::from([(2, 'b'), (1, 'a')]);
+/// let mut pairs = map.iter();
+/// assert_eq!((pairs.len(), pairs.next_back(), pairs.next()), (2, Some((&2, &'b')), Some((&1, &'a'))));
+/// ```
+#[must_use]
+pub struct Iter<'a, K, V> {
+    pairs: Pairs<'a, K, V, All>,
     left: usize,
 }
 
-impl<A: Borrow<Art>> Steps<A> {
-    fn new(art: A, walk: Walk) -> Steps<A> {
-        let left = art.borrow().len();
-        Steps { art, walk, left }
+impl<'a, K: Key, V> Iter<'a, K, V> {
+    pub(crate) fn new(view: View<'a, K, V>) -> Self {
+        Iter { pairs: Pairs::new(view, All), left: view.slab.len() }
     }
 
-    fn step<T>(&mut self, way: Way, made: impl FnOnce(&[u8], &[u8]) -> Result<T, AllocError>) -> Option<T> {
-        let (key, value) = or_end(self.walk.step(self.art.borrow(), way))?;
-        self.left -= 1;
-        Some(or_end(made(key, value)))
-    }
-}
-
-fn pair<K: Key, V: Value>(key: &[u8], value: &[u8]) -> Result<(K, V), AllocError> {
-    Ok((K::from_bytes(key)?, V::from_bytes(value)?))
-}
-
-macro_rules! iterators {
-    ($($doc:literal $name:ident [$($life:lifetime)?] over $art:ty, $item:ty, $made:expr, $exact:tt;)*) => {$(
-        #[doc = $doc]
-        pub struct $name<$($life,)? K, V> {
-            steps: Steps<$art>,
-            of: PhantomData<(K, V)>,
+    #[inline]
+    fn step(&mut self, way: Way) -> Option<(&'a K, &'a V)> {
+        if self.left == 0 {
+            return None;
         }
+        self.left -= 1;
+        self.pairs.step(way)
+    }
+}
 
-        impl<$($life,)? K: Key, V: Value> $name<$($life,)? K, V> {
-            pub(crate) fn new(art: $art, walk: Walk) -> Self {
-                Self { steps: Steps::new(art, walk), of: PhantomData }
+/// The pairs between two bounds, in ascending order, from both ends. [`ArtMap::range`](crate::ArtMap::range) makes it.
+///
+/// ```
+/// let map = artmap::ArtMap::from([(2, 'b'), (1, 'a'), (3, 'c')]);
+/// assert!(map.range(2..).eq([(&2, &'b'), (&3, &'c')]));
+/// ```
+#[must_use]
+pub struct Range<'a, K, V>(Pairs<'a, K, V, Between>);
+
+impl<'a, K: Key, V> Range<'a, K, V> {
+    pub(crate) fn new(view: View<'a, K, V>, limits: Between) -> Self {
+        Range(Pairs::new(view, limits))
+    }
+
+    #[inline]
+    fn step(&mut self, way: Way) -> Option<(&'a K, &'a V)> {
+        self.0.step(way)
+    }
+}
+
+/// The pairs whose keys begin with a prefix, in ascending order, from both ends.
+/// [`ArtMap::prefix`](crate::ArtMap::prefix) makes it.
+///
+/// ```
+/// let map = artmap::ArtMap::from([("ab", 1), ("ac", 2), ("b", 3)]);
+/// assert!(map.prefix("a").rev().eq([(&"ac", &2), (&"ab", &1)]));
+/// ```
+#[must_use]
+pub struct Prefix<'a, K, V>(Pairs<'a, K, V, Under>);
+
+impl<'a, K: Key, V> Prefix<'a, K, V> {
+    pub(crate) fn new(view: View<'a, K, V>, prefix: Room) -> Self {
+        Prefix(Pairs::new(view, Under(prefix)))
+    }
+
+    #[inline]
+    fn step(&mut self, way: Way) -> Option<(&'a K, &'a V)> {
+        self.0.step(way)
+    }
+}
+
+/// The keys of a map in ascending order, from both ends. [`ArtMap::keys`](crate::ArtMap::keys) makes it.
+///
+/// ```
+/// let map = artmap::ArtMap::from([(2, 'b'), (1, 'a')]);
+/// assert!(map.keys().eq(&[1, 2]));
+/// ```
+#[must_use]
+pub struct Keys<'a, K, V>(pub(crate) Iter<'a, K, V>);
+
+impl<'a, K: Key, V> Keys<'a, K, V> {
+    #[inline]
+    fn step(&mut self, way: Way) -> Option<&'a K> {
+        Some(self.0.step(way)?.0)
+    }
+}
+
+/// The values of a map in the order of their keys, from both ends. [`ArtMap::values`](crate::ArtMap::values) makes it.
+///
+/// ```
+/// let map = artmap::ArtMap::from([(2, 'b'), (1, 'a')]);
+/// assert!(map.values().eq(&['a', 'b']));
+/// ```
+#[must_use]
+pub struct Values<'a, K, V>(pub(crate) Iter<'a, K, V>);
+
+impl<'a, K: Key, V> Values<'a, K, V> {
+    #[inline]
+    fn step(&mut self, way: Way) -> Option<&'a V> {
+        Some(self.0.step(way)?.1)
+    }
+}
+
+/// The pairs of a map with keys as bytes, in ascending order, from both ends.
+/// [`ArtMap::iter_bytes`](crate::ArtMap::iter_bytes) makes it.
+///
+/// ```
+/// let map = artmap::ArtMap::from([(258u16, 'b'), (1, 'a')]);
+/// assert!(map.iter_bytes().eq([([0, 1], &'a'), ([1, 2], &'b')]));
+/// ```
+#[must_use]
+pub struct IterBytes<'a, K, V>(pub(crate) Iter<'a, K, V>);
+
+impl<'a, K: Key, V> IterBytes<'a, K, V> {
+    #[inline]
+    fn step(&mut self, way: Way) -> Option<(K::Bytes<'a>, &'a V)> {
+        let (key, value) = self.0.step(way)?;
+        Some((or_end(key.to_bytes()), value))
+    }
+}
+
+impl<K, V> Iter<'_, K, V> {
+    fn left(&self) -> usize {
+        self.left
+    }
+}
+
+/// How many are left of a walk over a whole map.
+macro_rules! left {
+    ($($of:ident)*) => {$(
+        impl<K, V> $of<'_, K, V> {
+            fn left(&self) -> usize {
+                self.0.left
             }
         }
+    )*};
+}
 
-        impl<$($life,)? K: Key, V: Value> Iterator for $name<$($life,)? K, V> {
+left! { Keys Values IterBytes }
+
+macro_rules! walks {
+    ($($of:ident, $item:ty;)*) => {$(
+        impl<'a, K: Key, V> Iterator for $of<'a, K, V> {
             type Item = $item;
 
+            #[inline]
             fn next(&mut self) -> Option<$item> {
-                self.steps.step(Way::Up, $made)
+                self.step(Way::Up)
             }
 
             fn size_hint(&self) -> (usize, Option<usize>) {
-                (if $exact { self.steps.left } else { 0 }, Some(self.steps.left))
+                (self.left(), Some(self.left()))
+            }
+
+            fn count(self) -> usize {
+                self.left()
             }
 
             fn last(mut self) -> Option<$item> {
-                self.next_back()
+                self.step(Way::Down)
             }
         }
 
-        impl<$($life,)? K: Key, V: Value> DoubleEndedIterator for $name<$($life,)? K, V> {
-            fn next_back(&mut self) -> Option<$item> {
-                self.steps.step(Way::Down, $made)
+        impl<K: Key, V> DoubleEndedIterator for $of<'_, K, V> {
+            #[inline]
+            fn next_back(&mut self) -> Option<Self::Item> {
+                self.step(Way::Down)
             }
         }
 
-        impl<$($life,)? K: Key, V: Value> FusedIterator for $name<$($life,)? K, V> {}
+        impl<K: Key, V> ExactSizeIterator for $of<'_, K, V> {}
 
-        impl<$($life,)? K, V> fmt::Debug for $name<$($life,)? K, V> {
-            fn fmt(&self, to: &mut fmt::Formatter<'_>) -> fmt::Result {
-                to.debug_struct(stringify!($name)).finish_non_exhaustive()
-            }
-        }
-
-        iterators! { exact $exact $name [$($life)?] }
+        impl<K: Key, V> FusedIterator for $of<'_, K, V> {}
     )*};
-    (exact true $name:ident [$($life:lifetime)?]) => {
-        impl<$($life,)? K: Key, V: Value> ExactSizeIterator for $name<$($life,)? K, V> {}
-    };
-    (exact false $name:ident [$($life:lifetime)?]) => {};
 }
 
-iterators! {
-    "The pairs of a map, by [`ArtMap::iter`](crate::ArtMap::iter)."
-    Iter['a] over &'a Art, (K, V), pair, true;
-    "The pairs between two bounds, by [`ArtMap::range`](crate::ArtMap::range)."
-    Range['a] over &'a Art, (K, V), pair, false;
-    "The pairs behind a prefix, by [`ArtMap::prefix`](crate::ArtMap::prefix)."
-    Prefix['a] over &'a Art, (K, V), pair, false;
-    "The keys of a map, by [`ArtMap::keys`](crate::ArtMap::keys)."
-    Keys['a] over &'a Art, K, |key: &[u8], _: &[u8]| K::from_bytes(key), true;
-    "The values of a map, by [`ArtMap::values`](crate::ArtMap::values)."
-    Values['a] over &'a Art, V, |_: &[u8], value: &[u8]| V::from_bytes(value), true;
-    "The pairs of a map that is owned."
-    IntoIter[] over Art, (K, V), pair, true;
-    "The keys of a map that is owned, by [`ArtMap::into_keys`](crate::ArtMap::into_keys)."
-    IntoKeys[] over Art, K, |key: &[u8], _: &[u8]| K::from_bytes(key), true;
-    "The values of a map that is owned, by [`ArtMap::into_values`](crate::ArtMap::into_values)."
-    IntoValues[] over Art, V, |_: &[u8], value: &[u8]| V::from_bytes(value), true;
+walks! {
+    Iter, (&'a K, &'a V);
+    Keys, &'a K;
+    Values, &'a V;
+    IterBytes, (K::Bytes<'a>, &'a V);
+}
+
+macro_rules! spans {
+    ($($of:ident)*) => {$(
+        impl<'a, K: Key, V> Iterator for $of<'a, K, V> {
+            type Item = (&'a K, &'a V);
+
+            #[inline]
+            fn next(&mut self) -> Option<(&'a K, &'a V)> {
+                self.step(Way::Up)
+            }
+
+            fn size_hint(&self) -> (usize, Option<usize>) {
+                (0, Some(self.0.view.slab.len()))
+            }
+
+            fn last(mut self) -> Option<(&'a K, &'a V)> {
+                self.step(Way::Down)
+            }
+        }
+
+        impl<'a, K: Key, V> DoubleEndedIterator for $of<'a, K, V> {
+            #[inline]
+            fn next_back(&mut self) -> Option<(&'a K, &'a V)> {
+                self.step(Way::Down)
+            }
+        }
+
+        impl<K: Key, V> FusedIterator for $of<'_, K, V> {}
+    )*};
+}
+
+spans! { Range Prefix }
+
+macro_rules! copies {
+    ($($of:ident)*) => {$(
+        impl<K, V> Clone for $of<'_, K, V> {
+            fn clone(&self) -> Self {
+                $of(self.0.clone())
+            }
+        }
+    )*};
+}
+
+copies! { Range Prefix Keys Values IterBytes }
+
+impl<K, V> Clone for Iter<'_, K, V> {
+    fn clone(&self) -> Self {
+        Iter { pairs: self.pairs.clone(), left: self.left }
+    }
+}
+
+macro_rules! shown {
+    ($($of:ident, [$($bound:tt)*];)*) => {$(
+        impl<$($bound)*> fmt::Debug for $of<'_, K, V> {
+            fn fmt(&self, to: &mut fmt::Formatter<'_>) -> fmt::Result {
+                to.debug_list().entries(self.clone()).finish()
+            }
+        }
+    )*};
+}
+
+shown! {
+    Iter, [K: Key + fmt::Debug, V: fmt::Debug];
+    Range, [K: Key + fmt::Debug, V: fmt::Debug];
+    Prefix, [K: Key + fmt::Debug, V: fmt::Debug];
+    Keys, [K: Key + fmt::Debug, V];
+    Values, [K: Key, V: fmt::Debug];
 }

@@ -1,72 +1,75 @@
-//! [`ArtMap`]: an ordered map whose keys are seen as bytes, in an adaptive radix tree that is proved.
+//! [`ArtMap`] and [`ArtSet`]: an ordered map and set of keys that are seen as bytes, in an adaptive radix tree that is proved.
 //!
-//! The map itself is the library that `./lib` makes (`crates/art_c`, in Rattle). What each of its calls answers and does
-//! is proved, of a caller that keeps the rules of `bindings/c/art.h`. This crate is such a caller: `src/ffi.rs` has all
-//! its `unsafe`. The rest is not proved, but tested.
+//! They go where std's [`BTreeMap`](std::collections::BTreeMap) and [`BTreeSet`](std::collections::BTreeSet) go, and have what
+//! a radix tree adds: all keys with a prefix, the key that begins a query, many keys taken out by their prefix.
+//! [`compared`] has each call of theirs, and of the crate blart, beside the one here.
 //!
 //! ```
-//! use art_map::ArtMap;
+//! use artmap::ArtMap;
 //!
-//! # fn main() -> Result<(), art_map::AllocError> {
-//! let mut sizes = ArtMap::<String, u64>::new();
-//! sizes.insert("usr/bin/cc".to_string(), 912)?;
-//! sizes.insert("usr/lib/libc".to_string(), 2_030)?;
-//! sizes.insert("var/log".to_string(), 64)?;
-//! assert_eq!(sizes.get("usr/bin/cc"), Some(912));
-//! assert_eq!(sizes.prefix(b"usr/").map(|(_, size)| size).sum::<u64>(), 2_942);
-//! assert_eq!(sizes.remove_prefix(b"usr/")?, 2);
-//! assert_eq!(sizes.last_key_value(), Some(("var/log".to_string(), 64)));
-//! # Ok(())
-//! # }
+//! let mut sizes = ArtMap::new();
+//! sizes.insert("usr/bin/cc", 912);
+//! sizes.insert("usr/lib/libc", 2_030);
+//! *sizes.entry("var/log").or_insert(0) += 64;
+//! assert_eq!(sizes.get("usr/bin/cc"), Some(&912));
+//! assert_eq!(sizes.prefix("usr/").map(|pair| pair.1).sum::<i32>(), 2_942);
+//! assert_eq!(sizes.remove_prefix("usr/"), 2);
+//! assert_eq!(sizes.last_key_value(), Some((&"var/log", &64)));
 //! ```
 //!
-//! # Copies
+//! # What is proved
 //!
-//! Keys and values are copied in as bytes, and copied out as values of their own: [`get`](ArtMap::get) answers a `V`, not
-//! a `&V`. [`Key`] and [`Value`] say how a type is turned into bytes and back.
+//! The tree is the library that `./lib` makes (`crates/art_c`, in Rattle): a map from byte strings to words. What each of its
+//! calls answers and does is proved, of a caller that keeps the rules of `artmap.h`. This crate is such a caller: `src/ffi.rs`
+//! has all its `unsafe`. Keys and values lie in slots of Rust's memory, and the word of a key is the index of its slot. That
+//! part is not proved, but tested.
 //!
-//! # Keys that begin others
+//! # Keys
 //!
-//! A stored key begins no other one. Where the type of the keys promises that ([`NoPrefixes`]: integers, arrays,
-//! `String`), [`insert`](ArtMap::insert) stores each. Keys of `Vec<u8>` may conflict: for these there is
-//! [`try_insert`](ArtMap::try_insert).
+//! [`Key`] turns a key into bytes: texts, numbers, addresses, times, tuples, options and lists of numbers have it, and types
+//! of your own may. Keys ascend by their bytes, which for all these is the order of `Ord` ([`Ordered`]). A stored key begins
+//! no other one. Where the type promises that ([`NoPrefixes`]), all calls are there. Byte strings as they are, such as
+//! `Vec<u8>`, may conflict: for these there are [`try_insert`](ArtMap::try_insert), [`try_entry`](ArtMap::try_entry) and
+//! [`try_extend`](ArtMap::try_extend), or an end mark by [`Ended`].
 //!
-//! # Want of memory
+//! # Memory and panics
 //!
-//! A call that changes the map says [`AllocError`] where memory lacks, and leaves the map as it was. `retain`, `load` and
-//! `try_extend` stop where they are. A call that only reads, `clone`, `extend` and `collect` end the program then, as
-//! those of Rust's own collections do.
+//! Where memory lacks, a call ends the program, as those of std's collections do. A call whose name begins with `try_` says
+//! it instead, and tells what it leaves. A panic in a `Drop`, a `Clone`, a closure, an iterator or a [`Key`] leaves the map
+//! whole.
 //!
 //! # Threads
 //!
-//! An `ArtMap` is neither `Send` nor `Sync`. The proof is of a map that stays on the thread that made it and has one call
-//! at a time, those that read too (rule 2 of `art.h`): a call takes the map out of its handle and puts it back.
-//!
-//! ```compile_fail
-//! fn is_sent<T: Send>(_: T) {}
-//! is_sent(art_map::ArtMap::<u32, u32>::new());
-//! ```
-//!
-//! ```compile_fail
-//! fn is_shared<T: Sync>(_: T) {}
-//! is_shared(art_map::ArtMap::<u32, u32>::new());
-//! ```
+//! A map may go to another thread. It has one call at a time, those that read too, so it is not `Sync`: where many threads
+//! read, [`freeze`](ArtMap::freeze) it, and give each a clone of the [`FrozenMap`].
 #![deny(missing_docs, unsafe_code)]
 
-mod error;
-#[allow(unsafe_code)]
-mod ffi;
-mod iter;
-mod key;
-mod load;
-mod map;
-mod room;
-mod traits;
-mod value;
-mod walk;
+pub mod compared;
 
-pub use error::{AllocError, InsertRefused, LoadError, TryInsertError};
-pub use iter::{IntoIter, IntoKeys, IntoValues, Iter, Keys, Prefix, Range, Values};
-pub use key::{text_prefix, Key, KeyBytes, NoPrefixes, TextBytes};
-pub use map::ArtMap;
-pub use value::Value;
+pub use error::{AllocError, TryInsertError, TryKeyError};
+pub use frozen::FrozenMap;
+pub use iter::{Iter, IterBytes, Keys, Prefix, Range, Values};
+pub use iter_mut::{IterMut, PrefixMut, RangeMut, ValuesMut};
+pub use key::{Ended, Front, Key, KeyPrefix, NoPrefixes, Ordered, PrefixBytes};
+pub use map::{
+    AppendError, ArtMap, Entry, ExtractIf, InnerEntry, OccupiedEntry, PrefixEntry, TryExtractIf, VacantEntry,
+};
+pub use owned::{IntoIter, IntoKeys, IntoValues};
+pub use room::Room as KeyBytes;
+pub use set::{ArtSet, Difference, FrozenSet, Intersection, SymmetricDifference, Union};
+pub use set::{SetExtractIf, SetIntoIter, SetIter, SetPrefix, SetRange};
+
+mod error;
+#[allow(unsafe_code, reason = "all of it stands here")]
+mod ffi;
+mod frozen;
+mod iter;
+mod iter_mut;
+mod key;
+mod map;
+mod owned;
+mod room;
+mod set;
+mod slab;
+mod view;
+mod walk;

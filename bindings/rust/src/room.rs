@@ -1,61 +1,70 @@
-//! Rooms that the library copies bytes into.
+//! A room for the bytes of a key: a small one on the stack, and one of the heap where these are more.
 use crate::error::AllocError;
 
-const SMALL: usize = 40;
+pub(crate) const SMALL: usize = 120;
 
-/// Bytes in a room that grows. Small ones need no memory. All of the room has been written, so that the library may be
-/// lent the whole of it.
-pub(crate) struct Room {
+/// Bytes that are put together. Up to 120 need no block of the heap.
+#[derive(Clone, Debug)]
+pub struct Room {
     small: [u8; SMALL],
-    large: Vec<u8>,
+    /// How many there are in `small`, while `large` is not used.
     len: usize,
+    large: Vec<u8>,
 }
 
 impl Room {
-    pub(crate) fn new() -> Room {
-        Room { small: [0; SMALL], large: Vec::new(), len: 0 }
+    pub(crate) const fn new() -> Room {
+        Room { small: [0; SMALL], len: 0, large: Vec::new() }
     }
 
-    /// The bytes that it holds.
+    /// A room with these bytes.
+    pub(crate) fn of(bytes: &[u8]) -> Result<Room, AllocError> {
+        let mut room = Room::new();
+        room.push(bytes)?;
+        Ok(room)
+    }
+
+    /// A room with fewer than 120 bytes, and a zero behind them if that is wanted.
+    #[inline]
+    pub(crate) fn small(bytes: &[u8], has_zero: bool) -> Room {
+        let mut room = Room::new();
+        room.small[..bytes.len()].copy_from_slice(bytes);
+        room.len = bytes.len() + usize::from(has_zero);
+        room
+    }
+
+    #[inline]
     pub(crate) fn bytes(&self) -> &[u8] {
-        let all = if self.large.is_empty() { &self.small[..] } else { &self.large[..] };
-        &all[..self.len]
+        if self.large.is_empty() { &self.small[..self.len] } else { &self.large }
     }
 
-    /// The whole room, to be written.
-    pub(crate) fn space(&mut self) -> &mut [u8] {
+    /// Adds bytes. Without memory it holds what it held.
+    pub(crate) fn push(&mut self, bytes: &[u8]) -> Result<(), AllocError> {
+        let end = self.len + bytes.len();
         if self.large.is_empty() {
-            &mut self.small
+            if let Some(to) = self.small.get_mut(self.len..end) {
+                to.copy_from_slice(bytes);
+                self.len = end;
+                return Ok(());
+            }
+            self.large.try_reserve(end)?;
+            self.large.extend_from_slice(&self.small[..self.len]);
         } else {
-            &mut self.large
+            self.large.try_reserve(bytes.len())?;
         }
-    }
-
-    /// Says that the first `len` bytes of the space are what it holds.
-    pub(crate) fn hold(&mut self, len: usize) {
-        assert!(len <= self.space().len());
-        self.len = len;
-    }
-
-    /// Makes the space at least so long. What it holds is lost.
-    pub(crate) fn grow(&mut self, len: usize) -> Result<(), AllocError> {
-        let had = self.space().len();
-        if len > had {
-            let size = len.max(had.saturating_mul(2).min(1 << 20));
-            self.len = 0;
-            self.large.clear();
-            self.large.try_reserve_exact(size)?;
-            self.large.resize(size, 0);
-        }
+        self.large.extend_from_slice(bytes);
         Ok(())
     }
 
-    /// Makes it hold these bytes.
-    pub(crate) fn copy(&mut self, bytes: &[u8]) -> Result<(), AllocError> {
-        self.grow(bytes.len())?;
-        self.space()[..bytes.len()].copy_from_slice(bytes);
-        self.hold(bytes.len());
-        Ok(())
+    #[cfg(test)]
+    pub(crate) fn len(&self) -> usize {
+        self.bytes().len()
+    }
+}
+
+impl AsRef<[u8]> for Room {
+    fn as_ref(&self) -> &[u8] {
+        self.bytes()
     }
 }
 
@@ -64,16 +73,15 @@ mod tests {
     use super::*;
 
     #[test]
-    fn it_grows_and_stays_usable() {
+    fn it_grows() {
         let mut room = Room::new();
-        assert_eq!(room.bytes(), b"");
-        room.copy(b"short").unwrap();
-        assert_eq!(room.bytes(), b"short");
-        let long = vec![7; 1000];
-        room.copy(&long).unwrap();
-        assert_eq!(room.bytes(), long);
-        room.copy(b"").unwrap();
-        assert_eq!(room.bytes(), b"");
-        assert_eq!(room.space().len(), 1000);
+        let mut all = Vec::new();
+        for at in 0..40u8 {
+            let piece = vec![at; usize::from(at)];
+            room.push(&piece).unwrap();
+            all.extend(piece);
+            assert_eq!((room.bytes(), room.len()), (&all[..], all.len()));
+        }
+        assert_eq!(Room::of(b"").unwrap().bytes(), b"");
     }
 }

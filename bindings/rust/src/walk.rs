@@ -1,173 +1,197 @@
-//! Walks over a map's bytes, from both ends. A walk keeps no pointer into the map. Pairs are copied out many at a time, and
-//! each time the call finds its place by the last key that was given.
-use crate::error::AllocError;
-use crate::ffi::{Art, From, Lens, Walked, Way};
+//! Walks over the words of a map, from both ends. A walk keeps no pointer into the proved map. Words are told many at a time,
+//! more each time; then the next call finds its place by the key of the last one.
+use crate::Key;
+use crate::error::or_end;
+use crate::ffi::{From, To, Words};
+use crate::map::CHANGED;
 use crate::room::Room;
-use std::cmp::Ordering;
 use std::ops::Bound;
 
-/// How many pairs are copied out first, and how many at most.
-const FIRST: usize = 4;
-const MOST: usize = 64;
-/// For how many bytes there is room, for each pair; and for all, at most, but for a pair that takes more.
-const BYTES: usize = 48;
-const MOST_BYTES: usize = 1 << 14;
+/// How many words are asked for first, how many times more each time, and how many at most.
+const FIRST: usize = 16;
+const TIMES: usize = 2;
+const MOST: usize = 1024;
 
-/// A key and a value in the rooms of a walk.
-pub(crate) type Lent<'a> = (&'a [u8], &'a [u8]);
+/// Which way a walk goes.
+#[derive(Clone, Copy, PartialEq, Eq, Debug)]
+pub(crate) enum Way {
+    Up,
+    Down,
+}
 
-/// Pairs that were copied out, of which some have been given.
+/// Between which keys a walk goes.
+pub(crate) trait Limits {
+    /// Whether the end of the walk is known by the number of its pairs.
+    const ARE_COUNTED: bool = false;
+    fn from(&self, way: Way) -> From<'_>;
+    fn to(&self, way: Way) -> To<'_>;
+}
+
+/// All keys. How many are left is counted.
+#[derive(Clone)]
+pub(crate) struct All;
+
+/// Keys between two bounds.
+#[derive(Clone)]
+pub(crate) struct Between(pub(crate) Bound<Room>, pub(crate) Bound<Room>);
+
+/// Keys that begin with some bytes.
+#[derive(Clone)]
+pub(crate) struct Under(pub(crate) Room);
+
+impl Limits for All {
+    const ARE_COUNTED: bool = true;
+
+    fn from(&self, _: Way) -> From<'_> {
+        From::End
+    }
+
+    fn to(&self, _: Way) -> To<'_> {
+        To::End
+    }
+}
+
+impl Limits for Between {
+    fn from(&self, way: Way) -> From<'_> {
+        match if way == Way::Up { &self.0 } else { &self.1 } {
+            Bound::Unbounded => From::End,
+            Bound::Included(key) => From::Key(key.bytes()),
+            Bound::Excluded(key) => From::After(key.bytes()),
+        }
+    }
+
+    fn to(&self, way: Way) -> To<'_> {
+        match if way == Way::Up { &self.1 } else { &self.0 } {
+            Bound::Unbounded => To::End,
+            Bound::Included(key) => To::Key(key.bytes()),
+            Bound::Excluded(key) => To::Before(key.bytes()),
+        }
+    }
+}
+
+impl Limits for Under {
+    fn from(&self, _: Way) -> From<'_> {
+        From::End
+    }
+
+    fn to(&self, _: Way) -> To<'_> {
+        To::Prefix(self.0.bytes())
+    }
+}
+
+/// Words that were told, of which some have been given.
+#[derive(Clone)]
 struct Batch {
-    bytes: Vec<u8>,
-    lens: Vec<Lens>,
-    /// How many there are, how many were given, and where the bytes of the next one begin.
+    few: [u64; FIRST],
+    many: Vec<u64>,
+    /// How many there are, and how many were given.
     count: usize,
     given: usize,
-    at: usize,
+    has_more: bool,
 }
 
 impl Batch {
-    fn new() -> Batch {
-        Batch { bytes: Vec::new(), lens: Vec::new(), count: 0, given: 0, at: 0 }
+    const fn new() -> Batch {
+        Batch { few: [0; FIRST], many: Vec::new(), count: 0, given: 0, has_more: true }
     }
 
-    /// The pair that is next, if there is one left.
-    fn peek(&self) -> Option<Lent<'_>> {
-        let len = self.lens[..self.count].get(self.given)?;
-        let (key, behind) = self.bytes[self.at..].split_at(len.key);
-        Some((key, &behind[..len.value]))
-    }
-
-    /// Says that the next pair has been given.
-    fn pass(&mut self) {
-        let len = self.lens[self.given];
-        self.at += len.key + len.value;
+    /// The next word that was told.
+    #[inline]
+    fn next(&mut self) -> Option<u64> {
+        if self.given == self.count {
+            return None;
+        }
+        let all = if self.many.is_empty() { &self.few[..] } else { &self.many[..] };
+        let word = all[self.given];
         self.given += 1;
+        Some(word)
     }
 
-    /// The pair that was given last.
-    fn last(&self) -> Option<Lent<'_>> {
-        let len = self.lens.get(self.given.checked_sub(1)?)?;
-        let (front, value) = self.bytes[..self.at].split_at(self.at - len.value);
-        Some((&front[front.len() - len.key..], value))
-    }
-
-    /// Makes room for more pairs than before, or for a pair of so many bytes. Without memory the room is as it was.
-    fn grow(&mut self, bytes: usize) -> Result<(), AllocError> {
-        let places = (self.lens.len() * 2).clamp(FIRST, MOST);
-        // Where the bytes were too few for all places, they are twice as many.
-        let was_short = self.count != 0 && self.count < self.lens.len();
-        let more = if was_short { (2 * self.bytes.len()).min(MOST_BYTES) } else { places * BYTES };
-        let size = bytes.max(more).max(self.bytes.len());
-        self.lens.try_reserve_exact(places - self.lens.len())?;
-        self.bytes.try_reserve_exact(size - self.bytes.len())?;
-        self.lens.resize(places, Lens { key: 0, value: 0 });
-        self.bytes.resize(size, 0);
-        Ok(())
-    }
-
-    /// Copies out the pairs that come next, and tells whether there is one.
-    fn fill(&mut self, art: &Art, way: Way, from: From, key: &[u8]) -> Result<bool, AllocError> {
-        let mut bytes = 0;
-        loop {
-            let grown = self.grow(bytes);
-            if self.lens.is_empty() || self.bytes.len() < bytes {
-                grown?;
-            }
-            (self.count, self.given, self.at) = (0, 0, 0);
-            match art.walk(way, from, key, &mut self.bytes, &mut self.lens) {
-                Walked::Pairs(count) => {
-                    self.count = count;
-                    return Ok(true);
-                }
-                Walked::End => return Ok(false),
-                Walked::NoRoom(wanted) => bytes = wanted,
-            }
+    /// The places for the next words: more than before, if there is memory for them.
+    fn places(&mut self) -> &mut [u64] {
+        if self.count == 0 {
+            return &mut self.few;
         }
+        let had = if self.many.is_empty() { FIRST } else { self.many.len() };
+        let wanted = (had * TIMES).min(MOST);
+        if wanted > had && self.many.try_reserve_exact(wanted - self.many.len()).is_ok() {
+            self.many.resize(wanted, 0);
+        }
+        if self.many.is_empty() { &mut self.few } else { &mut self.many }
     }
 }
 
-/// An end of what is left of a walk: where it goes on, and the pairs that were copied out for it.
+/// An end of what is left of a walk, and the word that it gave last.
+#[derive(Clone)]
 struct End {
-    from: From,
-    key: Room,
     batch: Batch,
+    last: Option<u64>,
 }
 
-impl End {
-    fn of(bound: Bound<&[u8]>) -> Result<End, AllocError> {
-        let mut key = Room::new();
-        let from = match bound {
-            Bound::Unbounded => From::End,
-            Bound::Included(bytes) => {
-                key.copy(bytes)?;
-                From::Key
-            }
-            Bound::Excluded(bytes) => {
-                key.copy(bytes)?;
-                From::Behind
-            }
-        };
-        Ok(End { from, key, batch: Batch::new() })
-    }
-
-    /// Whether a key is within. `order` is that of the key and the end, seen from the other end.
-    fn holds(&self, order: impl FnOnce(&[u8]) -> Ordering) -> bool {
-        if let Some((key, _)) = self.batch.last() {
-            return order(key) == Ordering::Less;
-        }
-        match self.from {
-            From::End => true,
-            From::Key => order(self.key.bytes()) != Ordering::Greater,
-            From::Behind => order(self.key.bytes()) == Ordering::Less,
-        }
-    }
-
-    /// Makes the batch have a pair, if there is one.
-    fn prepare(&mut self, art: &Art, way: Way) -> Result<bool, AllocError> {
-        if self.batch.given < self.batch.count {
-            return Ok(true);
-        }
-        if let Some((key, _)) = self.batch.last() {
-            self.key.copy(key)?;
-            self.from = From::Behind;
-        }
-        self.batch.fill(art, way, self.from, self.key.bytes())
-    }
-}
+/// All words that were told have been given.
+struct Used;
 
 /// What is left of a walk.
-pub(crate) struct Walk {
+#[derive(Clone)]
+pub(crate) struct Walk<L> {
+    limits: L,
     front: End,
     back: End,
     is_done: bool,
 }
 
-impl Walk {
-    /// Between two bounds; where they hold no key between them it is empty.
-    pub(crate) fn between(from: Bound<&[u8]>, to: Bound<&[u8]>) -> Result<Walk, AllocError> {
-        Ok(Walk { front: End::of(from)?, back: End::of(to)?, is_done: false })
+fn index_of(word: u64) -> usize {
+    usize::try_from(word).unwrap_or(usize::MAX)
+}
+
+impl<L: Limits> Walk<L> {
+    pub(crate) const fn new(limits: L) -> Self {
+        let front = End { batch: Batch::new(), last: None };
+        let back = End { batch: Batch::new(), last: None };
+        Walk { limits, front, back, is_done: false }
     }
 
-    pub(crate) fn whole() -> Walk {
-        let open = || End { from: From::End, key: Room::new(), batch: Batch::new() };
-        Walk { front: open(), back: open(), is_done: false }
-    }
-
-    /// Over the keys that begin with a prefix.
-    pub(crate) fn behind(prefix: &[u8]) -> Result<Walk, AllocError> {
-        let mut walk = Walk::between(Bound::Included(prefix), Bound::Unbounded)?;
-        // The least bytes above all those that begin with the prefix: its last byte that can grow has grown.
-        if let Some(at) = prefix.iter().rposition(|it| *it != 0xff) {
-            walk.back.key.copy(&prefix[..=at])?;
-            walk.back.key.space()[at] += 1;
-            walk.back.from = From::Behind;
+    /// The index of the next pair from one of the ends. `key_of` lends the key of the index that this end gave last.
+    #[inline]
+    pub(crate) fn next<'k, K: Key + 'k>(
+        &mut self,
+        words: &Words,
+        way: Way,
+        key_of: impl FnOnce(usize) -> &'k K,
+    ) -> Option<usize> {
+        if let Ok(index) = self.given(way) {
+            return index;
         }
-        Ok(walk)
+        self.fill(words, way, key_of, false);
+        self.given(way).ok().flatten()
     }
 
-    /// The next pair from one of the ends. Where memory lacks, nothing has been passed.
-    pub(crate) fn step(&mut self, art: &Art, way: Way) -> Result<Option<Lent<'_>>, AllocError> {
+    /// As `next`, and it is sure that the walk goes on behind the pair that this end gave last: so no pair is met twice.
+    pub(crate) fn next_sure<'k, K: Key + 'k>(
+        &mut self,
+        words: &Words,
+        way: Way,
+        key_of: impl FnOnce(usize) -> &'k K,
+    ) -> Option<usize> {
+        if let Ok(index) = self.given(way) {
+            return index;
+        }
+        self.fill(words, way, key_of, true);
+        self.given(way).ok().flatten()
+    }
+
+    /// Has the next words told where all have been given, so that the pair that was given last may go.
+    pub(crate) fn settle<'k, K: Key + 'k>(&mut self, words: &Words, way: Way, key_of: impl FnOnce(usize) -> &'k K) {
+        let end = if way == Way::Up { &self.front } else { &self.back };
+        if !self.is_done && end.batch.given == end.batch.count && end.batch.has_more {
+            self.fill(words, way, key_of, false);
+        }
+    }
+
+    /// The index of the next of the words that were told, or none at the end of the walk. An error where others are to be told
+    /// first.
+    #[inline]
+    fn given(&mut self, way: Way) -> Result<Option<usize>, Used> {
         if self.is_done {
             return Ok(None);
         }
@@ -175,18 +199,41 @@ impl Walk {
             Way::Up => (&mut self.front, &self.back),
             Way::Down => (&mut self.back, &self.front),
         };
-        let is_found = near.prepare(art, way)?;
-        let is_within = near.batch.peek().is_some_and(|(found, _)| {
-            far.holds(|end| match way {
-                Way::Up => found.cmp(end),
-                Way::Down => end.cmp(found),
-            })
-        });
-        if !is_found || !is_within {
+        let Some(word) = near.batch.next() else {
+            self.is_done = !near.batch.has_more;
+            return if self.is_done { Ok(None) } else { Err(Used) };
+        };
+        if !L::ARE_COUNTED && far.last == Some(word) {
             self.is_done = true;
             return Ok(None);
         }
-        near.batch.pass();
-        Ok(near.batch.last())
+        near.last = Some(word);
+        Ok(Some(index_of(word)))
+    }
+
+    #[inline(never)]
+    fn fill<'k, K: Key + 'k>(&mut self, words: &Words, way: Way, key_of: impl FnOnce(usize) -> &'k K, is_sure: bool) {
+        let near = if way == Way::Up { &mut self.front } else { &mut self.back };
+        let (batch, to) = (&mut near.batch, self.limits.to(way));
+        let mut given = 0;
+        let (count, has_more) = match near.last {
+            None => words.walk(way, self.limits.from(way), to, batch.places()),
+            Some(last) => {
+                let key = key_of(index_of(last));
+                if let Some(front) = key.without_end() {
+                    assert!(!is_sure || words.get_ended(front) == Some(last), "{CHANGED}");
+                    let places = batch.places();
+                    let told = words.walk(way, From::After(front), to, places);
+                    // (behind the bytes without their end comes that key itself)
+                    given = usize::from(told.0 > 0 && places[0] == last);
+                    told
+                } else {
+                    let bytes = or_end(key.to_bytes());
+                    assert!(!is_sure || words.get(bytes.as_ref()) == Some(last), "{CHANGED}");
+                    words.walk(way, From::After(bytes.as_ref()), to, batch.places())
+                }
+            }
+        };
+        (batch.count, batch.given, batch.has_more) = (count, given, has_more);
     }
 }

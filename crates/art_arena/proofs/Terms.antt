@@ -12,7 +12,7 @@ pub use Rattle.art_arena.specs.arena.Linked.{AreHalves, AreLinked, CanLink, IsBe
 pub use Rattle.art_arena.specs.arena.Meaning.{IsAtDepth, IsNodesBeside, IsPart, IsSubtree, IsTreeBeside, Means, MeansBeside}
 pub use Rattle.art_arena.specs.arena.Places.{IsPlace}
 pub use Rattle.art_arena.specs.arena.Prefixes.{Mismatches, prefix_of}
-pub use Rattle.art_arena.specs.arena.Reads.{IsReadAt, KeysWithin, ReadsAtLeast, ReadsToFirst, unguided}
+pub use Rattle.art_arena.specs.arena.Reads.{IsReadAt, KeysWithin, ReadsAtLeast, ReadsExactly, ReadsToFirst, guide_cost, unguided}
 pub use Rattle.art_arena.specs.arena.Rooms.{FreesRoomOf, SameLeaves, UsesRoomOf}
 pub use Rattle.art_arena.specs.arena.Shapes.{AreUnder, Branches, IsBranch, IsUnder, LeafAt, Shape, branch, cells, cells_in, children_at, erase, erase_in, inner_at, join, key_of, leaf_at, leaves, leaves_in, name_of, no_branch, node_of, pairs_of, width}
 pub use Rattle.art_arena.specs.arena.Steps.{Step, steps_of, steps_to}
@@ -29,4 +29,5 @@ pub use Rattle.art_arena.specs.tree.Paths.{last_leaf, path_in, path_of}
 pub use Rattle.art_arena.specs.tree.Shrinks.{IsCrossing, IsMeeting, Shrinks, one_fewer, one_if}
 pub use Rattle.art_arena.specs.tree.Tenants.{begins_with, crossings, with_front, without_front}
 pub use Rattle.art_arena.specs.tree.TreeOf.{Group, add_to, children_of, grouped, tree_below, tree_of}
+pub use Rattle.art_arena.specs.tree.Ways.{descent_reads, end_path, end_path_in, guide_reads, is_cut, last_or, last_path_in, led_on, path_to_guide, prefix_reads, way_end, way_in, way_of}
 pub use Rattle.art_arena.specs.tree.Trees.{AreCanonical, Forest, IsBelow, IsCanonical, Tree, child, count, inner, items, items_in, leaf, no_child, nodes_in, nodes_with}

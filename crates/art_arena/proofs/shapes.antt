@@ -12,6 +12,10 @@ pub mod Passing
 pub mod LastSteps
 -- The walk of a descent from the root to a leaf.
 pub mod Walking
+-- What is left of a key's way by all its bytes, and how much of it is read.
+pub mod WayReads
+-- Where a key's way by all its bytes stands, and where it ends.
+pub mod WayEnds
 -- What the leaf at which a descent ended tells of the leaves with the key, and of those whose keys are a front of it.
 pub mod FoundLeaves
 -- The leaves as a linked list: a list in two parts, and what a write of one leaf's links leaves.

@@ -20,3 +20,5 @@ pub mod Tenants
 pub mod Parts
 -- When a removal makes a node smaller, by the keys alone.
 pub mod Shrinks
+-- The nodes that are read where the place of a key is looked for by all its bytes.
+pub mod Ways

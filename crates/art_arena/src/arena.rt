@@ -117,6 +117,7 @@ impl<K, V, const PREFIX_LEN: usize> NodeArena<K, V, PREFIX_LEN> {
         V: Drop,
         ensures empty { (n : Name) → held_at self.new n ≡ None }
         ensures room { KeepsRoom self.old self.new }
+        ensures room_of { KeepsRoomOf self.old self.new }
     {
         self.leaves.clear();
         self.clear_inner();
@@ -192,6 +193,7 @@ impl<K, V, const PREFIX_LEN: usize> NodeArena<K, V, PREFIX_LEN> {
         ensures room { OnOk result (HasRoom self.new additional) }
         ensures succeeds { HasRoom self.old additional → IsOk result }
         ensures kept_room { KeepsRoom self.old self.new }
+        ensures room_of { KeepsRoomOf self.old self.new }
         ensures kept { SameNodes self.old self.new }
     {
         self.leaves.reserve(additional)?;
@@ -254,6 +256,7 @@ impl<K, V, const PREFIX_LEN: usize> NodeArena<K, V, PREFIX_LEN> {
         ensures succeeds_of { HasRoomOf self.old N.Kind.TYPE 1 → IsOk result }
         ensures room { UsesRoom 1 self.old self.new }
         ensures room_of { UsesRoomOf N.Kind.TYPE self.old self.new }
+        ensures kept_room { OnErr result (KeepsRoomOf self.old self.new) }
     {
         match N::insert(self, node) {
             Ok(slot) => Ok(NodePtr::from_slot(slot)),
@@ -270,6 +273,7 @@ impl<K, V, const PREFIX_LEN: usize> NodeArena<K, V, PREFIX_LEN> {
         ensures room { KeepsRoom self.old self.new }
         ensures room_of { KeepsRoomOf self.old self.new }
         ensures frees { FreesRoomOf N.Kind.TYPE self.old self.new }
+        ensures room_for_it { HasRoomOf self.new N.Kind.TYPE 1 }
     {
         N::remove(self, ptr.slot())
     }
@@ -281,6 +285,7 @@ impl<K, V, const PREFIX_LEN: usize> NodeArena<K, V, PREFIX_LEN> {
         ensures updates { UpdatesAt (held_at self.old) (held_at self.new) (record { kind = N.Kind.TYPE; slot = ptr })
             (Some (N.held node)) }
         ensures room { KeepsRoom self.old self.new }
+        ensures room_of { KeepsRoomOf self.old self.new }
     {
         mem::replace(self.as_mut::<N>(ptr), node)
     }
@@ -389,6 +394,7 @@ impl<K, V, const PREFIX_LEN: usize> NodeArena<K, V, PREFIX_LEN> {
         ensures links { (was : _) → links_at self.old leaf ≡ Some was
             → WritesLinks self.old self.new leaf (record was { previous = previous }) }
         ensures room { KeepsRoom self.old self.new }
+        ensures room_of { KeepsRoomOf self.old self.new }
     {
         self.leaves.node_mut(leaf.slot()).set_previous(previous)
     }
@@ -399,6 +405,7 @@ impl<K, V, const PREFIX_LEN: usize> NodeArena<K, V, PREFIX_LEN> {
         ensures links { (was : _) → links_at self.old leaf ≡ Some was
             → WritesLinks self.old self.new leaf (record was { next = next }) }
         ensures room { KeepsRoom self.old self.new }
+        ensures room_of { KeepsRoomOf self.old self.new }
     {
         self.leaves.node_mut(leaf.slot()).set_next(next)
     }

@@ -1,13 +1,15 @@
 //! The way of a key down the tree below a name: to the one leaf that can be meant, or as far as it agrees.
 ghost use Rattle.std.specs.Prelude.{◌≡◌, ◌+◌, ◌-◌, ◌^◌, ◌≤◌, ◌↔◌, ◌++◌, ◌∷◌, [], ℕ, List, drop, length, min};
-ghost use Rattle.std.specs.Prelude.{IfSome, IsTrue, MatchOption};
+ghost use Rattle.std.specs.Prelude.{IfSome, IsTrue, MatchOption, is_some, ◌||◌};
 ghost use Rattle.art_bytes.specs.Keys.{BeginsWith};
 ghost use Rattle.art_nodes.specs.Name.{Name};
 ghost use Rattle.art_arena.specs.arena.Arena.{node_at};
-ghost use Rattle.art_arena.specs.arena.Descents.{GoesNoFurther, GoesOn, HasNoFront, IsGuide, Lands, LandsAt, OnWayTo};
-ghost use Rattle.art_arena.specs.arena.Descents.{Stops};
+ghost use Rattle.art_arena.specs.arena.Descents.{GoesNoFurther, GoesOn, HasNoFront, IsGuide, Lands, LandsAt};
+ghost use Rattle.art_arena.specs.arena.Descents.{OnWayTo, Stops};
 ghost use Rattle.art_arena.specs.arena.Prefixes.{prefix_of};
-ghost use Rattle.art_arena.specs.arena.Reads.{DescentReads, IsReadAt, KeysWithin, ReadsAtLeast, unguided};
+ghost use Rattle.art_arena.specs.arena.Reads.{DescentReads, IsReadAt, KeysWithin, ReadsAtLeast, ReadsExactly};
+ghost use Rattle.art_arena.specs.arena.Reads.{guide_cost, unguided};
+ghost use Rattle.art_arena.specs.tree.Ways.{descent_reads, is_cut};
 ghost use Rattle.art_arena.specs.arena.Shapes.{Shape, erase, leaves};
 ghost use Rattle.art_arena.specs.arena.Stores.{Stores, StoresAt};
 ghost use Rattle.art_arena.specs.arena.Visited.{arena_of, count_of};
@@ -80,6 +82,14 @@ fn passes_prefix<'a, K: AsBytes, V, const PREFIX_LEN: usize>(
         → IfSome guide.new (λ leaf. IsGuide key.now (K.bytes leaf.now.key) path s) }
     ensures kept { arena_of reader.new ≡ arena_of reader.old }
     ensures none { inner.now.node.header.prefix_len ≡ 0 → count_of reader.new ≡ count_of reader.old }
+    ensures found { (root : Name) (path : List ℕ) (s : Shape K V)
+        → IsReadAt K.bytes PREFIX_LEN (arena_of reader.old) inner.now.node root depth path s
+        → is_some guide.new ≡ (is_some guide.old || is_cut PREFIX_LEN (erase s)) }
+    ensures counts { (root : Name) (path : List ℕ) (s : Shape K V)
+        → IsReadAt K.bytes PREFIX_LEN (arena_of reader.old) inner.now.node root depth path s
+        → count_of reader.old ≤ 2 ^ 64 - 1
+        → ReadsExactly (guide_cost guide.old PREFIX_LEN (erase s) (drop depth key.now)) (count_of reader.old)
+        (count_of reader.new) }
     ensures least { ReadsAtLeast 0 (count_of reader.old) (count_of reader.new) }
     ensures few { (root : Name) (path : List ℕ) (s : Shape K V)
         → IsReadAt K.bytes PREFIX_LEN (arena_of reader.old) inner.now.node root depth path s
@@ -121,6 +131,14 @@ fn step_at<'a, K: AsBytes, V, const PREFIX_LEN: usize>(
         → IfSome guide.new (λ leaf. IsGuide key.now (K.bytes leaf.now.key) path s) }
     ensures kept { arena_of reader.new ≡ arena_of reader.old }
     ensures by_length { passing ≡ Passing.ByLength → count_of reader.new ≡ count_of reader.old }
+    ensures found { passing ≡ Passing.ByBytes → (root : Name) (path : List ℕ) (s : Shape K V)
+        → IsReadAt K.bytes PREFIX_LEN (arena_of reader.old) inner.now.node root depth path s
+        → is_some guide.new ≡ (is_some guide.old || is_cut PREFIX_LEN (erase s)) }
+    ensures counts { passing ≡ Passing.ByBytes → (root : Name) (path : List ℕ) (s : Shape K V)
+        → IsReadAt K.bytes PREFIX_LEN (arena_of reader.old) inner.now.node root depth path s
+        → count_of reader.old ≤ 2 ^ 64 - 1
+        → ReadsExactly (guide_cost guide.old PREFIX_LEN (erase s) (drop depth key.now)) (count_of reader.old)
+        (count_of reader.new) }
     ensures least { ReadsAtLeast 0 (count_of reader.old) (count_of reader.new) }
     ensures few { (root : Name) (path : List ℕ) (s : Shape K V)
         → IsReadAt K.bytes PREFIX_LEN (arena_of reader.old) inner.now.node root depth path s
@@ -167,6 +185,9 @@ pub fn descend<'a, K: AsBytes, V, const PREFIX_LEN: usize>(
     ensures stops { passing ≡ Passing.ByBytes → (path : List ℕ) (s : Shape K V)
         → StoresAt K.bytes PREFIX_LEN (arena_of reader.old) result.node result.depth path s
         → BeginsWith path key.now → Stops K.bytes key.now path s }
+    ensures reads { passing ≡ Passing.ByBytes → (s : Shape K V)
+        → Stores K.bytes PREFIX_LEN (arena_of reader.old) root s
+        → ReadsExactly (descent_reads PREFIX_LEN (erase s) key.now) (count_of reader.old) (count_of reader.new) }
     ensures kept { arena_of reader.new ≡ arena_of reader.old }
     ensures within { result.depth ≤ length key.now }
     ensures least { ReadsAtLeast 1 (count_of reader.old) (count_of reader.new) }

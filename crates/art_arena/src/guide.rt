@@ -1,10 +1,13 @@
 //! A leaf that stands for the prefixes on a key's way that aren't wholly stored.
-ghost use Rattle.std.specs.Prelude.{◌≡◌, ◌+◌, ◌≤◌, ℕ, List, IfSome, length};
+ghost use Rattle.std.specs.Prelude.{◌≡◌, ◌+◌, ◌-◌, ◌≤◌, ◌||◌, ℕ, List, IfSome, IsSome, MatchOption, drop, is_some};
+ghost use Rattle.std.specs.Prelude.{length};
 ghost use Rattle.art_nodes.specs.Name.{Name};
 ghost use Rattle.art_arena.specs.arena.Descents.{IsGuide};
 ghost use Rattle.art_arena.specs.arena.Prefixes.{prefix_of};
-ghost use Rattle.art_arena.specs.arena.Reads.{IsReadAt, KeysWithin, ReadsAtLeast, unguided};
-ghost use Rattle.art_arena.specs.arena.Shapes.{Shape, leaves};
+ghost use Rattle.art_arena.specs.arena.Reads.{IsReadAt, KeysWithin, ReadsAtLeast, ReadsExactly};
+ghost use Rattle.art_arena.specs.arena.Reads.{guide_cost, unguided};
+ghost use Rattle.art_arena.specs.tree.Ways.{is_cut, path_to_guide};
+ghost use Rattle.art_arena.specs.arena.Shapes.{Shape, erase, leaves};
 ghost use Rattle.art_arena.specs.arena.Stores.{StoresAt};
 ghost use Rattle.art_arena.specs.arena.Visited.{arena_of, count_of};
 
@@ -29,6 +32,10 @@ pub(crate) fn walk_along<'a, K: AsBytes, V, const PREFIX_LEN: usize>(
         → StoresAt K.bytes PREFIX_LEN (arena_of reader.old) root depth path s
         → IsGuide key.now (K.bytes result.now.key) path s }
     ensures kept { arena_of reader.new ≡ arena_of reader.old }
+    ensures counts { (path : List ℕ) (s : Shape K V)
+        → StoresAt K.bytes PREFIX_LEN (arena_of reader.old) root depth path s
+        → ReadsExactly (length (path_to_guide (erase s) (drop depth key.now))) (count_of reader.old)
+        (count_of reader.new) }
     ensures least { ReadsAtLeast 1 (count_of reader.old) (count_of reader.new) }
     ensures few { (path : List ℕ) (s : Shape K V)
         → StoresAt K.bytes PREFIX_LEN (arena_of reader.old) root depth path s
@@ -67,6 +74,10 @@ pub(crate) fn walk_on<'a, K: AsBytes, V, const PREFIX_LEN: usize>(
         → IsReadAt K.bytes PREFIX_LEN (arena_of reader.old) inner.now.node root depth path s
         → IsGuide key.now (K.bytes result.now.key) path s }
     ensures kept { arena_of reader.new ≡ arena_of reader.old }
+    ensures counts { (root : Name) (path : List ℕ) (s : Shape K V)
+        → IsReadAt K.bytes PREFIX_LEN (arena_of reader.old) inner.now.node root depth path s
+        → ReadsExactly (length (path_to_guide (erase s) (drop depth key.now)) - 1) (count_of reader.old)
+        (count_of reader.new) }
     ensures least { ReadsAtLeast 1 (count_of reader.old) (count_of reader.new) }
     ensures few { (root : Name) (path : List ℕ) (s : Shape K V)
         → IsReadAt K.bytes PREFIX_LEN (arena_of reader.old) inner.now.node root depth path s
@@ -100,6 +111,11 @@ fn guide_at<'a, K: AsBytes, V, const PREFIX_LEN: usize>(
         → IfSome guide.old (λ leaf. IsGuide key.now (K.bytes leaf.now.key) path s)
         → IfSome guide.new (λ leaf. IsGuide key.now (K.bytes leaf.now.key) path s) }
     ensures kept { arena_of reader.new ≡ arena_of reader.old }
+    ensures found { IsSome guide.new }
+    ensures counts { (root : Name) (path : List ℕ) (s : Shape K V)
+        → IsReadAt K.bytes PREFIX_LEN (arena_of reader.old) inner.now.node root depth path s
+        → MatchOption guide.old (ReadsExactly (length (path_to_guide (erase s) (drop depth key.now)) - 1)
+        (count_of reader.old) (count_of reader.new)) (λ leaf. count_of reader.new ≡ count_of reader.old) }
     ensures least { ReadsAtLeast 0 (count_of reader.old) (count_of reader.new) }
     ensures few { (root : Name) (path : List ℕ) (s : Shape K V)
         → IsReadAt K.bytes PREFIX_LEN (arena_of reader.old) inner.now.node root depth path s
@@ -139,6 +155,13 @@ pub(crate) fn guided_prefix<'a, K: AsBytes, V, const PREFIX_LEN: usize>(
         → IfSome guide.old (λ leaf. IsGuide key.now (K.bytes leaf.now.key) path s)
         → IfSome guide.new (λ leaf. IsGuide key.now (K.bytes leaf.now.key) path s) }
     ensures kept { arena_of reader.new ≡ arena_of reader.old }
+    ensures found { (root : Name) (path : List ℕ) (s : Shape K V)
+        → IsReadAt K.bytes PREFIX_LEN (arena_of reader.old) inner.now.node root depth path s
+        → is_some guide.new ≡ (is_some guide.old || is_cut PREFIX_LEN (erase s)) }
+    ensures counts { (root : Name) (path : List ℕ) (s : Shape K V)
+        → IsReadAt K.bytes PREFIX_LEN (arena_of reader.old) inner.now.node root depth path s
+        → ReadsExactly (guide_cost guide.old PREFIX_LEN (erase s) (drop depth key.now)) (count_of reader.old)
+        (count_of reader.new) }
     ensures least { ReadsAtLeast 0 (count_of reader.old) (count_of reader.new) }
     ensures few { (root : Name) (path : List ℕ) (s : Shape K V)
         → IsReadAt K.bytes PREFIX_LEN (arena_of reader.old) inner.now.node root depth path s

@@ -5,7 +5,7 @@ ghost use Rattle.art_nodes.specs.Kind.{row_of, shrunk_kind, CanShrink};
 ghost use Rattle.art_arena.specs.arena.Cells.{UpdatesAt};
 ghost use Rattle.art_arena.specs.arena.Arena.{held_at, as_inner, inner_held, Allocates, SameNodes, HasRoom, KeepsRoom};
 ghost use Rattle.art_arena.specs.arena.Arena.{HasRoomOf, KeepsRoomOf, UsesRoom};
-ghost use Rattle.art_arena.specs.arena.Rooms.{FreesRoomOf};
+ghost use Rattle.art_arena.specs.arena.Rooms.{FreesRoomOf, UsesRoomOf};
 ghost use Rattle.art_arena.specs.arena.NodeEdits.{edited, MayEdit};
 
 use crate::arena::NodeArena;
@@ -191,6 +191,8 @@ impl<K, V, const PREFIX_LEN: usize> NodeArena<K, V, PREFIX_LEN> {
         ensures err { OnErr result (SameNodes self.old self.new) }
         ensures succeeds { HasRoom self.old 1 → IsOk result }
         ensures room { UsesRoom 1 self.old self.new }
+        ensures room_of { IfOk result (λ grown. UsesRoomOf grown.kind self.old self.new) }
+        ensures kept_room { OnErr result (KeepsRoomOf self.old self.new) }
     {
         self.prefix_fits(name);
         match name.to_node_ptr() {
@@ -223,6 +225,8 @@ impl<K, V, const PREFIX_LEN: usize> NodeArena<K, V, PREFIX_LEN> {
         ensures succeeds { HasRoom self.old 1 → IsOk result }
         ensures succeeds_of { HasRoomOf self.old (shrunk_kind name.kind) 1 → IsOk result }
         ensures room { UsesRoom 1 self.old self.new }
+        ensures room_of { IfOk result (λ smaller. UsesRoomOf smaller.kind self.old self.new) }
+        ensures kept_room { OnErr result (KeepsRoomOf self.old self.new) }
     {
         match name.to_node_ptr() {
             ConcreteNodePtr::Node16(ptr) => {

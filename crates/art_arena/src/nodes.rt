@@ -188,6 +188,7 @@ impl<N, const PREFIX_LEN: usize> Nodes<N, PREFIX_LEN> {
         ensures value { get self.old slot ≡ Some result }
         ensures updates { Updates self.old self.new slot None }
         ensures len { slab_len self.new + 1 ≡ slab_len self.old }
+        ensures room { HasRoomFor self.new 1 }
         ensures capacity { self.new.capacity ≡ self.old.capacity }
     {
         match self.slab.try_remove(slot) {

@@ -1,13 +1,16 @@
 //! A reader of an arena, which counts each node that it reads.
-ghost use Rattle.std.specs.Prelude.{◌≡◌, ◌≢◌, ◌+◌, ◌-◌, ◌^◌, ◌<◌, ◌≤◌, ℕ, List, length, min};
+ghost use Rattle.std.specs.Prelude.{◌≡◌, ◌≢◌, ◌+◌, ◌-◌, ◌^◌, ◌<◌, ◌≤◌, ℕ, List, drop, length, min};
 ghost use Rattle.std.specs.Prelude.{None, Some, IsSome, MatchResult};
 ghost use Rattle.art_nodes.specs.Name.{Name};
 ghost use Rattle.art_arena.specs.arena.Arena.{held_at, leaf_held, inner_held};
 ghost use Rattle.art_arena.specs.arena.Cells.{leaf_name};
 ghost use Rattle.art_arena.specs.arena.Descents.{IsGuide};
 ghost use Rattle.art_arena.specs.arena.Linked.{first_slot};
-ghost use Rattle.art_arena.specs.arena.Reads.{IsReadAt, KeysWithin, ReadsAtLeast, ReadsToFirst};
-ghost use Rattle.art_arena.specs.arena.Shapes.{Shape, leaves};
+ghost use Rattle.art_arena.specs.arena.Reads.{IsReadAt, KeysWithin, ReadsAtLeast, ReadsExactly};
+ghost use Rattle.art_arena.specs.arena.Reads.{ReadsToFirst};
+ghost use Rattle.art_arena.specs.declared.ends.End.TheVariants.{First};
+ghost use Rattle.art_arena.specs.tree.Ways.{end_path, path_to_guide};
+ghost use Rattle.art_arena.specs.arena.Shapes.{Shape, erase, leaves};
 ghost use Rattle.art_arena.specs.arena.Visited.{arena_of, count_of, held_of, kind_of};
 
 use crate::arena::{LeafPtr, NodeArena};
@@ -206,6 +209,9 @@ pub(crate) fn first_below<'a, K: AsBytes, V, const PREFIX_LEN: usize>(
     ensures counts { (root : Name) (depth : ℕ) (path : List ℕ) (s : Shape K V)
         → IsReadAt K.bytes PREFIX_LEN (arena_of reader.old) inner.now.node root depth path s
         → ReadsToFirst K.bytes (arena_of reader.old) path s (count_of reader.old) (count_of reader.new) }
+    ensures exact { (root : Name) (depth : ℕ) (path : List ℕ) (s : Shape K V)
+        → IsReadAt K.bytes PREFIX_LEN (arena_of reader.old) inner.now.node root depth path s
+        → ReadsExactly (length (end_path First (erase s)) - 1) (count_of reader.old) (count_of reader.new) }
     ensures least { ReadsAtLeast 1 (count_of reader.old) (count_of reader.new) }
     ensures few { (root : Name) (depth : ℕ) (path : List ℕ) (s : Shape K V)
         → IsReadAt K.bytes PREFIX_LEN (arena_of reader.old) inner.now.node root depth path s
@@ -234,6 +240,10 @@ pub(crate) fn guide_below<'a, K: AsBytes, V, const PREFIX_LEN: usize>(
         → IsReadAt K.bytes PREFIX_LEN (arena_of reader.old) inner.now.node root depth path s
         → IsGuide key.now (K.bytes result.now.key) path s }
     ensures kept { arena_of reader.new ≡ arena_of reader.old }
+    ensures counts { (root : Name) (path : List ℕ) (s : Shape K V)
+        → IsReadAt K.bytes PREFIX_LEN (arena_of reader.old) inner.now.node root depth path s
+        → ReadsExactly (length (path_to_guide (erase s) (drop depth key.now)) - 1) (count_of reader.old)
+        (count_of reader.new) }
     ensures least { ReadsAtLeast 1 (count_of reader.old) (count_of reader.new) }
     ensures few { (root : Name) (path : List ℕ) (s : Shape K V)
         → IsReadAt K.bytes PREFIX_LEN (arena_of reader.old) inner.now.node root depth path s

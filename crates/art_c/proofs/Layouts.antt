@@ -3,9 +3,9 @@ use Rattle.std.proofs.Common.{◌≡◌, ℕ, ◌+◌, ◌<◌, suc, List, [], �
 use Rattle.std.proofs.Math.ListN.{set}
 use Rattle.std.proofs.Math.Seq.{drop-append_seam, drop-cons, set-append_seam, take-append_seam}
 use Rattle.std.proofs.lemmas.List.{append-nil, drop-drop, length-append, map-append}
-use Rattle.art_c.specs.Calls.{Pairs}
+use Rattle.art_c.specs.Handles.{Pairs}
 use Rattle.art_c.specs.Copies.{written}
-use Rattle.art_c.specs.Layouts.{end_to_end, lens_of, lengths_of}
+use Rattle.art_c.specs.Layouts.{end_to_end, told_items}
 
 -- a room whose start is written, and then more
 module _ {X : Type 0} where
@@ -29,12 +29,15 @@ module _ {X : Type 0} where
       ∙ sym (append_assoc a (v ∷ []) (drop (suc (length a)) r))
       ∙ ap (λ n. (a ++ v ∷ []) ++ drop n r) one
 
-pub bytes-more : (ps : Pairs) (p : List ℕ × List ℕ) → end_to_end (ps ++ p ∷ []) ≡ end_to_end ps ++ (p.0 ++ p.1)
-bytes-more [] p = ap (λ z. p.0 ++ z) (append-nil p.1)
-bytes-more (q ∷ ps) p =
-    ap (λ z. q.0 ++ (q.1 ++ z)) (bytes-more ps p)
-    ∙ ap (λ z. q.0 ++ z) (sym (append_assoc q.1 (end_to_end ps) (p.0 ++ p.1)))
-    ∙ sym (append_assoc q.0 (q.1 ++ end_to_end ps) (p.0 ++ p.1))
+module _ {V : Type 0} where
+  pub bytes-more : (text : V → List ℕ) (ps : Pairs V) (p : List ℕ × V)
+      → end_to_end text (ps ++ p ∷ []) ≡ end_to_end text ps ++ (p.0 ++ text p.1)
+  bytes-more text [] p = ap (λ z. p.0 ++ z) (append-nil (text p.1))
+  bytes-more text (q ∷ ps) p =
+      ap (λ z. q.0 ++ (text q.1 ++ z)) (bytes-more text ps p)
+      ∙ ap (λ z. q.0 ++ z) (sym (append_assoc (text q.1) (end_to_end text ps) (p.0 ++ text p.1)))
+      ∙ sym (append_assoc q.0 (text q.1 ++ end_to_end text ps) (p.0 ++ text p.1))
 
-pub lengths-more : (ps : Pairs) (p : List ℕ × List ℕ) → lengths_of (ps ++ p ∷ []) ≡ lengths_of ps ++ lens_of p ∷ []
-lengths-more ps p = map-append lens_of ps (p ∷ [])
+  pub items-more : {I : Type 0} (item : List ℕ → V → I) (ps : Pairs V) (p : List ℕ × V)
+      → told_items item (ps ++ p ∷ []) ≡ told_items item ps ++ item p.0 p.1 ∷ []
+  items-more item ps p = map-append (λ q. item q.0 q.1) ps (p ∷ [])

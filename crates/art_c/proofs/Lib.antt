@@ -1,7 +1,10 @@
+pub mod Answered
+pub mod Crosses
 pub mod Ends
+pub mod Given
 pub mod Layouts
 pub mod Loads
 pub mod Lookups
-pub mod Unmade
+pub mod Made
 pub mod Values
 pub mod Walks

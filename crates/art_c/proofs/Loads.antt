@@ -1,52 +1,102 @@
 -- A load, as far as it has come.
-use Rattle.std.proofs.Common.{◌≡◌, ℕ, ◌+◌, List, [], ◌∷◌, ◌++◌, length, Option, Some, refl, sym, ap, ◌∙◌, subst, append_assoc, arith}
+use Rattle.std.proofs.Common.{◌≡◌, ℕ, ◌+◌, Bool, true, List, [], ◌∷◌, ◌++◌, length, Option, Some, refl, sym, ap, ap₂, ◌∙◌, subst, append_assoc, arith}
 use Rattle.std.proofs.lemmas.List.{length-append}
-use Rattle.std.specs.Prelude.{IsTrue}
+use Rattle.std.specs.Prelude.{IsTrue, if◌then◌else◌, is_ok, OnErr, OnOk, Result, Ok, Err}
 use Rattle.art_operations.proofs.Common.{with_pair_put}
 use Rattle.art_map.proofs.Common.{with_pairs_put}
 use Rattle.art_map.proofs.Puts.{put-more}
-use Rattle.art_c.specs.Calls.{Pairs, whole}
-use Rattle.art_c.specs.Layouts.{end_to_end, lens_of, lengths_of}
-use Rattle.art_c.specs.Loads.{BeginsWithPair, is_above, last_key, Rises}
-use Rattle.art_c.specs.declared.many.ArtLens.{ArtLens}
-use Rattle.art_c.proofs.Layouts.{bytes-more, lengths-more}
+use Rattle.art_c.specs.Calls.{IsPutRefused, whole}
+use Rattle.art_c.specs.Handles.{Pairs}
+use Rattle.art_c.specs.Layouts.{end_to_end, told_items}
+use Rattle.art_c.specs.Loads.{is_above, IsLoaded, IsRefused, last_key, LoadEnds, Rises}
+use Rattle.art_c.specs.declared.code.Code.{Code}
+use Rattle.art_c.specs.declared.code.Code.TheVariants.{Done, Replaced, NotFound, Conflict, NoRoom, NoMemory, NoMap, NotAbove, CutOff, More, Frozen, Shared}
+use Rattle.art_c.proofs.Layouts.{bytes-more, items-more}
 
-rises-more : (ps : Pairs) (p : List ℕ × List ℕ) → Rises ps → IsTrue (is_above (last_key ps) p.0) → Rises (ps ++ p ∷ [])
-rises-more [] p rises above = tt
-rises-more (q ∷ []) p rises above = (above, tt)
-rises-more (q ∷ r ∷ ps) p rises above = (rises.0, rises-more (r ∷ ps) p rises.1 above)
+module _ {V : Type 0} where
+  rises-more : (ps : Pairs V) (p : List ℕ × V) → Rises ps → IsTrue (is_above (last_key ps) p.0) → Rises (ps ++ p ∷ [])
+  rises-more [] p rises above = tt
+  rises-more (q ∷ []) p rises above = (above, tt)
+  rises-more (q ∷ r ∷ ps) p rises above = (rises.0, rises-more (r ∷ ps) p rises.1 above)
 
-key-more : (ps : Pairs) (p : List ℕ × List ℕ) → last_key (ps ++ p ∷ []) ≡ Some p.0
-key-more [] p = refl
-key-more (q ∷ []) p = refl
-key-more (q ∷ r ∷ ps) p = key-more (r ∷ ps) p
+  key-more : (ps : Pairs V) (p : List ℕ × V) → last_key (ps ++ p ∷ []) ≡ Some p.0
+  key-more [] p = refl
+  key-more (q ∷ []) p = refl
+  key-more (q ∷ r ∷ ps) p = key-more (r ∷ ps) p
 
-module _ (bytes : List ℕ) (lens : List ArtLens) (old : Pairs) where
+  -- why a pair does not go in, by why a put of it does not
+  pub not_in : (before : Option (List ℕ)) (key : List ℕ) (pairs : Pairs V) (code : Code) → is_above before key ≡ true
+      → IsPutRefused key pairs code pairs → IsRefused before key pairs code
+  not_in before key pairs Conflict above is = (above, is.0)
+  not_in before key pairs NoMemory above is = (above, is.0)
+  not_in before key pairs Done above is = absurd is
+  not_in before key pairs Replaced above is = absurd is
+  not_in before key pairs NotFound above is = absurd is
+  not_in before key pairs NoRoom above is = absurd is
+  not_in before key pairs NoMap above is = absurd is
+  not_in before key pairs NotAbove above is = absurd is
+  not_in before key pairs CutOff above is = absurd is
+  not_in before key pairs More above is = absurd is
+  not_in before key pairs Frozen above is = absurd is
+  not_in before key pairs Shared above is = absurd is
+
+-- a pair was put in where it is told so, whose parts are copies
+module _ {V E : Type 0} (k key : List ℕ) (v value : V) (Had Has : Pairs V → Type 0) where
+  pub put_told : (r : Result (Unit {0}) E) (is : Bool) → k ≡ key → v ≡ value → is ≡ is_ok r
+      → OnOk r ((pairs : Pairs V) → Had pairs → Has (with_pair_put whole k v pairs))
+      → OnErr r ((pairs : Pairs V) → Had pairs → Has pairs)
+      → (pairs : Pairs V) → Had pairs → Has (if is then with_pair_put whole key value pairs else pairs)
+  put_told (Ok _) is same same_value told ok err pairs had =
+      subst (λ b. Has (if b then with_pair_put whole key value pairs else pairs)) (sym told)
+      (subst Has (ap₂ (λ l w. with_pair_put whole l w pairs) same same_value) (ok pairs had))
+  put_told (Err _) is same same_value told ok err pairs had =
+      subst (λ b. Has (if b then with_pair_put whole key value pairs else pairs)) (sym told) (err pairs had)
+
+module _ {V I : Type 0} (text : V → List ℕ) (item : List ℕ → V → I) (bytes : List ℕ) (items : List I) (old : Pairs V) where
   -- so many pairs were taken, and this is what is left of the buffer
-  pub record Taken (rest : List ℕ) (left : List ArtLens) (at : ℕ) (before : Option (List ℕ)) (now : Pairs) : Type 0 where
-    pub taken : Pairs
-    pub bytes_are : bytes ≡ end_to_end taken ++ rest
-    pub lens_are : lens ≡ lengths_of taken ++ left
+  pub record Taken (rest : List ℕ) (left : List I) (at : ℕ) (before : Option (List ℕ)) (now : Pairs V) : Type 0 where
+    pub taken : Pairs V
+    pub bytes_are : bytes ≡ end_to_end text taken ++ rest
+    pub items_are : items ≡ told_items item taken ++ left
     pub count : at ≡ length taken
     pub rises : Rises taken
     pub key : before ≡ last_key taken
     pub put : now ≡ with_pairs_put whole taken old
 
   -- one more is taken
-  pub one-more : {rest : List ℕ} {left : List ArtLens} {at : ℕ} {before : Option (List ℕ)} {now : Pairs} (t : Taken rest left at before now)
-      (len : ArtLens) (behind : List ArtLens) (key value others : List ℕ) (next : Pairs) → left ≡ len ∷ behind
-      → BeginsWithPair len rest key value others → IsTrue (is_above before key) → next ≡ with_pair_put whole key value now
+  pub one-more : {rest : List ℕ} {left : List I} {at : ℕ} {before : Option (List ℕ)} {now : Pairs V} (t : Taken rest left at before now)
+      (is : I) (behind : List I) (key : List ℕ) (value : V) (others : List ℕ) (next : Pairs V) → left ≡ is ∷ behind
+      → rest ≡ key ++ (text value ++ others) → is ≡ item key value → IsTrue (is_above before key)
+      → next ≡ with_pair_put whole key value now
       → Taken others behind (at + 1) (Some key) next
-  one-more {rest} {left} {at} {before} {now} t len behind key value others next is begins above put =
-      let p : List ℕ × List ℕ = (key, value) in
+  one-more {rest} {left} {at} {before} {now} t is behind key value others next left_is begins told above put =
+      let p : List ℕ × V = (key, value) in
       record {
         taken = t.taken ++ p ∷ [];
-        bytes_are = t.bytes_are ∙ ap (λ z. end_to_end t.taken ++ z) (begins.0 ∙ sym (append_assoc key value others))
-            ∙ sym (append_assoc (end_to_end t.taken) (key ++ value) others) ∙ ap (λ z. z ++ others) (sym (bytes-more t.taken p));
-        lens_are = t.lens_are ∙ ap (λ z. lengths_of t.taken ++ z) (is ∙ ap (λ l. l ∷ behind) begins.1)
-            ∙ sym (append_assoc (lengths_of t.taken) (lens_of p ∷ []) behind) ∙ ap (λ z. z ++ behind) (sym (lengths-more t.taken p));
+        bytes_are = t.bytes_are ∙ ap (λ z. end_to_end text t.taken ++ z) (begins ∙ sym (append_assoc key (text value) others))
+            ∙ sym (append_assoc (end_to_end text t.taken) (key ++ text value) others) ∙ ap (λ z. z ++ others) (sym (bytes-more text t.taken p));
+        items_are = t.items_are ∙ ap (λ z. told_items item t.taken ++ z) (left_is ∙ ap (λ l. l ∷ behind) told)
+            ∙ sym (append_assoc (told_items item t.taken) (item key value ∷ []) behind) ∙ ap (λ z. z ++ behind) (sym (items-more item t.taken p));
         count = omega (arith, t.count, length-append t.taken (p ∷ []));
         rises = rises-more t.taken p t.rises (subst (λ k. IsTrue (is_above k key)) t.key above);
         key = sym (key-more t.taken p);
         put = put ∙ ap (with_pair_put whole key value) t.put ∙ sym (put-more whole t.taken p old);
       }
+
+  -- it ends there
+  pub load-ends : (key_len text_len : I → ℕ) {rest : List ℕ} {left : List I} {at : ℕ} {before : Option (List ℕ)} {now : Pairs V}
+      (t : Taken rest left at before now) (was : ℕ) (code : Code) (new : Pairs V) → new ≡ now
+      → LoadEnds text item key_len text_len before rest left now code
+      → IsLoaded text item key_len text_len bytes items old was code new at
+  load-ends key_len text_len {rest} {left} {at} {before} {now} t was code new same ends = (
+    t.taken,
+    rest,
+    left,
+    t.bytes_are,
+    t.items_are,
+    t.count,
+    t.rises,
+    same ∙ t.put,
+    subst (λ ps. LoadEnds text item key_len text_len (last_key t.taken) rest left ps code) (sym same)
+        (subst (λ b. LoadEnds text item key_len text_len b rest left now code) t.key ends),
+  )

@@ -1,86 +1,158 @@
 -- A walk that copies pairs out, as far as it has come.
-use Rattle.std.proofs.Common.{◌≡◌, ℕ, ◌+◌, ◌<◌, ◌≤◌, ◌-◌, suc, List, [], ◌∷◌, ◌++◌, length, take, drop, Option, refl, sym, ap, ap₂, ◌∙◌, append_assoc, arith}
+use Rattle.std.proofs.Common.{◌≡◌, ℕ, ◌+◌, ◌<◌, ◌≤◌, ◌-◌, suc, Bool, true, false, List, [], ◌∷◌, ◌++◌, length, take, drop, Option, refl, sym, ap, ap₂, subst, ◌∙◌, append_assoc, arith}
+use Rattle.std.specs.Prelude.{IsTrue, if◌then◌else◌}
 use Rattle.std.proofs.Math.ListN.{set}
-use Rattle.std.proofs.lemmas.List.{length-append, length-drop, length-map, length-reverse}
+use Rattle.std.proofs.lemmas.List.{length-append, length-drop, length-map, length-reverse, map-append}
 use Rattle.art_arena.specs.declared.ends.End.{End}
 use Rattle.art_arena.specs.declared.ends.End.TheVariants.{First, Last}
 use Rattle.art_map.proofs.Common.{from_end, first_item}
-use Rattle.art_c.specs.Calls.{Pairs}
 use Rattle.art_c.specs.Copies.{written}
-use Rattle.art_c.specs.Layouts.{end_to_end, lens_of, lengths_of}
-use Rattle.art_c.specs.Walks.{AreTaken, Fit, NoneElseFits, ManyRooms, many_rooms}
-use Rattle.art_c.specs.declared.many.ArtLens.{ArtLens}
-use Rattle.art_c.proofs.Layouts.{bytes-more, lengths-more, set-more, written-more}
-
-module _ (all : Pairs) (x : ManyRooms) where
-  -- these pairs were copied out, and these are left
-  pub record CopiedOut (left : Pairs) (bytes : List ℕ) (lens : List ArtLens) (at count : ℕ) : Type 0 where
-    pub given : Pairs
-    pub are : all ≡ given ++ left
-    pub at_is : at ≡ length (end_to_end given)
-    pub count_is : count ≡ length given
-    pub bytes_are : bytes ≡ written (end_to_end given) x.bytes
-    pub lens_are : lens ≡ written (lengths_of given) x.lens
-    pub fit : Fit given x
+use Rattle.art_c.specs.Handles.{Pairs}
+use Rattle.art_c.specs.Layouts.{end_to_end, told_items}
+use Rattle.art_c.specs.Spans.{Reach, goes_to, met_of, while_so}
+use Rattle.art_c.specs.Walks.{AreTaken, AreWordsTaken, Fit, NoneElseFits, ManyRooms, many_rooms, told_words}
+use Rattle.art_c.proofs.Layouts.{bytes-more, items-more, set-more, written-more}
 
 length-written : {X : Type 0} (a r : List X) → length a ≤ length r → length (written a r) ≡ length r
 length-written a r h = omega (arith, length-append a (drop (length a) r), length-drop (length a) r)
 
-module _ (all : Pairs) (x : ManyRooms) {left : Pairs} {bytes : List ℕ} {lens : List ArtLens} {at count : ℕ}
-    (c : CopiedOut all x left bytes lens at count) (p : List ℕ × List ℕ) where
-  -- how long the pairs are with this one behind them
-  long : length (end_to_end (c.given ++ p ∷ [])) ≡ length (end_to_end c.given) + (length p.0 + length p.1)
-  long = ap length (bytes-more c.given p) ∙ length-append (end_to_end c.given) (p.0 ++ p.1)
-      ∙ ap (λ n. length (end_to_end c.given) + n) (length-append p.0 p.1)
+module _ {V I : Type 0} (text : V → List ℕ) (item : List ℕ → V → I) where
+  module _ (all : Pairs V) (x : ManyRooms I) where
+    -- these pairs were copied out, and these are left
+    pub record CopiedOut (left : Pairs V) (bytes : List ℕ) (items : List I) (at count : ℕ) : Type 0 where
+      pub given : Pairs V
+      pub are : all ≡ given ++ left
+      pub at_is : at ≡ length (end_to_end text given)
+      pub count_is : count ≡ length given
+      pub bytes_are : bytes ≡ written (end_to_end text given) x.bytes
+      pub items_are : items ≡ written (told_items item given) x.items
+      pub fit : Fit text item given x
 
-  long-bytes : length bytes ≡ length x.bytes
-  long-bytes = ap length c.bytes_are ∙ length-written (end_to_end c.given) x.bytes c.fit.0
+  module _ (all : Pairs V) (x : ManyRooms I) {left : Pairs V} {bytes : List ℕ} {items : List I} {at count : ℕ}
+      (c : CopiedOut all x left bytes items at count) (p : List ℕ × V) where
+    -- how long the pairs are with this one behind them
+    long : length (end_to_end text (c.given ++ p ∷ [])) ≡ length (end_to_end text c.given) + (length p.0 + length (text p.1))
+    long = ap length (bytes-more text c.given p) ∙ length-append (end_to_end text c.given) (p.0 ++ text p.1)
+        ∙ ap (λ n. length (end_to_end text c.given) + n) (length-append p.0 (text p.1))
 
-  long-lens : length lens ≡ length x.lens
-  long-lens =
-      let is : length (lengths_of c.given) ≡ length c.given = length-map c.given lens_of in
-      ap length c.lens_are ∙ length-written (lengths_of c.given) x.lens (omega (arith, c.fit.1))
+    long-bytes : length bytes ≡ length x.bytes
+    long-bytes = ap length c.bytes_are ∙ length-written (end_to_end text c.given) x.bytes c.fit.0
 
-  -- it does not go in
-  pub no-bytes : length bytes - at < length p.0 + length p.1 → Fit (c.given ++ p ∷ []) x → ⊥
-  no-bytes h fit = absurd (omega (arith, c.at_is, long, long-bytes, fit.0))
+    long-items : length items ≡ length x.items
+    long-items =
+        let is : length (told_items item c.given) ≡ length c.given = length-map c.given (λ q. item q.0 q.1) in
+        ap length c.items_are ∙ length-written (told_items item c.given) x.items (omega (arith, c.fit.1))
 
-  pub no-place : count ≡ length lens → Fit (c.given ++ p ∷ []) x → ⊥
-  no-place h fit = absurd (omega (arith, c.count_is, long-lens, length-append c.given (p ∷ []), fit.1))
+    -- it does not go in
+    pub no-bytes : length bytes - at < length p.0 + length (text p.1) → Fit text item (c.given ++ p ∷ []) x → ⊥
+    no-bytes h fit = absurd (omega (arith, c.at_is, long, long-bytes, fit.0))
 
-  -- it goes in
-  pub one-more : (rest : Pairs) (new : List ℕ) (told : List ArtLens) → left ≡ p ∷ rest
-      → at ≤ length bytes → length p.0 + length p.1 ≤ length bytes - at → count < length lens
-      → new ≡ take at bytes ++ written (p.0 ++ p.1) (drop at bytes) → told ≡ set lens count (lens_of p)
-      → CopiedOut all x rest new told (at + (length p.0 + length p.1)) (count + 1)
-  one-more rest new told is within room place put set_is =
-      let same : length (lengths_of c.given) ≡ length c.given = length-map c.given lens_of in
-      let there : length (lengths_of c.given) < length x.lens = omega (arith, same, c.count_is, long-lens) in
-      record {
-        given = c.given ++ p ∷ [];
-        are = c.are ∙ ap (λ z. c.given ++ z) is ∙ sym (append_assoc c.given (p ∷ []) rest);
-        at_is = omega (arith, c.at_is, long);
-        count_is = omega (arith, c.count_is, length-append c.given (p ∷ []));
-        bytes_are = put ∙ ap₂ (λ n b. take n b ++ written (p.0 ++ p.1) (drop n b)) c.at_is c.bytes_are
-            ∙ written-more (end_to_end c.given) (p.0 ++ p.1) x.bytes ∙ ap (λ a. written a x.bytes) (sym (bytes-more c.given p));
-        lens_are = set_is ∙ ap₂ (λ n l. set l n (lens_of p)) (c.count_is ∙ sym same) c.lens_are
-            ∙ set-more (lengths_of c.given) x.lens (lens_of p) there ∙ ap (λ a. written a x.lens) (sym (lengths-more c.given p));
-        fit = (omega (arith, c.at_is, long, long-bytes), omega (arith, c.count_is, long-lens, length-append c.given (p ∷ [])));
-      }
+    pub no-place : count ≡ length items → Fit text item (c.given ++ p ∷ []) x → ⊥
+    no-place h fit = absurd (omega (arith, c.count_is, long-items, length-append c.given (p ∷ []), fit.1))
 
--- it ends there
-pub all-copied : (all : Pairs) (x : ManyRooms) {left : Pairs} {bytes : List ℕ} {lens : List ArtLens} {at count : ℕ}
-    (c : CopiedOut all x left bytes lens at count) (other : Option (List ℕ × List ℕ)) → other ≡ first_item left
-    → NoneElseFits c.given left x → AreTaken all x other (many_rooms bytes lens count)
-all-copied all x {left} c other is full =
-    (c.given, left, c.are, is, c.fit, full, λ i. record { bytes = c.bytes_are i; lens = c.lens_are i; count = c.count_is i })
+    -- it goes in
+    pub one-more : (rest : Pairs V) (new : List ℕ) (told : List I) → left ≡ p ∷ rest
+        → at ≤ length bytes → length p.0 + length (text p.1) ≤ length bytes - at → count < length items
+        → new ≡ take at bytes ++ written (p.0 ++ text p.1) (drop at bytes) → told ≡ set items count (item p.0 p.1)
+        → CopiedOut all x rest new told (at + (length p.0 + length (text p.1))) (count + 1)
+    one-more rest new told is within room place put set_is =
+        let same : length (told_items item c.given) ≡ length c.given = length-map c.given (λ q. item q.0 q.1) in
+        let there : length (told_items item c.given) < length x.items = omega (arith, same, c.count_is, long-items) in
+        record {
+          given = c.given ++ p ∷ [];
+          are = c.are ∙ ap (λ z. c.given ++ z) is ∙ sym (append_assoc c.given (p ∷ []) rest);
+          at_is = omega (arith, c.at_is, long);
+          count_is = omega (arith, c.count_is, length-append c.given (p ∷ []));
+          bytes_are = put ∙ ap₂ (λ n b. take n b ++ written (p.0 ++ text p.1) (drop n b)) c.at_is c.bytes_are
+              ∙ written-more (end_to_end text c.given) (p.0 ++ text p.1) x.bytes ∙ ap (λ a. written a x.bytes) (sym (bytes-more text c.given p));
+          items_are = set_is ∙ ap₂ (λ n l. set l n (item p.0 p.1)) (c.count_is ∙ sym same) c.items_are
+              ∙ set-more (told_items item c.given) x.items (item p.0 p.1) there ∙ ap (λ a. written a x.items) (sym (items-more item c.given p));
+          fit = (omega (arith, c.at_is, long, long-bytes), omega (arith, c.count_is, long-items, length-append c.given (p ∷ [])));
+        }
 
--- each step leaves fewer
-same-length : (end : End) (ps : Pairs) → length (from_end end ps) ≡ length ps
-same-length First ps = refl
-same-length Last ps = length-reverse ps
+    -- the same where its text is told by another list
+    pub one-more-of : (t : List ℕ) → t ≡ text p.1 → (rest : Pairs V) (new : List ℕ) (told : List I) → left ≡ p ∷ rest
+        → at ≤ length bytes → length p.0 + length t ≤ length bytes - at → count < length items
+        → new ≡ take at bytes ++ written (p.0 ++ t) (drop at bytes) → told ≡ set items count (item p.0 p.1)
+        → CopiedOut all x rest new told (at + (length p.0 + length t)) (count + 1)
+    one-more-of t same rest new told is within room place put set_is =
+        subst (λ z. CopiedOut all x rest new told (at + (length p.0 + length z)) (count + 1)) (sym same)
+        (one-more rest new told is within (subst (λ z. length p.0 + length z ≤ length bytes - at) same room) place
+        (put ∙ ap (λ z. take at bytes ++ written (p.0 ++ z) (drop at bytes)) same) set_is)
 
-pub fewer : (end : End) (p : List ℕ × List ℕ) (old new : Pairs) → from_end end old ≡ p ∷ from_end end new → length new < length old
-fewer end p old new is =
-    let long : length (from_end end old) ≡ suc (length (from_end end new)) = ap length is in
-    omega (arith, same-length end old, same-length end new)
+  -- it ends there
+  pub all-copied : (all : Pairs V) (x : ManyRooms I) {left : Pairs V} {bytes : List ℕ} {items : List I} {at count : ℕ}
+      (c : CopiedOut all x left bytes items at count) (other : Option (List ℕ × V)) → other ≡ first_item left
+      → NoneElseFits text item c.given left x → AreTaken text item all x other (many_rooms bytes items count)
+  all-copied all x {left} c other is full =
+      (c.given, left, c.are, is, c.fit, full, λ i. record { bytes = c.bytes_are i; items = c.items_are i; count = c.count_is i })
+
+module _ {V : Type 0} where
+  -- each step leaves fewer
+  same-length : (end : End) (ps : Pairs V) → length (from_end end ps) ≡ length ps
+  same-length First ps = refl
+  same-length Last ps = length-reverse ps
+
+  pub fewer : (end : End) (p : List ℕ × V) (old new : Pairs V) → from_end end old ≡ p ∷ from_end end new → length new < length old
+  fewer end p old new is =
+      let long : length (from_end end old) ≡ suc (length (from_end end new)) = ap length is in
+      omega (arith, same-length end old, same-length end new)
+
+  -- a pair that is met, and those that are met after it
+  met-cons : (r : Reach) (p : List ℕ × V) (ps : Pairs V) (b : Bool) → goes_to r p ≡ b → IsTrue b
+      → while_so (goes_to r) (p ∷ ps) ≡ p ∷ while_so (goes_to r) ps
+  met-cons r p ps true is so = ap (λ c. if c then p ∷ while_so (goes_to r) ps else []) is
+  met-cons r p ps false is so = absurd (cc)
+
+  pub met-next : (r : Reach) (p : List ℕ × V) (old new : Pairs V) → from_end r.end old ≡ p ∷ from_end r.end new
+      → IsTrue (goes_to r p) → met_of r old ≡ p ∷ met_of r new
+  met-next r p old new is so =
+      ap (while_so (goes_to r)) is ∙ met-cons r p (from_end r.end new) (goes_to r p) refl so
+
+-- a walk that copies words out
+module _ (all : Pairs ℕ) (x : List ℕ) where
+  -- the words of these were copied out, and these are left
+  pub record WordsOut (left : Pairs ℕ) (words : List ℕ) (count : ℕ) : Type 0 where
+    pub given : Pairs ℕ
+    pub are : all ≡ given ++ left
+    pub words_are : words ≡ written (told_words given) x
+    pub count_is : count ≡ length given
+    pub fit : length given ≤ length x
+
+  module _ {left : Pairs ℕ} {words : List ℕ} {count : ℕ} (c : WordsOut left words count) where
+    same-words : length words ≡ length x
+    same-words =
+        let is : length (told_words c.given) ≡ length c.given = length-map c.given (λ (p : List ℕ × ℕ). p.1) in
+        ap length c.words_are ∙ length-written (told_words c.given) x (omega (arith, is, c.fit))
+
+    -- one more
+    pub one-word : (p : List ℕ × ℕ) (rest : Pairs ℕ) (told : List ℕ) → left ≡ p ∷ rest → count < length words
+        → told ≡ set words count p.1 → WordsOut rest told (count + 1)
+    one-word p rest told is place set_is =
+        let same : length (told_words c.given) ≡ length c.given = length-map c.given (λ (q : List ℕ × ℕ). q.1) in
+        let there : length (told_words c.given) < length x = omega (arith, same, c.count_is, same-words, place) in
+        record {
+          given = c.given ++ p ∷ [];
+          are = c.are ∙ ap (λ z. c.given ++ z) is ∙ sym (append_assoc c.given (p ∷ []) rest);
+          words_are = set_is ∙ ap₂ (λ n l. set l n p.1) (c.count_is ∙ sym same) c.words_are
+              ∙ set-more (told_words c.given) x p.1 there ∙ ap (λ a. written a x) (sym (map-append (λ (q : List ℕ × ℕ). q.1) c.given (p ∷ [])));
+          count_is = omega (arith, c.count_is, length-append c.given (p ∷ []));
+          fit = omega (arith, c.count_is, same-words, place, length-append c.given (p ∷ []));
+        }
+
+    -- it ends where no place is left for the next
+    pub words_full : (p : List ℕ × ℕ) (rest : Pairs ℕ) → left ≡ p ∷ rest → count ≡ length words
+        → AreWordsTaken all x count true words
+    words_full p rest is full = (
+      c.given,
+      p ∷ rest,
+      c.are ∙ ap (λ z. c.given ++ z) is,
+      c.fit,
+      c.words_are,
+      c.count_is,
+      (refl, sym c.count_is ∙ full ∙ same-words),
+    )
+
+    -- or where none is left
+    pub words_done : left ≡ [] → AreWordsTaken all x count false words
+    words_done is = (c.given, [], c.are ∙ ap (λ z. c.given ++ z) is, c.fit, c.words_are, c.count_is, refl)

@@ -1,5 +1,5 @@
--- What the calls answer, in the words of the map. Keys and values are byte strings, so a key is its own bytes.
-use Rattle.std.specs.Prelude.{◌≡◌, ◌⊎◌, ℕ, List, [], length, Option, Some, None}
+-- What the calls answer, in the words of the map. Keys are byte strings, so a key is its own bytes.
+use Rattle.std.specs.Prelude.{◌≡◌, ◌⊎◌, ℕ, Bool, List, [], length, Option, Some, None, is_some}
 use Rattle.std.specs.Map.{lookup, lookup_entry}
 use Rattle.std.specs.declared.ops.Bound.TheVariants.{Excluded, Unbounded}
 use Rattle.art_arena.specs.arena.Shapes.{key_of}
@@ -12,79 +12,89 @@ use Rattle.art_map.specs.Contents.{has_bytes, is_front, first_item, last_item}
 use Rattle.art_map.specs.PrefixBlocks.{ShrinksAtCut}
 use Rattle.art_map.specs.Ranges.{pairs_between}
 use Rattle.art_c.specs.Codes.{code_number}
-use Rattle.art_c.specs.Handles.{pairs_behind}
-use Rattle.art_c.specs.Copies.{Rooms, pair_code, pair_out, value_code, value_out, length_out}
+use Rattle.art_c.specs.Handles.{MapState, own, Pairs}
+use Rattle.art_c.specs.Copies.{Rooms, KeyRoom, pair_code, pair_out, value_code, value_out, length_out}
+use Rattle.art_c.specs.Copies.{told_code, word_out, pairs_word_out, front_out, word_code, word_pair_out}
 use Rattle.art_walks.specs.declared.stats.WellFormedTreeStats.{WellFormedTreeStats}
-use Rattle.art_c.specs.declared.handle.Art.{Art}
-use Rattle.art_c.specs.declared.audit.ArtAudit.{ArtAudit}
+use Rattle.art_c.specs.declared.nodes.NodeCounts.{NodeCounts}
 use Rattle.art_c.specs.declared.code.Code.{Code}
-use Rattle.art_c.specs.declared.code.Code.TheVariants.{Done, Replaced, NotFound, Conflict, NoMemory, NoMap}
+use Rattle.art_c.specs.declared.code.Code.TheVariants.{Done, Replaced, NotFound, Conflict, NoMemory}
 use Rattle.art_c.specs.declared.calls.reads.Wanted.{Wanted}
-use Rattle.art_c.specs.declared.calls.reads.Wanted.TheVariants.{First, Last, FirstBehind, LastBehind}
+use Rattle.art_c.specs.declared.calls.reads.Wanted.TheVariants.{First, Last, FirstWithPrefix, LastWithPrefix}
 use Rattle.art_c.specs.declared.calls.reads.Wanted.TheVariants.{FrontOf, Above, Below}
-
--- the pairs of a map
-abbrev pub Pairs : Type 0
-Pairs = List (List ℕ × List ℕ)
 
 -- the bytes of a key
 abbrev pub whole : List ℕ → List ℕ
 whole k = k
 
-module _ {X : Type 0} (Fits : Pairs → X → Code → Pairs → X → Type 0) where
-  -- Where no map is made, the call says so and leaves all alone. Else a map stays made, and what the call answers fits
-  -- its pairs before and after, and what C lent before and after.
-  abbrev pub OnMade : Option Pairs → X → Code → Option Pairs → X → Type 0
-  OnMade None x code None y = (code ≡ NoMap) × (y ≡ x)
-  OnMade (Some old) x code (Some new) y = Fits old x code new y
-  OnMade None x code (Some new) y = ⊥
-  OnMade (Some old) x code None y = ⊥
-
-  -- the same of a handle, and the number of the code is returned
-  abbrev pub Answers : Art → X → ℕ → Art → X → Type 0
-  Answers old x result new y =
-      (code : Code) × (result ≡ code_number code) × OnMade (pairs_behind old) x code (pairs_behind new) y
-
--- an empty map is made, or there is no memory and the handle has what it had
-abbrev pub IsNew : Option Pairs → ℕ → Option Pairs → Type 0
-IsNew old result new =
-    ((result ≡ code_number Done) × (new ≡ Some [])) ⊎ ((result ≡ code_number NoMemory) × (new ≡ old))
-
 -- nothing that C lent
 abbrev pub Nothing : Type 0
 Nothing = Unit {0}
 
--- The pair is put in at the place of its key, where no pair had the key and none blocks it, or in the place of the one
--- with its key. Where a stored key blocks it, or there is no memory, nothing is changed.
-abbrev pub IsPairPut : List ℕ → List ℕ → Pairs → Nothing → Code → Pairs → Nothing → Type 0
-IsPairPut key value old _ Done new _ =
-    (HasKey (key_of whole) key old → ⊥) × (IsBlocked (key_of whole) key old → ⊥)
-    × (new ≡ with_pair_put whole key value old)
-IsPairPut key value old _ Replaced new _ = HasKey (key_of whole) key old × (new ≡ with_pair_put whole key value old)
-IsPairPut key value old _ Conflict new _ = IsBlocked (key_of whole) key old × (new ≡ old)
-IsPairPut key value old _ NoMemory new _ = new ≡ old
-IsPairPut key value old _ _ new _ = ⊥
+module _ {V : Type 0} where
+  -- an empty map is made, or there is no memory and the handle has what it had
+  abbrev pub IsNew : Option (MapState V) → ℕ → Option (MapState V) → Type 0
+  IsNew old result new =
+      ((result ≡ code_number Done) × (new ≡ Some (own []))) ⊎ ((result ≡ code_number NoMemory) × (new ≡ old))
 
--- The pair with the key is gone, or there was none. Want of memory is told only where its loss makes a node smaller.
--- Nothing is changed then.
-abbrev pub IsRemoved : List ℕ → Pairs → Nothing → Code → Pairs → Nothing → Type 0
-IsRemoved key old _ Done new _ = HasKey (key_of whole) key old × (new ≡ without_key (key_of whole) key old)
-IsRemoved key old _ NotFound new _ = (HasKey (key_of whole) key old → ⊥) × (new ≡ old)
-IsRemoved key old _ NoMemory new _ =
-    HasKey (key_of whole) key old × Shrinks (key_of whole) old key × (new ≡ old)
-IsRemoved key old _ _ new _ = ⊥
+  -- the value of a key
+  abbrev pub stored_value : List ℕ → Pairs V → Option V
+  stored_value key pairs = lookup (has_bytes whole key) pairs
 
--- The pairs whose keys begin with the prefix are gone, and their number is told. Want of memory is told only where
--- their loss makes a node smaller. Nothing is changed then.
-abbrev pub IsPrefixRemoved : List ℕ → Pairs → ℕ → Code → Pairs → ℕ → Type 0
-IsPrefixRemoved front old x Done new y =
-    (new ≡ without_front (key_of whole) front old) × (y ≡ length (with_front (key_of whole) front old))
-IsPrefixRemoved front old x NoMemory new y =
-    ShrinksAtCut whole front old × (new ≡ old) × (y ≡ x)
-IsPrefixRemoved front old x _ new y = ⊥
+  -- the test that a pair has the key
+  abbrev pub is_stored : List ℕ → Pairs V → Bool
+  is_stored key pairs = is_some (stored_value key pairs)
+
+  -- A pair went in at the place of its key, which no stored key blocks. It had no pair, or the one with this value.
+  abbrev pub GoesIn : List ℕ → V → Pairs V → Option V → Pairs V → Type 0
+  GoesIn key value old was new =
+      (IsBlocked (key_of whole) key old → ⊥) × (was ≡ stored_value key old) × (new ≡ with_pair_put whole key value old)
+
+  -- It did not: a stored key blocks its key, or none does and there is no memory. Nothing is changed.
+  abbrev pub IsPutRefused : List ℕ → Pairs V → Code → Pairs V → Type 0
+  IsPutRefused key old Conflict new = IsBlocked (key_of whole) key old × (new ≡ old)
+  IsPutRefused key old NoMemory new = (IsBlocked (key_of whole) key old → ⊥) × (new ≡ old)
+  IsPutRefused key old _ new = ⊥
+
+  -- The pairs whose keys begin with the prefix are gone, and their number is told. Want of memory is told only where
+  -- their loss makes a node smaller. Nothing is changed then.
+  abbrev pub IsPrefixRemoved : List ℕ → Pairs V → ℕ → Code → Pairs V → ℕ → Type 0
+  IsPrefixRemoved front old x Done new y =
+      (new ≡ without_front (key_of whole) front old) × (y ≡ length (with_front (key_of whole) front old))
+  IsPrefixRemoved front old x NoMemory new y =
+      ShrinksAtCut whole front old × (new ≡ old) × (y ≡ x)
+  IsPrefixRemoved front old x _ new y = ⊥
+
+  -- the pair whose key is a front of a query, or equals it
+  abbrev pub pair_of_front : List ℕ → Pairs V → Option (List ℕ × V)
+  pair_of_front query pairs = lookup_entry (is_front whole query) pairs
+
+  -- the pair with the least key above a key, and the one with the greatest below
+  abbrev pub pair_above : List ℕ → Pairs V → Option (List ℕ × V)
+  pair_above key pairs = first_item (pairs_between whole (Excluded key) Unbounded pairs)
+
+  abbrev pub pair_below : List ℕ → Pairs V → Option (List ℕ × V)
+  pair_below key pairs = last_item (pairs_between whole Unbounded (Excluded key) pairs)
+
+  -- the first pair of those whose keys begin with a prefix, and the last
+  abbrev pub first_with_prefix : List ℕ → Pairs V → Option (List ℕ × V)
+  first_with_prefix prefix pairs = first_item (with_front (key_of whole) prefix pairs)
+
+  abbrev pub last_with_prefix : List ℕ → Pairs V → Option (List ℕ × V)
+  last_with_prefix prefix pairs = last_item (with_front (key_of whole) prefix pairs)
+
+  -- the pair that is wanted
+  abbrev pub wanted_of : Wanted → Pairs V → Option (List ℕ × V)
+  wanted_of First pairs = first_item pairs
+  wanted_of Last pairs = last_item pairs
+  wanted_of (FirstWithPrefix prefix) pairs = first_with_prefix prefix.now pairs
+  wanted_of (LastWithPrefix prefix) pairs = last_with_prefix prefix.now pairs
+  wanted_of (FrontOf query) pairs = pair_of_front query.now pairs
+  wanted_of (Above key) pairs = pair_above key.now pairs
+  wanted_of (Below key) pairs = pair_below key.now pairs
 
 -- how many nodes of each kind there are, as C has them
-abbrev pub as_told : WellFormedTreeStats → ArtAudit
+abbrev pub as_told : WellFormedTreeStats → NodeCounts
 as_told stats = record {
   nodes4 = stats.num_node4;
   nodes16 = stats.num_node16;
@@ -95,45 +105,63 @@ as_told stats = record {
 }
 
 -- the nodes of the tree are counted, or there is no memory for the count and nothing is told
-abbrev pub IsAudited : Pairs → ArtAudit → Code → Pairs → ArtAudit → Type 0
-IsAudited old x Done new y = (new ≡ old) × (y ≡ as_told (audit_of (key_of whole) old))
-IsAudited old x NoMemory new y = (new ≡ old) × (y ≡ x)
-IsAudited old x _ new y = ⊥
+abbrev pub IsAudited : {V : Type 0} → Pairs V → NodeCounts → Code → NodeCounts → Type 0
+IsAudited pairs x Done y = y ≡ as_told (audit_of (key_of whole) pairs)
+IsAudited pairs x NoMemory y = y ≡ x
+IsAudited pairs x _ y = ⊥
+
+-- The pair is put in at the place of its key, where no pair had the key and none blocks it, or in the place of the one
+-- with its key, whose word is told. Where a stored key blocks it, or there is no memory, nothing is changed.
+abbrev pub IsWordPut : List ℕ → ℕ → Pairs ℕ → ℕ → Code → Pairs ℕ → ℕ → Type 0
+IsWordPut key word old x Done new y = GoesIn key word old None new × (y ≡ x)
+IsWordPut key word old x Replaced new y = GoesIn key word old (Some y) new
+IsWordPut key word old x code new y = IsPutRefused key old code new × (y ≡ x)
+
+-- the same of bytes, of which no old value is told
+abbrev pub IsBytesPut : List ℕ → List ℕ → Pairs (List ℕ) → Nothing → Code → Pairs (List ℕ) → Nothing → Type 0
+IsBytesPut key value old _ Done new _ = GoesIn key value old None new
+IsBytesPut key value old _ Replaced new _ = (was : List ℕ) × GoesIn key value old (Some was) new
+IsBytesPut key value old _ code new _ = IsPutRefused key old code new
+
+-- The pair with the key is gone, and its word is told, or there was none. Want of memory is told only where its loss
+-- makes a node smaller. Nothing is changed then.
+abbrev pub IsWordRemoved : List ℕ → Pairs ℕ → ℕ → Code → Pairs ℕ → ℕ → Type 0
+IsWordRemoved key old x Done new y = (stored_value key old ≡ Some y) × (new ≡ without_key (key_of whole) key old)
+IsWordRemoved key old x NotFound new y = (stored_value key old ≡ None) × (new ≡ old) × (y ≡ x)
+IsWordRemoved key old x NoMemory new y =
+    HasKey (key_of whole) key old × Shrinks (key_of whole) old key × (new ≡ old) × (y ≡ x)
+IsWordRemoved key old x _ new y = ⊥
+
+abbrev pub IsRemoved : List ℕ → Pairs (List ℕ) → Nothing → Code → Pairs (List ℕ) → Nothing → Type 0
+IsRemoved key old _ Done new _ = HasKey (key_of whole) key old × (new ≡ without_key (key_of whole) key old)
+IsRemoved key old _ NotFound new _ = (HasKey (key_of whole) key old → ⊥) × (new ≡ old)
+IsRemoved key old _ NoMemory new _ =
+    HasKey (key_of whole) key old × Shrinks (key_of whole) old key × (new ≡ old)
+IsRemoved key old _ _ new _ = ⊥
+
+-- the word of a key is told, if there is one
+abbrev pub IsWordRead : List ℕ → Pairs ℕ → ℕ → Code → ℕ → Type 0
+IsWordRead key pairs x code y =
+    (code ≡ told_code (stored_value key pairs)) × (y ≡ word_out (stored_value key pairs) x)
+
+-- the word of a pair is told, if there is one
+abbrev pub IsPairsWordRead : (Pairs ℕ → Option (List ℕ × ℕ)) → Pairs ℕ → ℕ → Code → ℕ → Type 0
+IsPairsWordRead pick pairs x code y = (code ≡ told_code (pick pairs)) × (y ≡ pairs_word_out (pick pairs) x)
+
+-- how long the key of a pair is, and its word, if there is one
+abbrev pub IsFrontRead : (Pairs ℕ → Option (List ℕ × ℕ)) → Pairs ℕ → ℕ × ℕ → Code → ℕ × ℕ → Type 0
+IsFrontRead pick pairs x code y = (code ≡ told_code (pick pairs)) × (y ≡ front_out (pick pairs) x)
+
+-- the key of a pair is copied out, if there is one and it goes into the room; its length and its word are told
+abbrev pub IsWordPairRead : (Pairs ℕ → Option (List ℕ × ℕ)) → Pairs ℕ → KeyRoom → Code → KeyRoom → Type 0
+IsWordPairRead pick pairs x code y = (code ≡ word_code (pick pairs) x.key) × (y ≡ word_pair_out (pick pairs) x)
 
 -- the value of a key is copied out, if there is one and it goes into the room; its length is told
-abbrev pub IsValueRead : List ℕ → Pairs → List ℕ × ℕ → Code → Pairs → List ℕ × ℕ → Type 0
-IsValueRead key old x code new y =
-    (new ≡ old) × (code ≡ value_code (lookup (has_bytes whole key) old) x.0)
-    × (y ≡ (value_out (lookup (has_bytes whole key) old) x.0, length_out (lookup (has_bytes whole key) old) x.1))
-
--- the pair whose key is a front of a query, or equals it
-abbrev pub pair_of_front : List ℕ → Pairs → Option (List ℕ × List ℕ)
-pair_of_front query pairs = lookup_entry (is_front whole query) pairs
-
--- the pair with the least key above a key, and the one with the greatest below
-abbrev pub pair_above : List ℕ → Pairs → Option (List ℕ × List ℕ)
-pair_above key pairs = first_item (pairs_between whole (Excluded key) Unbounded pairs)
-
-abbrev pub pair_below : List ℕ → Pairs → Option (List ℕ × List ℕ)
-pair_below key pairs = last_item (pairs_between whole Unbounded (Excluded key) pairs)
-
--- the first pair of those whose keys begin with a prefix, and the last
-abbrev pub first_behind : List ℕ → Pairs → Option (List ℕ × List ℕ)
-first_behind prefix pairs = first_item (with_front (key_of whole) prefix pairs)
-
-abbrev pub last_behind : List ℕ → Pairs → Option (List ℕ × List ℕ)
-last_behind prefix pairs = last_item (with_front (key_of whole) prefix pairs)
-
--- the pair that is wanted
-abbrev pub wanted_of : Wanted → Pairs → Option (List ℕ × List ℕ)
-wanted_of First pairs = first_item pairs
-wanted_of Last pairs = last_item pairs
-wanted_of (FirstBehind prefix) pairs = first_behind prefix.now pairs
-wanted_of (LastBehind prefix) pairs = last_behind prefix.now pairs
-wanted_of (FrontOf query) pairs = pair_of_front query.now pairs
-wanted_of (Above key) pairs = pair_above key.now pairs
-wanted_of (Below key) pairs = pair_below key.now pairs
+abbrev pub IsValueRead : List ℕ → Pairs (List ℕ) → List ℕ × ℕ → Code → List ℕ × ℕ → Type 0
+IsValueRead key pairs x code y =
+    (code ≡ value_code (stored_value key pairs) x.0)
+    × (y ≡ (value_out (stored_value key pairs) x.0, length_out (stored_value key pairs) x.1))
 
 -- a pair is copied out, if it is there and both parts go into their rooms; their lengths are told
-abbrev pub IsPairRead : (Pairs → Option (List ℕ × List ℕ)) → Pairs → Rooms → Code → Pairs → Rooms → Type 0
-IsPairRead pick old x code new y = (new ≡ old) × (code ≡ pair_code (pick old) x) × (y ≡ pair_out (pick old) x)
+abbrev pub IsPairRead : (Pairs (List ℕ) → Option (List ℕ × List ℕ)) → Pairs (List ℕ) → Rooms → Code → Rooms → Type 0
+IsPairRead pick pairs x code y = (code ≡ pair_code (pick pairs) x) × (y ≡ pair_out (pick pairs) x)

@@ -1,4 +1,4 @@
--- How pairs and values are copied out to a caller.
+-- How pairs, words and values are copied out to a caller.
 use Rattle.std.specs.Prelude.{ℕ, nat_le, ◌&&◌, Bool, if◌then◌else◌, List, ◌++◌, length, drop, Option, Some, None}
 use Rattle.art_c.specs.declared.code.Code.{Code}
 use Rattle.art_c.specs.declared.code.Code.TheVariants.{Done, NotFound, NoRoom}
@@ -12,6 +12,15 @@ pub record Rooms : Type 0 where
 
 abbrev pub rooms : List ℕ → ℕ → List ℕ → ℕ → Rooms
 rooms key key_len value value_len = record { key = key; key_len = key_len; value = value; value_len = value_len }
+
+-- the room that a caller lends for a key, and where its length and its word are told
+pub record KeyRoom : Type 0 where
+  pub key : List ℕ
+  pub key_len : ℕ
+  pub word : ℕ
+
+abbrev pub key_room : List ℕ → ℕ → ℕ → KeyRoom
+key_room key key_len word = record { key = key; key_len = key_len; word = word }
 
 -- a room with these items at its start, whose rest is what it was
 abbrev pub written : {X : Type 0} → List X → List X → List X
@@ -55,3 +64,32 @@ value_out (Some v) room = if nat_le (length v) (length room) then written v room
 abbrev pub length_out : Option (List ℕ) → ℕ → ℕ
 length_out None len = len
 length_out (Some v) len = length v
+
+-- what is answered where nothing is copied
+abbrev pub told_code : {X : Type 0} → Option X → Code
+told_code None = NotFound
+told_code (Some x) = Done
+
+-- the word that is told: of a key, and of a pair
+abbrev pub word_out : Option ℕ → ℕ → ℕ
+word_out None word = word
+word_out (Some w) word = w
+
+abbrev pub pairs_word_out : Option (List ℕ × ℕ) → ℕ → ℕ
+pairs_word_out None word = word
+pairs_word_out (Some p) word = p.1
+
+-- the length of the key and the word that are told
+abbrev pub front_out : Option (List ℕ × ℕ) → ℕ × ℕ → ℕ × ℕ
+front_out None told = told
+front_out (Some p) told = (length p.0, p.1)
+
+-- what is answered of a pair with a word whose key is copied, and the room then
+abbrev pub word_code : Option (List ℕ × ℕ) → List ℕ → Code
+word_code None room = NotFound
+word_code (Some p) room = if nat_le (length p.0) (length room) then Done else NoRoom
+
+abbrev pub word_pair_out : Option (List ℕ × ℕ) → KeyRoom → KeyRoom
+word_pair_out None room = room
+word_pair_out (Some p) room =
+    key_room (if nat_le (length p.0) (length room.key) then written p.0 room.key else room.key) (length p.0) p.1

@@ -1,7 +1,62 @@
--- What C sees of a handle.
-use Rattle.std.specs.Prelude.{ℕ, List, Option, option_map}
-use Rattle.art_c.specs.declared.handle.Art.{Art}
+-- What C sees of a handle: the pairs of a map, and whether it is frozen.
+use Rattle.std.specs.Prelude.{ℕ, Bool, true, false, List, [], Option, Some, None}
+use Rattle.art_c.specs.declared.handle.Handle.{Handle}
+use Rattle.art_c.specs.declared.handle.kept.Kept.{Kept}
+use Rattle.art_c.specs.declared.handle.kept.Kept.TheVariants.{Own, Frozen}
+use Rattle.art_c.specs.declared.handle.store.Store.{Store}
+use Rattle.art_c.specs.declared.handle.store.Store.TheVariants.{Words, Bytes}
 
--- the pairs of the map of a handle, if one is made
-abbrev pub pairs_behind : Art → Option (List (List ℕ × List ℕ))
-pairs_behind art = option_map (λ store. store.map.pairs) art.held.store
+-- the pairs of a map, by ascending keys; keys are byte strings
+abbrev pub Pairs : Type 0 → Type 0
+Pairs V = List (List ℕ × V)
+
+-- a map with these pairs, which can be changed, or is frozen
+pub data MapState (V : Type 0) : Type 0 where
+  own : Pairs V → MapState V
+  shut : Pairs V → MapState V
+
+abbrev pub state_pairs : {V : Type 0} → MapState V → Pairs V
+state_pairs (own pairs) = pairs
+state_pairs (shut pairs) = pairs
+
+-- the test that a map is frozen
+abbrev pub is_shut : {V : Type 0} → MapState V → Bool
+is_shut (own pairs) = false
+is_shut (shut pairs) = true
+
+-- the state of a map that is kept
+abbrev pub state_of : {V : Type 0} → Kept V → MapState V
+state_of (Own owned) = own owned.map.pairs
+state_of (Frozen shared) = shut shared.value.map.pairs
+
+-- what lies behind a handle, if a map is made
+abbrev pub store_behind : Handle → Option Store
+store_behind handle = handle.held.store
+
+-- the map of words, or of bytes, if it is one
+abbrev pub word_map_in : Option Store → Option (MapState ℕ)
+word_map_in (Some (Words kept)) = Some (state_of kept)
+word_map_in (Some (Bytes kept)) = None
+word_map_in None = None
+
+abbrev pub byte_map_in : Option Store → Option (MapState (List ℕ))
+byte_map_in (Some (Bytes kept)) = Some (state_of kept)
+byte_map_in (Some (Words kept)) = None
+byte_map_in None = None
+
+-- the same of a handle
+abbrev pub words_behind : Handle → Option (MapState ℕ)
+words_behind handle = word_map_in (store_behind handle)
+
+abbrev pub bytes_behind : Handle → Option (MapState (List ℕ))
+bytes_behind handle = byte_map_in (store_behind handle)
+
+-- the pairs of a map, and none where there is no map
+abbrev pub pairs_or_none : {V : Type 0} → Option (MapState V) → Pairs V
+pairs_or_none None = []
+pairs_or_none (Some s) = state_pairs s
+
+-- the test that there is a map, and that it is frozen
+abbrev pub is_frozen_map : {V : Type 0} → Option (MapState V) → Bool
+is_frozen_map None = false
+is_frozen_map (Some s) = is_shut s

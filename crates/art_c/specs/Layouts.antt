@@ -1,17 +1,43 @@
--- Many pairs in one buffer, as C has them: the bytes of keys and values end to end, and the lengths of each pair.
+-- Many pairs in one buffer, as C has them: the bytes of keys, and of values, end to end, and an item for each pair.
 use Rattle.std.specs.Prelude.{ℕ, List, [], ◌∷◌, ◌++◌, length, map}
-use Rattle.art_c.specs.Calls.{Pairs}
-use Rattle.art_c.specs.declared.many.ArtLens.{ArtLens}
+use Rattle.art_c.specs.Handles.{Pairs}
+use Rattle.art_c.specs.declared.value.BytesPair.{BytesPair}
+use Rattle.art_c.specs.declared.value.WordsPair.{WordsPair}
 
--- how long the two parts of a pair are
-abbrev pub lens_of : List ℕ × List ℕ → ArtLens
-lens_of p = record { key = length p.0; value = length p.1 }
+-- how a pair of words is told, and one of bytes
+abbrev pub words_pair : List ℕ → ℕ → WordsPair
+words_pair key word = record { key_len = length key; word = word }
 
--- the lengths of these pairs
-abbrev pub lengths_of : Pairs → List ArtLens
-lengths_of pairs = map lens_of pairs
+abbrev pub bytes_pair : List ℕ → List ℕ → BytesPair
+bytes_pair key value = record { key_len = length key; value_len = length value }
 
--- their bytes, end to end
-abbrev pub end_to_end : Pairs → List ℕ
-end_to_end [] = []
-end_to_end (p ∷ ps) = p.0 ++ (p.1 ++ end_to_end ps)
+-- how long the key of such a pair is, and what else stands in the buffer: nothing of a word, and the bytes of a value
+abbrev pub word_key_len : WordsPair → ℕ
+word_key_len item = item.key_len
+
+abbrev pub word_text_len : WordsPair → ℕ
+word_text_len item = 0
+
+abbrev pub no_text : ℕ → List ℕ
+no_text word = []
+
+abbrev pub bytes_key_len : BytesPair → ℕ
+bytes_key_len item = item.key_len
+
+abbrev pub bytes_text_len : BytesPair → ℕ
+bytes_text_len item = item.value_len
+
+module _ {V : Type 0} where
+  -- what tells these pairs
+  abbrev pub told_items : {I : Type 0} → (List ℕ → V → I) → Pairs V → List I
+  told_items item pairs = map (λ p. item p.0 p.1) pairs
+
+  -- their bytes, end to end: those of the key, and those of the value
+  abbrev pub end_to_end : (V → List ℕ) → Pairs V → List ℕ
+  end_to_end text [] = []
+  end_to_end text (p ∷ ps) = p.0 ++ (text p.1 ++ end_to_end text ps)
+
+-- the first of some places with this item, if there is a place
+abbrev pub told_first : {I : Type 0} → I → List I → List I
+told_first item [] = []
+told_first item (_ ∷ places) = item ∷ places

@@ -1,8 +1,11 @@
+pub mod Answers
+pub mod Calls
 pub mod Codes
 pub mod Copies
-pub mod Held
 pub mod Handles
-pub mod Calls
+pub mod Held
 pub mod Layouts
 pub mod Loads
+pub mod Spans
 pub mod Walks
+pub mod Wholes

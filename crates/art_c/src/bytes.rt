@@ -1,8 +1,8 @@
-//! Byte strings, which are the keys and values of a map, and how they are copied in and out.
+//! Byte strings, which are the keys of each map and the values of some, and how they are copied in.
 ghost use Rattle.std.specs.Prelude.{◌≡◌, ℕ, List, IfOk};
 ghost use Rattle.art_bytes.specs.Keys.{AreBytes};
 
-use art_bytes::AsBytes;
+use art_bytes::{AsBytes, CloneBytes};
 use std::alloc::{AllocError, Global};
 use std::marker::Model;
 
@@ -41,4 +41,16 @@ impl AsBytes for Bytes {
         let bytes = self.held.as_slice();
         bytes
     }
+}
+
+impl Clone for Bytes {
+    ghost is_clone = { λ b c. c ≡ b };
+
+    fn clone(&self) -> Result<Bytes, AllocError> {
+        Bytes::copied(*self.held.allocator(), self.as_bytes())
+    }
+}
+
+impl CloneBytes for Bytes {
+    ghost same_bytes = { λ k l h. h };
 }

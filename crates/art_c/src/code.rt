@@ -2,7 +2,7 @@
 ghost use Rattle.std.specs.Prelude.{◌≡◌};
 ghost use Rattle.art_c.specs.Codes.{code_number};
 
-/// What a call answers. `bindings/c/art.h` has their numbers.
+/// What a call answers. `bindings/c/artmap.h` has their numbers.
 #[derive(Clone, Copy, PartialEq, Eq, Debug)]
 pub enum Code {
     /// What was asked for was found, or done.
@@ -23,6 +23,12 @@ pub enum Code {
     NotAbove,
     /// The bytes end before the pair does.
     CutOff,
+    /// It is done as far as the room goes, and other pairs are left.
+    More,
+    /// The map is frozen, so it is not changed.
+    Frozen,
+    /// Another handle has the frozen map, too.
+    Shared,
 }
 
 impl Code {
@@ -39,6 +45,9 @@ impl Code {
             Code::NoMap => 6,
             Code::NotAbove => 7,
             Code::CutOff => 8,
+            Code::More => 9,
+            Code::Frozen => 10,
+            Code::Shared => 11,
         }
     }
 }

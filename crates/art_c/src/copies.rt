@@ -2,7 +2,8 @@
 ghost use Rattle.std.specs.Prelude.{◌≡◌, ◌≤◌, length, option_map};
 ghost use Rattle.std.specs.Option.{option_copied};
 ghost use Rattle.std.specs.Map.Iter.{deref_pair};
-ghost use Rattle.art_c.specs.Copies.{length_out, pair_code, pair_out, rooms, value_code, value_out, written};
+ghost use Rattle.art_c.specs.Copies.{front_out, key_room, length_out, pair_code, pair_out, pairs_word_out, rooms};
+ghost use Rattle.art_c.specs.Copies.{told_code, value_code, value_out, word_code, word_out, word_pair_out, written};
 
 use crate::bytes::Bytes;
 use crate::code::Code;
@@ -30,6 +31,74 @@ pub(crate) fn give_value(found: Option<&Bytes>, room: &mut [u8], len: &mut usize
     *len = bytes.len();
     if bytes.len() <= room.len() {
         write(bytes, room);
+        Code::Done
+    } else {
+        Code::NoRoom
+    }
+}
+
+/// Tells a word, if there is one.
+pub(crate) fn give_word(found: Option<&u64>, word: &mut u64) -> Code
+    ensures code { result ≡ told_code (option_copied found.entry) }
+    ensures word { word.new ≡ word_out (option_copied found.entry) word.old }
+{
+    match found {
+        Some(is) => {
+            *word = *is;
+            Code::Done
+        }
+        None => Code::NotFound,
+    }
+}
+
+/// Tells the word of a pair, if there is one.
+pub(crate) fn give_pairs_word(found: Option<(&Bytes, &u64)>, word: &mut u64) -> Code
+    ensures code { result ≡ told_code (option_map deref_pair found.entry) }
+    ensures word { word.new ≡ pairs_word_out (option_map deref_pair found.entry) word.old }
+{
+    match found {
+        Some((_key, is)) => {
+            *word = *is;
+            Code::Done
+        }
+        None => Code::NotFound,
+    }
+}
+
+/// Tells how long the key of a pair is, and its word, if there is one.
+pub(crate) fn give_front(found: Option<(&Bytes, &u64)>, key_len: &mut usize, word: &mut u64) -> Code
+    ensures code { result ≡ told_code (option_map deref_pair found.entry) }
+    ensures told { (key_len.new, word.new) ≡ front_out (option_map deref_pair found.entry) (key_len.old, word.old) }
+{
+    match found {
+        Some((key, is)) => {
+            *key_len = key.as_bytes().len();
+            *word = *is;
+            Code::Done
+        }
+        None => Code::NotFound,
+    }
+}
+
+/// Copies the key of a pair out, if there is one and it goes into the room, and tells its length and its word.
+pub(crate) fn give_word_pair(
+    found: Option<(&Bytes, &u64)>,
+    room: &mut [u8],
+    key_len: &mut usize,
+    word: &mut u64,
+) -> Code
+    ensures code { result ≡ word_code (option_map deref_pair found.entry) room.old }
+    ensures rooms { (key_room room.new key_len.new word.new)
+        ≡ word_pair_out (option_map deref_pair found.entry) (key_room room.old key_len.old word.old) }
+{
+    let Some((key, is)) = found else {
+        return Code::NotFound;
+    };
+    let key = key.as_bytes();
+    *key_len = key.len();
+    *word = *is;
+    if key.len() <= room.len() {
+        write(key, room);
         Code::Done
     } else {
         Code::NoRoom

@@ -2,34 +2,90 @@
 ghost use Rattle.std.specs.Prelude.{◌≡◌, is_some};
 
 mod held;
+mod kept;
 mod loose;
 mod opened;
 mod store;
 
 use held::Held;
-pub(crate) use store::{Map, Store};
+pub(crate) use kept::{Kept, Map, Owned};
+pub(crate) use store::Store;
 
 /// The handle of a map. It lies in the caller's memory, and owns a map where one is made.
 #[repr(C)]
 #[derive(Drop)]
-pub struct Art {
+pub struct Handle {
     held: Held,
     is_made: bool,
     ghost known: { is_made ≡ is_some held.store },
 }
 
-// What is done with the map behind a handle, if one is made: the number of the code that it gives.
-macro_rules! with_store {
-    ($alloc:ident, $art:ident, |$store:ident| $done:expr) => {
-        match $art.take($alloc) {
-            Some(mut $store) => {
-                let code = $done;
-                *$art = Art::of($store);
-                code.number()
-            }
+// What is read of the map of this kind behind a handle: the number of the code that it gives.
+macro_rules! reading {
+    ($alloc:ident, $handle:ident, $kind:ident not $other:ident, |$map:ident| $done:expr) => {
+        match $handle.take($alloc) {
+            Some(store) => match &*store {
+                Store::$kind(kept) => {
+                    let $map = kept.map();
+                    let code = $done;
+                    *$handle = Handle::of(store);
+                    code.number()
+                }
+                Store::$other(_) => {
+                    *$handle = Handle::of(store);
+                    Code::NoMap.number()
+                }
+            },
             None => Code::NoMap.number(),
         }
     };
 }
 
-pub(crate) use with_store;
+// What is done with the map of this kind behind a handle, where it is not frozen: the number of the code that it gives.
+macro_rules! changing {
+    ($alloc:ident, $handle:ident, $kind:ident not $other:ident, |$map:ident| $done:expr) => {
+        match $handle.take($alloc) {
+            Some(mut store) => match &mut *store {
+                Store::$kind(Kept::Own(owned)) => {
+                    let $map = &mut owned.map;
+                    let code = $done;
+                    *$handle = Handle::of(store);
+                    code.number()
+                }
+                Store::$kind(Kept::Frozen(_)) => {
+                    *$handle = Handle::of(store);
+                    Code::Frozen.number()
+                }
+                Store::$other(_) => {
+                    *$handle = Handle::of(store);
+                    Code::NoMap.number()
+                }
+            },
+            None => Code::NoMap.number(),
+        }
+    };
+}
+
+// What is done with what a handle of this kind keeps, frozen or not: the number of the code that it gives.
+macro_rules! keeping {
+    ($alloc:ident, $handle:ident, $kind:ident not $other:ident, |$kept:ident| $done:expr) => {
+        match $handle.take($alloc) {
+            Some(mut store) => match &mut *store {
+                Store::$kind($kept) => {
+                    let code = $done;
+                    *$handle = Handle::of(store);
+                    code.number()
+                }
+                Store::$other(_) => {
+                    *$handle = Handle::of(store);
+                    Code::NoMap.number()
+                }
+            },
+            None => Code::NoMap.number(),
+        }
+    };
+}
+
+pub(crate) use changing;
+pub(crate) use keeping;
+pub(crate) use reading;

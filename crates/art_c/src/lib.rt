@@ -1,12 +1,16 @@
-//! The map for C: a static library with an export for each call, declared in `bindings/c/art.h`.
-//! Keys and values are byte strings, which are copied in and out; no pointer is kept. Each export's clauses say what it
-//! answers of the pairs of a handle, in the words of the map.
+//! The maps for C: a static library with an export for each call. `bindings/c/artmap.h` declares the calls, and
+//! `bindings/c/artmap.c` passes them on to these exports.
+//! A map has words or byte strings under its keys. Each export's clauses say what it answers of the pairs behind a
+//! handle, in the words of the map: `specs/Answers.antt` has their form, and `specs/Calls.antt` what single calls do.
 #![tactic(auto)]
 
-mod audit;
+mod byte_maps;
 mod bytes;
 mod calls;
 mod code;
 mod copies;
 mod handle;
 mod many;
+mod nodes;
+mod value;
+mod words;

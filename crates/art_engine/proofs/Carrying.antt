@@ -143,3 +143,22 @@ held_as_fits held part room fits within is =
     let all : length held + left ≡ 4097 = omega arith in
     let least : min left (length part) ≡ room = omega arith in
     ap (λ n. held ++ take n part) (sym least) ∙ ap (λ t. held ++ t) (take_min left part) ∙ sym (take-append-add held part left) ∙ ap (λ n. take n (held ++ part)) all
+
+-- a line that was carried out of a state that has the same records, and of which the same is told
+pub done_from : (memory : Bool) (first old new : State) (line : List ℕ) → old.records ≡ first.records → old.reads ≡ first.reads → old.ahead ≡ first.ahead
+    → IsLineDone memory old line new → IsLineDone memory first line new
+done_from memory first old new line r e a d =
+    let s : IsLineDone memory (record { records = first.records; reads = first.reads; ahead = first.ahead; met = old.met }) line new =
+    subst (λ (t : State). IsLineDone memory t line new) (λ i. record { records = r i; reads = e i; ahead = a i; met = old.met }) d in
+    record {
+      lawful = s.lawful;
+      left = s.left;
+      visits = s.visits;
+      within = s.within;
+      short = s.short;
+      own_path = s.own_path;
+      counted = s.counted;
+      visits_ahead = s.visits_ahead;
+      few = s.few;
+      counted_ahead = s.counted_ahead;
+    }

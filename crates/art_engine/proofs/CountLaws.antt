@@ -9,7 +9,7 @@ use Rattle.std.specs.List.{AllByRecursion, find}
 use Rattle.std.specs.Int.{to_be_bytes, w32, w64}
 use Rattle.std.proofs.lemmas.Slice.Eq.{bytes_eq-Decides}
 use Rattle.art_arena.proofs.Common.{AscendsByKey, begins_with, all_at, begins_true}
-use Rattle.art_lines.proofs.Common.{put, over, del, get, find as find_front, list, span, nput, nget, ndel, nspan, drop, Command, of_tenant, dump, audit, full_key}
+use Rattle.art_lines.proofs.Common.{get, find as find_front, nget, Command, of_tenant, full_key}
 use Rattle.art_engine.proofs.Terms.{exactly, path_nodes, visits_of, IsWithin, IsShort, IsOwnPath, ReadsOwnPath, full_key_of, number_key_of, KeyRecord, NumberRecord, Records, AreRecords, IsOfTenant, InOrder, KeyComesBefore, NumberComesBefore, KeyFits, NumberFits, own}
 use Rattle.art_engine.proofs.Counting.{own_path, path_is_short, found_record}
 use Rattle.art_engine.proofs.Filters.{All-map}

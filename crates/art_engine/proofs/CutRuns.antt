@@ -38,7 +38,7 @@ cut_next start now new text held before taken taken' line handled c s l =
       begun = l.begun;
       is_cut = subst (λ a. IsTrue (is_proper_front l.begun a)) (same_answer l.memory now.records handled line s) l.is_cut;
       told = refl;
-      left = l.left ∙ ap (λ (r : Records). record now { records = r }) (same_left l.memory now.records handled line s);
+      left = l.left ∙ ap (λ (r : Records). record now { records = r; met = new.met }) (same_left l.memory now.records handled line s);
     } in
     record {
       written = written;
@@ -61,9 +61,9 @@ cut_run-last start now new text held before taken taken' handled c some same l =
     subst (λ ls. IsCutRun start new (whole_lines_of text ++ ls) before taken') (sym (closed (unfinished_line_of text) long))
     (cut_next start now new text held before taken taken' (unfinished_line_of text) handled c (cut (unfinished_line_of text) handled (same ∙ c.rest)) l)
 
--- nothing but the records changed
-with_records : (old new : State) (r : Records) → new.records ≡ r → new.reads ≡ old.reads → new.ahead ≡ old.ahead → new ≡ record old { records = r }
-with_records old new r e f g = λ i. record { records = e i; reads = f i; ahead = g i }
+-- nothing of what is told changed but the records
+with_records : (old new : State) (r : Records) → new.records ≡ r → new.reads ≡ old.reads → new.ahead ≡ old.ahead → new ≡ record old { records = r; met = new.met }
+with_records old new r e f g = λ i. record { records = e i; reads = f i; ahead = g i; met = new.met }
 
 -- a beginning behind which some bytes are missing
 is_proper : (begun missing text : List ℕ) → missing ≢ [] → begun ++ missing ≡ text → IsTrue (is_proper_front begun text)
@@ -85,3 +85,11 @@ cut_line memory old new line before after told is cut left lawful same =
       told = cut.told;
       left = with_records old new (left_by memory old.records line) left same.0 same.1;
     }
+
+-- a line that was cut out of a state that has the same records, and of which the same is told
+pub cut_from : (first old new : State) (line before after : List ℕ) → old.records ≡ first.records → old.reads ≡ first.reads → old.ahead ≡ first.ahead
+    → IsCutLine old line before after new → IsCutLine first line before after new
+cut_from first old new line before after r e a l =
+    let s : IsCutLine (record { records = first.records; reads = first.reads; ahead = first.ahead; met = old.met }) line before after new =
+    subst (λ (t : State). IsCutLine t line before after new) (λ i. record { records = r i; reads = e i; ahead = a i; met = old.met }) l in
+    record { memory = s.memory; lawful = s.lawful; begun = s.begun; is_cut = s.is_cut; told = s.told; left = s.left }

@@ -1,6 +1,6 @@
 -- A worked example beside each definition, computed by the checker.
 use Rattle.std.proofs.Common.{◌≡◌, ℕ, ◌<◌, List, [], ◌∷◌, ◌++◌, refl, false, true, negsuc, lit<, lit≤, arith, inl, inr}
-use Rattle.std.specs.Prelude.{codes, flat_map, map, replicate, Some, None, IsTrue}
+use Rattle.std.specs.Prelude.{codes, flat_map, map, replicate, Some, None}
 use Rattle.art_lines.specs.Lines.{whole_lines_of, unfinished_line_of}
 use Rattle.art_lines.proofs.Common.{lines_of, lines_so_far, name, natural, signed, bytes, shown, line_of, span, put, get, nget, drop, of_tenant, dump, Spells, list, full_key, IsCut}
 use Rattle.art_lines.specs.Reading.{command_of, natural_in, tenant_in, number_in, bytes_in}
@@ -200,7 +200,7 @@ empty = unread no_records
 one_record : Records
 one_record = record { keys = (record { tenant = 1; key = 10 ∷ []; value = 97 ∷ [] }) ∷ []; numbers = [] }
 
-put-done : IsLineDone false empty (codes "put 1 0a 61") (record { records = one_record; reads = 0 ∷ []; ahead = 0 ∷ [] })
+put-done : IsLineDone false empty (codes "put 1 0a 61") (record { records = one_record; reads = 0 ∷ []; ahead = 0 ∷ []; met = [] })
 unfolding one_record computed
 put-done = record {
   lawful = λ no_memory. absurd (false≢true no_memory);
@@ -215,9 +215,9 @@ put-done = record {
   counted_ahead = refl;
 }
 
-read_fault-behind_a_line : IsOutcome empty (whole_lines_of (codes "put 1 0a 61" ++ 10 ∷ codes "get 1 0")) (codes "new" ++ 10 ∷ []) (record { records = one_record; reads = 0 ∷ []; ahead = 0 ∷ [] })
+read_fault-behind_a_line : IsOutcome empty (whole_lines_of (codes "put 1 0a 61" ++ 10 ∷ codes "get 1 0")) (codes "new" ++ 10 ∷ []) (record { records = one_record; reads = 0 ∷ []; ahead = 0 ∷ []; met = [] })
 unfolding one_record computed
-read_fault-behind_a_line = record { asked = (codes "put 1 0a 61", false) ∷ []; are = refl; told = refl; done = (record { records = one_record; reads = 0 ∷ []; ahead = 0 ∷ [] }, put-done, refl) }
+read_fault-behind_a_line = record { asked = (codes "put 1 0a 61", false) ∷ []; are = refl; told = refl; done = (record { records = one_record; reads = 0 ∷ []; ahead = 0 ∷ []; met = [] }, put-done, refl) }
 
 -- one byte of three was taken, behind another
 text-cut_behind_a_byte : IsCut (codes "o") (codes "on") (codes "new")

@@ -4,6 +4,7 @@ pub mod RunLemmas
 pub mod Carrying
 pub mod CutRuns
 pub mod Replies
+pub mod CarriedOut
 pub mod Families
 pub mod Dumping
 pub mod DumpReplies
@@ -14,6 +15,7 @@ pub mod Putting
 pub mod Standing
 pub mod Filters
 pub mod OwnLaws
+pub mod OwnWays
 pub mod Conflicts
 pub mod FullTests
 pub mod Dropping

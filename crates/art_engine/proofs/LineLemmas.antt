@@ -183,3 +183,22 @@ behind_newline rest i n long within here =
     let e : drop i rest ≡ 10 ∷ drop (i + 1) rest = drop-cons rest i 0 within ∙ ap (λ b. b ∷ drop (suc i) rest) (eqb-true (get_or rest i 0) 10 here) ∙ ap (λ k. 10 ∷ drop k rest) (sym (add-one i)) in
     let whole : take (n - (i + 1)) (drop (i + 1) rest) ≡ drop (i + 1) rest = ap (λ m. take (m - (i + 1)) (drop (i + 1) rest)) long ∙ take_rest rest (i + 1) in
     sym (take-append-drop i rest) ∙ ap (λ l. take i rest ++ l) e ∙ ap (λ l. take i rest ++ 10 ∷ l) (sym whole) ∙ sym (append_assoc (take i rest) (10 ∷ []) (take (n - (i + 1)) (drop (i + 1) rest)))
+
+-- a line at the front of a text, and those behind it
+pieces_of-front : (part behind : List ℕ) → NoNewline part → pieces_of ((part ++ 10 ∷ []) ++ behind) ≡ part ∷ pieces_of behind
+pieces_of-front [] behind none = refl
+pieces_of-front (b ∷ part) behind none = rw none.0 (ap (onto_first b) (pieces_of-front part behind none.1))
+
+all_but_last-cons : (p : List ℕ) (ps : List (List ℕ)) → SomePieces ps → all_but_last (p ∷ ps) ≡ p ∷ all_but_last ps
+all_but_last-cons p [] h = elim h [ ]
+all_but_last-cons p (q ∷ ps) some = refl
+
+pub whole_lines_of-front : (part behind : List ℕ) → NoNewline part → whole_lines_of ((part ++ 10 ∷ []) ++ behind) ≡ part ∷ whole_lines_of behind
+whole_lines_of-front part behind none =
+    whole_are ((part ++ 10 ∷ []) ++ behind) ∙ ap all_but_last (pieces_of-front part behind none) ∙ all_but_last-cons part (pieces_of behind) (some_pieces behind)
+    ∙ ap (λ ls. part ∷ ls) (sym (whole_are behind))
+
+-- a text without a newline has no whole line
+pub no_whole_line : (text : List ℕ) → NoNewline text → whole_lines_of text ≡ []
+unfolding whole_lines_of
+no_whole_line text none = whole_lines_of-part [] text none

@@ -1,14 +1,112 @@
--- What is told of lines that were read before their turn, when the place goes on by one.
-use Rattle.std.proofs.Common.{◌≡◌, ℕ, suc, zero, ◌+◌, ◌<◌, List, [], ◌∷◌, take, drop, Option, Some, None, refl, ap, sym, ◌∙◌, arith}
-use Rattle.std.specs.List.{sum_by, slice_get}
-use Rattle.std.proofs.lemmas.List.Sums.{sum_by-cons}
-use Rattle.art_engine.proofs.Terms.{told_at}
+-- Lines that were read before their turn: what the next one is, and what is left.
+use Rattle.std.proofs.Common.{◌≡◌, ℕ, suc, zero, ◌+◌, ◌<◌, ◌≤◌, Some, List, [], ◌∷◌, ◌++◌, map, take, drop, length, get_or, refl, ap, sym, ◌∙◌, subst, arith}
+use Rattle.std.proofs.lemmas.List.Sums.{sum_by-cons, sum_by_push}
+use Rattle.std.proofs.Math.ListN.{set}
+use Rattle.std.specs.Prelude.{Option, None, option_map}
+use Rattle.std.proofs.Common.{append_assoc}
+use Rattle.art_lines.specs.Parsed.{command_with}
+use Rattle.art_lines.specs.Reading.{command_of}
+use Rattle.art_lines.specs.declared.command.fields.Fields.{Fields}
+use Rattle.art_lines.specs.declared.command.word.Word.{Word}
+use Rattle.art_lines.specs.Lines.{whole_lines_of}
+use Rattle.std.specs.Prelude.{slice_get}
+use Rattle.art_engine.specs.declared.upcoming.line.Line.{Line}
+use Rattle.art_engine.specs.Upcoming.{told_or}
+use Rattle.art_engine.proofs.Terms.{AreNext, IsNextLine, NoNewline, most_ahead, read_of, texts_of, total}
+use Rattle.art_engine.proofs.LineLemmas.{whole_lines_of-front, no_whole_line}
 
-module _ {X : Type 0} (told : X → ℕ) where
-  -- what is left from a place on is what the one there tells, and what is left behind it
-  pub left_behind : (xs : List X) (len at : ℕ) → at < len → sum_by told (drop at (take len xs)) ≡ told_at told xs (Some at) + sum_by told (drop (suc at) (take len xs))
-  left_behind xs zero at lt = absurd (omega arith)
-  left_behind [] (suc len) zero lt = refl
-  left_behind [] (suc len) (suc at) lt = refl
-  left_behind (x ∷ xs) (suc len) zero lt = sum_by-cons told x (take len xs)
-  left_behind (x ∷ xs) (suc len) (suc at) lt = left_behind xs len at (omega arith)
+-- the lines of a text that begins with a line: if any are to come, that is the first, and the others come behind it
+pub next_is : (lines : List (List ℕ)) (part behind text : List ℕ) → NoNewline part → text ≡ (part ++ 10 ∷ []) ++ behind → AreNext lines text → IsNextLine part lines × AreNext (drop 1 lines) behind
+next_is [] part behind text none is next = (tt, (whole_lines_of behind, refl))
+next_is (l ∷ lines) part behind text none is next =
+    let same : part ∷ whole_lines_of behind ≡ l ∷ (lines ++ next.0) = sym (whole_lines_of-front part behind none) ∙ ap whole_lines_of (sym is) ∙ next.1 in (
+      sym (ap (λ ls. first_of ls) same),
+      (next.0, ap (λ (ls : List (List ℕ)). drop 1 ls) same),
+    )
+  where
+    first_of : List (List ℕ) → List ℕ
+    first_of [] = []
+    first_of (x ∷ xs) = x
+
+-- a text without a newline has none to come
+pub none_to_come : {X : Type 0} (text_of : X → List ℕ) (lines : List X) (rest : List ℕ) → NoNewline rest → AreNext (map text_of lines) rest → lines ≡ []
+none_to_come text_of [] rest none next = refl
+none_to_come text_of (l ∷ lines) rest none next = absurd (no_cons (sym (no_whole_line rest none) ∙ next.1))
+  where
+    is_empty : List (List ℕ) → Type 0
+    is_empty [] = Unit {0}
+    is_empty (x ∷ xs) = ⊥
+
+    no_cons : {x : List ℕ} {xs : List (List ℕ)} → [] ≡ x ∷ xs → ⊥
+    no_cons e = subst is_empty e tt
+
+-- what is told of one line more
+pub told_more : (ns : List ℕ) (n : ℕ) (told : List ℕ) → told ≡ ns ++ n ∷ [] → total told ≡ total ns + n
+told_more ns n told e = ap total e ∙ sum_by_push (λ (k : ℕ). k) ns n
+
+-- what the line at a place tells, and what is left behind it
+pub told_behind : (lines : List Line) (len at : ℕ) → at < len → at < length lines
+    → told_or 0 (λ (l : Line). l.read) (slice_get lines at) + read_of (drop (suc at) (take len lines)) ≡ read_of (drop at (take len lines))
+told_behind lines zero at low fits = absurd (omega arith)
+told_behind [] (suc len) at low fits = absurd (omega arith)
+told_behind (x ∷ xs) (suc len) zero low fits = sym (sum_by-cons (λ (l : Line). l.read) x (take len xs))
+told_behind (x ∷ xs) (suc len) (suc at) low fits = told_behind xs len at (omega arith) (omega arith)
+
+-- the line at that place is the next one
+pub next_there : (lines : List Line) (len at : ℕ) (line : List ℕ) → at < len → at < length lines → IsNextLine line (texts_of (drop at (take len lines)))
+    → (l : Line) × (slice_get lines at ≡ Some l) × (l.text.items ≡ line)
+next_there lines zero at line low fits next = absurd (omega arith)
+next_there [] (suc len) at line low fits next = absurd (omega arith)
+next_there (x ∷ xs) (suc len) zero line low fits next = (x, refl, next)
+next_there (x ∷ xs) (suc len) (suc at) line low fits next = next_there xs len at line (omega arith) (omega arith) next
+
+abbrev is_there : Option Line → Type 0
+is_there None = ⊥
+is_there (Some x) = Unit {0}
+
+nothing : {x : Line} → None ≡ Some x → ⊥
+nothing f = subst is_there (sym f) tt
+
+-- a line that is found at a place is the one there
+pub found_there : (lines : List Line) (at : ℕ) (l d : Line) → slice_get lines at ≡ Some l → get_or lines at d ≡ l
+found_there [] at l d e = absurd (nothing e)
+found_there (x ∷ xs) zero l d e = ap (λ (o : Option Line). told_or x (λ y. y) o) e
+found_there (x ∷ xs) (suc at) l d e = found_there xs at l d e
+
+-- what is asked by a line that is found
+pub read_there : (o : Option Line) (word : Option Word) (fields : Fields) (l : Line) (line : List ℕ) → o ≡ Some l → l.text.items ≡ line
+    → option_map (λ w. command_with w l.fields) l.word ≡ command_of l.text.items
+    → option_map (λ w. command_with w (told_or fields (λ (x : Line). x.fields) o)) (told_or word (λ (x : Line). x.word) o) ≡ command_of line
+read_there o word fields l line e t h =
+    subst (λ (p : Option Line). option_map (λ w. command_with w (told_or fields (λ (x : Line). x.fields) p)) (told_or word (λ (x : Line). x.word) p) ≡ command_of line) (sym e) (h ∙ ap command_of t)
+
+pub few_there : (o : Option Line) (l : Line) (line : List ℕ) → o ≡ Some l → l.text.items ≡ line → l.read ≤ most_ahead (command_of l.text.items)
+    → told_or 0 (λ (x : Line). x.read) o ≤ most_ahead (command_of line)
+few_there o l line e t h =
+    subst (λ (p : Option Line). told_or 0 (λ (x : Line). x.read) p ≤ most_ahead (command_of line)) (sym e) (subst (λ b. l.read ≤ most_ahead (command_of b)) t h)
+
+-- a line in another's place whose bytes are the same
+pub texts_kept : (lines : List Line) (at : ℕ) (y d : Line) → at < length lines → y.text.items ≡ (get_or lines at d).text.items → texts_of (set lines at y) ≡ texts_of lines
+texts_kept [] at y d low same = absurd (omega arith)
+texts_kept (x ∷ xs) zero y d low same = ap (λ t. t ∷ texts_of xs) same
+texts_kept (x ∷ xs) (suc at) y d low same = ap (λ ts. x.text.items ∷ ts) (texts_kept xs at y d (omega arith) same)
+
+-- one line more is read
+pub texts_more : (lines : List Line) (len : ℕ) (y : Line) → len < length lines → texts_of (take (suc len) (set lines len y)) ≡ texts_of (take len lines) ++ y.text.items ∷ []
+texts_more [] len y low = absurd (omega arith)
+texts_more (x ∷ xs) zero y low = refl
+texts_more (x ∷ xs) (suc len) y low = ap (λ ts. x.text.items ∷ ts) (texts_more xs len y (omega arith))
+
+pub read_more : (lines : List Line) (len : ℕ) (y : Line) → len < length lines → read_of (take (suc len) (set lines len y)) ≡ read_of (take len lines) + y.read
+read_more [] len y low = absurd (omega arith)
+read_more (x ∷ xs) zero y low = refl
+read_more (x ∷ xs) (suc len) y low =
+    let all = sum_by-cons (λ (l : Line). l.read) x (take (suc len) (set xs len y)) in let some = sum_by-cons (λ (l : Line). l.read) x (take len xs) in
+    let more = read_more xs len y (omega arith) in
+    omega (arith, all, some, more)
+
+pub next_more : (text rest part behind : List ℕ) (before now : List (List ℕ)) → whole_lines_of text ≡ before ++ whole_lines_of rest → rest ≡ (part ++ 10 ∷ []) ++ behind → NoNewline part
+    → now ≡ before ++ part ∷ [] → whole_lines_of text ≡ now ++ whole_lines_of behind
+next_more text rest part behind before now e is none more =
+    e ∙ ap (λ t. before ++ whole_lines_of t) is ∙ ap (λ ls. before ++ ls) (whole_lines_of-front part behind none)
+    ∙ sym (append_assoc before (part ∷ []) (whole_lines_of behind)) ∙ ap (λ ls. ls ++ whole_lines_of behind) (sym more)

@@ -1,7 +1,7 @@
 -- What is read ahead of a line.
-use Rattle.std.specs.Prelude.{◌≡◌, ◌⊎◌, ℕ, suc, ◌-◌, ◌≤◌, int_lt, if◌then◌else◌, List, length, drop}
+use Rattle.std.specs.Prelude.{◌≡◌, ◌⊎◌, ℕ, suc, ◌+◌, int_lt, if◌then◌else◌, List, [], ◌∷◌, ◌++◌, length, drop}
 use Rattle.std.specs.Prelude.{Option, Some, None, option_map, unwrap_or, nat_eq, true}
-use Rattle.std.specs.List.{starts_with, slice_get}
+use Rattle.std.specs.List.{starts_with, sum_by}
 use Rattle.art_bytes.specs.Keys.{is_below}
 use Rattle.art_bytes.specs.Laws.{pair_key}
 use Rattle.art_nodes.specs.Name.{Name}
@@ -10,7 +10,8 @@ use Rattle.art_arena.specs.arena.Arena.{Arena, held_at, inner_held}
 use Rattle.art_arena.specs.arena.Descents.{GoesOn}
 use Rattle.art_lines.specs.Commands.{Command, of_tenant, over, del, get, find, list, span, nget, ndel, nspan}
 use Rattle.art_lines.specs.Keys.{full_key}
-use Rattle.art_engine.specs.Counts.{GrewBy}
+use Rattle.art_lines.specs.Lines.{whole_lines_of}
+use Rattle.art_engine.specs.State.{State}
 
 -- The full key along whose path nodes may be read ahead of a command: its own, or that of its prefix or lower bound. Of
 -- other commands, and where bounds are out of order, there is none.
@@ -37,12 +38,24 @@ IsStepAhead arena key from to = (to ≡ from)
     ⊎ ((node : InnerNode) × (byte : ℕ) × (held_at arena from.0 ≡ Some (inner_held node))
     × GoesOn key from.1 node byte to.0 to.1 × (starts_with nat_eq (drop from.1 key) node.header.stored ≡ true))
 
--- Two counts grew by the same: what some lines tell of what was read ahead of them, and what was counted where it was
--- read, whose greatest count stays.
-abbrev pub GrewAlike : ℕ → ℕ → ℕ → ℕ → Type 0
-GrewAlike told now count counted = (told ≤ now) × GrewBy (now - told) count counted
+-- the sum of some numbers
+abbrev pub total : List ℕ → ℕ
+total ns = sum_by (λ n. n) ns
 
--- what is told by the one at this place, if there is one: by none 0
-abbrev pub told_at : {X : Type 0} → (X → ℕ) → List X → Option ℕ → ℕ
-told_at told xs None = 0
-told_at told xs (Some at) = unwrap_or (option_map told (slice_get xs at)) 0
+-- From one state to another, with so many nodes of lines to come that are not told yet: what is told more as read ahead
+-- is what the readers counted more.
+abbrev pub Tells : State → ℕ → State → ℕ → Type 0
+Tells old untold new left = total new.ahead + left + total old.met ≡ total old.ahead + untold + total new.met
+
+-- all that the readers counted is told
+abbrev pub IsAllTold : State → State → Type 0
+IsAllTold old new = Tells old 0 new 0
+
+-- these lines are the first of a text's whole ones
+abbrev pub AreNext : List (List ℕ) → List ℕ → Type 0
+AreNext lines text = (others : List (List ℕ)) × (whole_lines_of text ≡ lines ++ others)
+
+-- the first of these lines, if there is one, is this
+abbrev pub IsNextLine : List ℕ → List (List ℕ) → Type 0
+IsNextLine line [] = Unit {0}
+IsNextLine line (next ∷ others) = next ≡ line

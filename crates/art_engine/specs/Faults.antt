@@ -6,14 +6,14 @@ use Rattle.art_engine.specs.Refusals.{LineMayRefuse}
 use Rattle.art_engine.specs.Outcome.{answer, left_by, IsOutcome}
 
 -- A line was carried out, and of its answer a beginning was taken that is not all of it. What it has read is not
--- counted.
+-- counted. What was read ahead of it and of others is, by the readers, and not told.
 pub record IsCutLine (old : State) (line before after : List ℕ) (new : State) : Type 0 where
   pub memory : Bool
   pub lawful : memory ≡ true → LineMayRefuse old.records line
   pub begun : List ℕ
   pub is_cut : IsTrue (is_proper_front begun (answer memory old.records line))
   pub told : after ≡ before ++ begun
-  pub left : new ≡ record old { records = left_by memory old.records line }
+  pub left : new ≡ record old { records = left_by memory old.records line; met = new.met }
 
 -- After a failed write, one line more than the `answered` ones was carried out. Their answers were written whole,
 -- and of the answer to the last a beginning that is not all of it.

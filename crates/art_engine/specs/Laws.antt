@@ -9,6 +9,7 @@ use Rattle.art_arena.specs.tree.Tenants.{with_front}
 use Rattle.art_lines.specs.Commands.{Request, put, del, nput, ndel, Command, of_tenant}
 use Rattle.art_lines.specs.Reading.{command_of}
 use Rattle.art_bytes.specs.Keys.{is_below, conflicts}
+use Rattle.art_engine.specs.Ahead.{way_ahead}
 use Rattle.art_engine.specs.Counts.{dropping, longest}
 use Rattle.art_lines.specs.Keys.{full_key}
 use Rattle.art_engine.specs.Keys.{full_key_of, number_key_of, number_of_bytes}
@@ -162,3 +163,8 @@ DropsReadFew = (tenant : ℕ) (records : Records)
     → let n : ℕ = length (own tenant records).keys + length (own tenant records).numbers in
     let L : ℕ = max (longest full_key_of records.keys) (longest number_key_of records.numbers) in
     (min n (2 ^ 64 - 1) ≤ (dropping tenant records).least) × ((dropping tenant records).most ≤ 20 * (L + 2) + 2 * n)
+
+-- The way along which nodes are read ahead of a tenant's line is that of a full key of this tenant.
+abbrev pub WaysAreOwn : Type 0
+WaysAreOwn = (tenant : ℕ) (request : Request) (full : List ℕ)
+    → way_ahead (Some (of_tenant tenant request)) ≡ Some full → (key : List ℕ) × (full ≡ full_key tenant key)

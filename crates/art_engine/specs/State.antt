@@ -2,13 +2,14 @@
 use Rattle.std.specs.Prelude.{ℕ, List, []}
 use Rattle.art_engine.specs.Records.{Records}
 
--- the records of all tenants; how many nodes each line has read that was answered so far, in order; and how many were
--- read ahead of each
+-- The records of all tenants. How many nodes each line has read that was answered so far, in order, and how many are
+-- told as read ahead of each. What the readers counted that went ahead of lines, each time they went.
 pub record State : Type 0 where
   pub records : Records
   pub reads : List ℕ
   pub ahead : List ℕ
+  pub met : List ℕ
 
 -- nothing was read yet
 abbrev pub unread : Records → State
-unread records = record { records = records; reads = []; ahead = [] }
+unread records = record { records = records; reads = []; ahead = []; met = [] }

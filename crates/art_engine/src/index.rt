@@ -1,62 +1,38 @@
-//! An index, and what a line does to it.
-ghost use Rattle.std.specs.Prelude.{◌≡◌, ◌+◌, ◌<◌, ◌∷◌, [], ◌++◌, map, take, OnErr, IfOk, IfErr, is_err, true};
-ghost use Rattle.std.specs.Prelude.{option_map, false, Some, None, flat_map};
+//! An index. It alone holds the two maps: what it lends are readers that count, what it makes are changes. So it can be
+//! read whole what touches a map.
+ghost use Rattle.std.specs.Prelude.{◌≡◌, ◌+◌, ◌∷◌, [], ◌++◌, List, ℕ, map, OnErr, IfOk, IfErr, Some, false, flat_map};
+ghost use Rattle.art_lines.specs.Commands.{Spells};
+ghost use Rattle.art_lines.specs.Parsed.{asks_all, changes, looks_up, tenant_in_place};
 ghost use Rattle.art_lines.specs.Words.{line_of};
-ghost use Rattle.art_engine.specs.Counts.{IsWithin, line_visits, visits_of};
 ghost use Rattle.art_lines.specs.Writes.{Writes};
-ghost use Rattle.art_lines.specs.Parsed.{looks_up, command_with};
+ghost use Rattle.art_engine.specs.Ahead.{AreNext, total};
+ghost use Rattle.art_engine.specs.Changed.{IsChangeDone};
+ghost use Rattle.art_engine.specs.Counts.{IsWithin, visits_of};
+ghost use Rattle.art_engine.specs.Dropped.{IsDropDone};
+ghost use Rattle.art_engine.specs.Keys.{full_pair, number_pair};
+ghost use Rattle.art_engine.specs.Records.{AreRecords, no_records};
 ghost use Rattle.art_engine.specs.Replies.{command_reply};
+ghost use Rattle.art_engine.specs.State.{unread};
 ghost use Rattle.art_engine.specs.Stored.{all_records_of, ArePairs, AreNumberPairs};
+ghost use Rattle.art_engine.specs.Survey.{IsSurvey, survey_words};
+ghost use Rattle.art_engine.specs.Upcoming.{to_come, read_of, texts_of};
 
-use crate::change::{change, write_changed};
-use crate::drop_tenant::{drop_tenant, write_dropped};
+use crate::change::{Changed, change};
+use crate::drop_tenant::{Dropped, drop_tenant};
+use crate::handling::RunFault;
 use crate::readers::Readers;
-use crate::survey::{take_survey, write_survey};
+use crate::survey::{Survey, take_survey, write_survey};
+use crate::upcoming::{FEW, Upcoming, WayReader};
 use art_bytes::{Count, History};
 use art_lines::command::fields::{Fields, NUMBER_KEY};
-use art_lines::command::read_line;
-use art_lines::command::word::Word;
-use art_lines::reply::write_piece;
+use art_lines::command::word::{Change, LookUp, Whole};
 use art_lines::{Sink, WriteFailed};
 use art_map::TreeMap;
 use std::alloc::Global;
 use std::marker::Model;
-use thiserror::Error;
 
-/// Which end of a run failed.
-#[derive(Debug, Drop, Error)]
-pub enum RunFault {
-    /// The source failed to give bytes.
-    #[error("read failed")]
-    Read,
-    /// The sink failed to take bytes.
-    #[error("write failed")]
-    Write,
-}
-
-impl From<WriteFailed> for RunFault {
-    ghost use Rattle.art_engine.specs.declared.index.RunFault.TheVariants.{Write};
-    ghost use Rattle.std.specs.Prelude.{◌≡◌};
-
-    ghost from_gives = { λ _ fault. fault ≡ Write };
-
-    fn from(_failed: WriteFailed) -> RunFault {
-        RunFault::Write
-    }
-}
-
-/// How a line was carried out.
-#[derive(Clone, Copy, Debug)]
-pub struct Handled {
-    /// Whether the reply was `memory`.
-    pub memory: bool,
-    /// The number of nodes read by a look-up, or read and freed by a drop. It is 0 for every other line, and for one
-    /// whose reply was `memory`.
-    pub visits: u64,
-}
-
-/// The records of all tenants. For proofs alone, it also keeps how many nodes each line has read, and how many were
-/// read ahead of it.
+/// The records of all tenants. For proofs alone, it also keeps how many nodes each line has read, how many are told as
+/// read ahead of it, and what the readers counted that went ahead.
 ///
 /// ```
 /// let mut index: Index<16> = Index::new(rt.alloc());
@@ -72,6 +48,7 @@ pub struct Index<const PREFIX_LEN: usize> {
     numbers: TreeMap<[u8; NUMBER_KEY], Vec<u8>, PREFIX_LEN>,
     reads: History,
     ahead: History,
+    met: History,
 }
 
 impl<const PREFIX_LEN: usize> Model for Index<PREFIX_LEN> {
@@ -85,24 +62,13 @@ impl<const PREFIX_LEN: usize> Model for Index<PREFIX_LEN> {
       records = all_records_of s.records.pairs s.numbers.pairs;
       reads = s.reads.items;
       ahead = s.ahead.items;
+      met = s.met.items;
     } };
 
     ghost invariant = { λ s. ArePairs s.records.pairs × AreNumberPairs s.numbers.pairs };
 }
 
 impl<const PREFIX_LEN: usize> Index<PREFIX_LEN> {
-    ghost use Rattle.art_lines.specs.Commands.{put, get};
-    ghost use Rattle.art_engine.specs.Keys.{full_pair, number_pair};
-    ghost use Rattle.art_engine.specs.Records.{AreRecords, KeyFits, no_records, own};
-    ghost use Rattle.art_engine.specs.State.{unread};
-    ghost use Rattle.art_engine.specs.Replies.{own_reply};
-    ghost use Rattle.art_engine.specs.Refusals.{LineMayRefuse};
-    ghost use Rattle.art_engine.specs.Outcome.{answer, left_by};
-    ghost use Rattle.art_engine.specs.Faults.{IsCutLine};
-    ghost use Rattle.art_engine.specs.Changed.{IsPutDone};
-    ghost use Rattle.art_engine.specs.Counts.{IsShort, ReadsOwnPath};
-    ghost use Rattle.art_lines.specs.Reading.{command_of};
-
     /// Makes an index that holds nothing. It allocates nothing.
     ///
     /// ```
@@ -120,6 +86,7 @@ impl<const PREFIX_LEN: usize> Index<PREFIX_LEN> {
             numbers: TreeMap::with_prefix_len(alloc),
             reads: History::new(),
             ahead: History::new(),
+            met: History::new(),
         }
     }
 
@@ -149,6 +116,7 @@ impl<const PREFIX_LEN: usize> Index<PREFIX_LEN> {
             numbers: number_map,
             reads: History::new(),
             ahead: History::new(),
+            met: History::new(),
         }
     }
 
@@ -195,130 +163,115 @@ impl<const PREFIX_LEN: usize> Index<PREFIX_LEN> {
         &self.numbers
     }
 
-    /// Carries out one line, which is passed without its newline, and writes its whole reply.
-    ///
-    /// Returns `RunFault::Write` if the sink fails. What the line does is done then, and its reply is cut.
-    ///
-    /// ```
-    /// let mut index: Index<16> = Index::new(rt.alloc());
-    /// let mut replies = Vec::new(rt.alloc());
-    /// let done = index.handle(b"get 7 0a", &mut ToWriter::new(&mut replies))?;
-    /// assert!(rt; !done.memory);
-    /// assert_eq!(rt; replies.as_slice(), b"none\n".as_slice());
-    /// ```
-    pub fn handle<W: Sink>(&mut self, line: &[u8], sink: &mut W) -> Result<Handled, RunFault>
-        requires { W.has_failed sink.old ≡ false }
-        ensures told { IfOk result (λ done.
-            W.taken sink.new ≡ W.taken sink.old ++ answer done.memory self.old.records line.now) }
-        ensures left { IfOk result (λ done. self.new.records ≡ left_by done.memory self.old.records line.now) }
-        ensures lawful { IfOk result (λ done. done.memory ≡ true → LineMayRefuse self.old.records line.now) }
-
-        // A look-up reads so many nodes, and a drop reads and frees so many, told by the records alone; each other line
-        // reads none, nor does one that found no memory. They are counted.
-        ensures visits { IfOk result (λ done.
-            IsWithin (line_visits done.memory line.now self.old.records) done.visits) }
-        ensures short { IfOk result (λ done. IsShort (command_of line.now) done.visits) }
-        ensures own_path { IfOk result (λ done. ReadsOwnPath (command_of line.now) self.old.records done.visits) }
-        ensures counted { IfOk result (λ done. self.new.reads ≡ self.old.reads ++ done.visits ∷ []) }
-
-        // Nothing is read ahead of it.
-        ensures ahead { IfOk result (λ done. self.new.ahead ≡ self.old.ahead ++ 0 ∷ []) }
-
+    /// Answers a look-up through a reader of each map, and returns how many nodes both have read. That is counted.
+    pub(crate) fn look_up<W: Sink>(
+        &mut self,
+        word: LookUp,
+        fields: &Fields,
+        sink: &mut W,
+    ) -> Result<u64, RunFault>
+        requires open { W.has_failed sink.old ≡ false }
+        ensures told { Writes result (W.taken sink.old) (W.taken sink.new)
+            (flat_map line_of (command_reply (Some (looks_up word fields.now)) self.old.records))
+            (W.has_failed sink.new) }
         ensures err { IfErr result (λ fault. fault ≡ RunFault.Write) }
-        ensures failed { is_err result ≡ W.has_failed sink.new }
-        ensures cut { OnErr result (IsCutLine self.old line.now (W.taken sink.old) (W.taken sink.new) self.new) }
+        ensures visits { IfOk result (λ count.
+            IsWithin (visits_of (Some (looks_up word fields.now)) self.old.records) count) }
+        ensures counted { IfOk result (λ count. self.new.reads ≡ self.old.reads ++ count ∷ []) }
+        ensures uncounted { OnErr result (self.new.reads ≡ self.old.reads) }
+        ensures kept { (self.new.records ≡ self.old.records) × (self.new.ahead ≡ self.old.ahead)
+            × (self.new.met ≡ self.old.met) }
+        ensures are { AreRecords self.old.records }
     {
-        let mut fields = Fields::new();
-        let word = read_line(line, &mut fields);
-        self.carry_out(line, word, &fields, 0, sink)
+        let readers = Readers::of(&self.records, &self.numbers);
+        let visits = readers.answer(word, fields, sink)?;
+        self.count(visits);
+        Ok(visits)
     }
 
-    /// Carries out one line as `handle` does, whose word and fields were read, as were so many nodes ahead of it.
-    pub(crate) fn carry_out<W: Sink>(
-        &mut self,
-        line: &[u8],
-        word: Option<Word>,
-        fields: &Fields,
-        ahead: u64,
-        sink: &mut W,
-    ) -> Result<Handled, RunFault>
-        requires open { W.has_failed sink.old ≡ false }
-        requires read { option_map (λ word. command_with word fields.now) word ≡ command_of line.now }
-        ensures told { IfOk result (λ done.
-            W.taken sink.new ≡ W.taken sink.old ++ answer done.memory self.old.records line.now) }
-        ensures left { IfOk result (λ done. self.new.records ≡ left_by done.memory self.old.records line.now) }
-        ensures lawful { IfOk result (λ done. done.memory ≡ true → LineMayRefuse self.old.records line.now) }
-        ensures visits { IfOk result (λ done.
-            IsWithin (line_visits done.memory line.now self.old.records) done.visits) }
-        ensures short { IfOk result (λ done. IsShort (command_of line.now) done.visits) }
-        ensures own_path { IfOk result (λ done. ReadsOwnPath (command_of line.now) self.old.records done.visits) }
-        ensures counted { IfOk result (λ done. self.new.reads ≡ self.old.reads ++ done.visits ∷ []) }
-        ensures ahead { IfOk result (λ done. self.new.ahead ≡ self.old.ahead ++ ahead ∷ []) }
-        ensures err { IfErr result (λ fault. fault ≡ RunFault.Write) }
-        ensures failed { is_err result ≡ W.has_failed sink.new }
-        ensures cut { OnErr result (IsCutLine self.old line.now (W.taken sink.old) (W.taken sink.new) self.new) }
+    /// Counts what a line has read.
+    pub(crate) fn count(&mut self, visits: u64)
+        ensures counted { self.new.reads ≡ self.old.reads ++ visits ∷ [] }
+        ensures kept { (self.new.records ≡ self.old.records) × (self.new.ahead ≡ self.old.ahead)
+            × (self.new.met ≡ self.old.met) }
     {
-        let handled = self.answer(line, word, fields, sink)?;
-        self.reads = self.reads.then_count(&Count {
-            number: handled.visits,
-        });
+        self.reads = self.reads.then_count(&Count { number: visits });
+    }
+
+    /// Tells how many nodes were read ahead of a line.
+    pub(crate) fn tell_ahead(&mut self, ahead: u64)
+        ensures told { self.new.ahead ≡ self.old.ahead ++ ahead ∷ [] }
+        ensures kept { (self.new.records ≡ self.old.records) × (self.new.reads ≡ self.old.reads)
+            × (self.new.met ≡ self.old.met) }
+    {
         self.ahead = self.ahead.then_count(&Count { number: ahead });
-        Ok(handled)
     }
 
-    // Carries out a line as `carry_out` does, and doesn't count what was read.
-    fn answer<W: Sink>(
-        &mut self,
-        _line: &[u8],
-        word: Option<Word>,
-        fields: &Fields,
-        sink: &mut W,
-    ) -> Result<Handled, RunFault>
-        requires open { W.has_failed sink.old ≡ false }
-        requires read { option_map (λ word. command_with word fields.now) word ≡ command_of _line.now }
-        ensures told { IfOk result (λ done.
-            W.taken sink.new ≡ W.taken sink.old ++ answer done.memory self.old.records _line.now) }
-        ensures left { IfOk result (λ done. self.new.records ≡ left_by done.memory self.old.records _line.now) }
-        ensures lawful { IfOk result (λ done. done.memory ≡ true → LineMayRefuse self.old.records _line.now) }
-        ensures visits { IfOk result (λ done.
-            IsWithin (line_visits done.memory _line.now self.old.records) done.visits) }
-        ensures short { IfOk result (λ done. IsShort (command_of _line.now) done.visits) }
-        ensures own_path { IfOk result (λ done. ReadsOwnPath (command_of _line.now) self.old.records done.visits) }
-        ensures uncounted { (self.new.reads ≡ self.old.reads) × (self.new.ahead ≡ self.old.ahead) }
-        ensures err { IfErr result (λ fault. fault ≡ RunFault.Write) }
-        ensures failed { is_err result ≡ W.has_failed sink.new }
-        ensures cut { OnErr result (IsCutLine self.old _line.now (W.taken sink.old) (W.taken sink.new) self.new) }
+    /// Has the next lines of a text read ahead, through a reader of each map, if those that were read before their turn
+    /// are used up and where it may pay. What each reader has counted is kept.
+    #[inline]
+    pub(crate) fn read_ahead(&mut self, upcoming: &mut Upcoming, text: &[u8])
+        requires comes { AreNext (texts_of (to_come upcoming.old)) text.now }
+        ensures comes { AreNext (texts_of (to_come upcoming.new)) text.now }
+        ensures counted { total self.new.met + read_of (to_come upcoming.old)
+            ≡ total self.old.met + read_of (to_come upcoming.new) }
+        ensures kept { (self.new.records ≡ self.old.records) × (self.new.reads ≡ self.old.reads)
+            × (self.new.ahead ≡ self.old.ahead) }
     {
-        let (mut memory, mut visits) = (false, 0);
-        match word {
-            Some(Word::LookUp(word)) => {
-                let readers = Readers::of(&self.records, &self.numbers);
-                visits = readers.answer(word, fields, sink)?;
-            }
-            Some(Word::Change(word)) => {
-                let done = change(
-                    self.alloc,
-                    &mut self.records,
-                    &mut self.numbers,
-                    word,
-                    fields,
-                );
-                memory = done.is_memory();
-                write_changed(sink, &done)?;
-            }
-            Some(Word::Drop) => {
-                let dropped = drop_tenant(&mut self.records, &mut self.numbers, fields);
-                memory = dropped.is_memory();
-                visits = dropped.visits();
-                write_dropped(sink, dropped)?;
-            }
-            Some(Word::Whole(word)) => {
-                let found = take_survey(&self.records, &self.numbers, word);
-                memory = found.is_memory();
-                write_survey(&self.records, &self.numbers, found, sink)?;
-            }
-            None => write_piece(sink, b"bad\n")?,
+        if upcoming.wants(self.records.len().max(self.numbers.len())) {
+            let mut keys = WayReader::new(&self.records);
+            let mut numbers = WayReader::new(&self.numbers);
+            upcoming.read_maps(&mut keys, &mut numbers, FEW, text);
+            let of_keys = Count { number: keys.end() };
+            let of_numbers = Count {
+                number: numbers.end(),
+            };
+            self.met = self.met.then_count(&of_keys).then_count(&of_numbers);
         }
-        Ok(Handled { memory, visits })
+    }
+
+    /// Makes a change, and returns how it went. If it was out of memory, nothing is changed.
+    pub(crate) fn change(&mut self, word: Change, fields: &Fields) -> Changed
+        requires spelled { (line : List ℕ) × Spells line (changes word fields.now) }
+        ensures done { IsChangeDone result (changes word fields.now) self.old.records self.new.records }
+        ensures kept { (self.new.reads ≡ self.old.reads) × (self.new.ahead ≡ self.old.ahead)
+            × (self.new.met ≡ self.old.met) }
+    {
+        change(
+            self.alloc,
+            &mut self.records,
+            &mut self.numbers,
+            word,
+            fields,
+        )
+    }
+
+    /// Removes all records of the tenant that was read. If it is out of memory, nothing is changed.
+    pub(crate) fn drop_tenant(&mut self, fields: &Fields) -> Dropped
+        ensures done { IsDropDone result (tenant_in_place fields.now) self.old.records self.new.records }
+        ensures kept { (self.new.reads ≡ self.old.reads) × (self.new.ahead ≡ self.old.ahead)
+            × (self.new.met ≡ self.old.met) }
+    {
+        drop_tenant(&mut self.records, &mut self.numbers, fields)
+    }
+
+    /// Finds what is to be told of all records.
+    pub(crate) fn survey(&self, word: Whole) -> Survey
+        ensures { IsSurvey result (asks_all word) self.now.records }
+    {
+        take_survey(&self.records, &self.numbers, word)
+    }
+
+    /// Writes what is told of all records.
+    pub(crate) fn write_survey<W: Sink>(
+        &self,
+        found: Survey,
+        sink: &mut W,
+    ) -> Result<(), WriteFailed>
+        requires { W.has_failed sink.old ≡ false }
+        ensures { Writes result (W.taken sink.old) (W.taken sink.new)
+            (flat_map line_of (survey_words found self.now.records)) (W.has_failed sink.new) }
+    {
+        write_survey(&self.records, &self.numbers, found, sink)
     }
 }

@@ -3,7 +3,7 @@ ghost use Rattle.art_engine.specs.Laws.{OwnReadsBack, OthersAreUntouched, OwnIsI
 ghost use Rattle.art_engine.specs.Laws.{RequestsLeaveOthers, TenantsStandAlone, DeletionsGoByOwnKeys};
 ghost use Rattle.art_engine.specs.Laws.{DeletionsGoByOwnNumbers, DropsReadFew, DumpsTellRecords, DumpsAreReadBack};
 ghost use Rattle.art_engine.specs.Laws.{FullKeysKeepOrder, FullKeysKeepConflicts, OwnIsBehindFront};
-ghost use Rattle.art_engine.specs.Laws.{PutsAreUndone, NumberPutsAreUndone};
+ghost use Rattle.art_engine.specs.Laws.{PutsAreUndone, NumberPutsAreUndone, WaysAreOwn};
 
 /// What is put in place for a tenant is what it holds then.
 #[tactic(auto, using(crate::proofs::OwnLaws::own_reads_back))]
@@ -92,4 +92,11 @@ pub fn dumps_are_read_back()
 /// each byte of the longest full key and for two.
 pub fn drops_read_few()
     ensures { DropsReadFew }
+{}
+
+/// What is read ahead of a tenant's line lies on the way of a full key of this tenant: that of the key, the number, the
+/// prefix or the lower bound that the line has.
+#[tactic(auto, using(crate::proofs::OwnWays::ways_are_own))]
+pub fn ways_are_own()
+    ensures { WaysAreOwn }
 {}

@@ -11,6 +11,7 @@ mod audit;
 mod change;
 mod drop_tenant;
 mod dump;
+mod handling;
 mod index;
 pub mod laws;
 mod listing;
@@ -23,7 +24,8 @@ mod survey;
 mod together;
 pub mod upcoming;
 
-pub use index::{Handled, Index, RunFault};
+pub use handling::{Handled, RunFault};
+pub use index::Index;
 pub use lookup::look;
 pub use maps::are_records;
 pub use running::{flushed, run};

@@ -12,7 +12,7 @@ ghost use Rattle.art_engine.specs.Stored.{Pair, NumberPair, all_records_of};
 
 mod record;
 
-use crate::index::RunFault;
+use crate::handling::RunFault;
 use crate::listing::{write_list, write_number_span, write_span};
 use art_lines::command::fields::{Fields, NUMBER_KEY};
 use art_lines::command::word::LookUp;
@@ -66,7 +66,7 @@ pub fn look<W: Sink, const PREFIX_LEN: usize>(
 }
 
 /// Answers a look-up as `look` does, and returns the sink's own fault.
-pub(crate) fn look_up<W: Sink, const PREFIX_LEN: usize>(
+fn look_up<W: Sink, const PREFIX_LEN: usize>(
     bytes: &mut MapReader<'_, Vec<u8>, Vec<u8>, PREFIX_LEN>,
     numbers: &mut MapReader<'_, [u8; NUMBER_KEY], Vec<u8>, PREFIX_LEN>,
     word: LookUp,

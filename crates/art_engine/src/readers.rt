@@ -1,5 +1,5 @@
 //! What a look-up is given: a reader of each map, and no map.
-ghost use Rattle.std.specs.Prelude.{◌≡◌, List, Some, false, flat_map, IfOk};
+ghost use Rattle.std.specs.Prelude.{◌≡◌, List, Some, false, flat_map, IfErr, IfOk};
 ghost use Rattle.art_lines.specs.Words.{line_of};
 ghost use Rattle.art_engine.specs.Counts.{visits_of, IsWithin};
 ghost use Rattle.art_lines.specs.Writes.{Writes};
@@ -8,10 +8,11 @@ ghost use Rattle.art_engine.specs.Replies.{command_reply};
 ghost use Rattle.art_engine.specs.Spans.{ReadsRecords, ReadsNumbers};
 ghost use Rattle.art_engine.specs.Stored.{Pair, NumberPair, all_records_of, ArePairs, AreNumberPairs};
 
-use crate::lookup::look_up;
+use crate::handling::RunFault;
+use crate::lookup::look;
+use art_lines::Sink;
 use art_lines::command::fields::{Fields, NUMBER_KEY};
 use art_lines::command::word::LookUp;
-use art_lines::{Sink, WriteFailed};
 use art_map::TreeMap;
 use art_walks::MapReader;
 
@@ -47,7 +48,7 @@ impl<'a, const PREFIX_LEN: usize> Readers<'a, PREFIX_LEN> {
         word: LookUp,
         fields: &Fields,
         sink: &mut W,
-    ) -> Result<u64, WriteFailed>
+    ) -> Result<u64, RunFault>
         requires open { W.has_failed sink.old ≡ false }
         requires bytes { (ps : List Pair) × ReadsRecords PREFIX_LEN self.bytes ps }
         requires numbers { (ns : List NumberPair) × ReadsNumbers PREFIX_LEN self.numbers ns }
@@ -56,6 +57,7 @@ impl<'a, const PREFIX_LEN: usize> Readers<'a, PREFIX_LEN> {
             → ReadsNumbers PREFIX_LEN self.entry.numbers ns → Writes result (W.taken sink.old) (W.taken sink.new)
             (flat_map line_of (command_reply (Some (looks_up word fields.now)) (all_records_of ps ns)))
             (W.has_failed sink.new) }
+        ensures err { IfErr result (λ fault. fault ≡ RunFault.Write) }
         ensures visits { (ps : List Pair) (ns : List NumberPair) → ReadsRecords PREFIX_LEN self.entry.bytes ps
             → ReadsNumbers PREFIX_LEN self.entry.numbers ns → IfOk result (λ count. IsWithin
             (visits_of (Some (looks_up word fields.now)) (all_records_of ps ns)) count) }
@@ -64,7 +66,7 @@ impl<'a, const PREFIX_LEN: usize> Readers<'a, PREFIX_LEN> {
             mut bytes,
             mut numbers,
         } = self;
-        look_up(&mut bytes, &mut numbers, word, fields, sink)?;
+        look(&mut bytes, &mut numbers, word, fields, sink)?;
         Ok(bytes.visits().saturating_add(numbers.visits()))
     }
 }

@@ -1,17 +1,21 @@
 //! From a source to a sink.
-ghost use Rattle.std.specs.Prelude.{◌≡◌, ℕ, ◌<◌, ◌++◌, ◌∷◌, ◌↔◌, [], List, take, OnOk, OnErr, IfErr, is_err};
-ghost use Rattle.std.specs.Prelude.{true, false, Err};
+ghost use Rattle.std.specs.Prelude.{◌≡◌, ℕ, ◌<◌, ◌++◌, ◌∷◌, ◌↔◌, ◌⊎◌, [], List, take, OnOk, OnErr, IfErr, is_err};
+ghost use Rattle.std.specs.Prelude.{true, false, suc, Err};
+ghost use Rattle.art_lines.specs.Ends.{calls_to_flush, has_write_failed};
 ghost use Rattle.art_lines.specs.Lines.{lines_of, whole_lines_of, lines_so_far};
 ghost use Rattle.art_engine.specs.State.{State};
+ghost use Rattle.art_engine.specs.Ahead.{AreNext, IsAllTold, Tells};
+ghost use Rattle.art_engine.specs.Upcoming.{to_come, read_of, texts_of};
 ghost use Rattle.art_engine.specs.Outcome.{IsOutcome};
 ghost use Rattle.art_engine.specs.Faults.{AfterWriteFault};
 ghost use Rattle.art_engine.specs.Progress.{Carried, IsCutRun, NoNewline};
 
-use crate::index::{Index, RunFault};
+use crate::handling::RunFault;
+use crate::index::Index;
 use crate::piece::PieceRoom;
 use crate::upcoming::Upcoming;
 use arrayvec::ArrayVec;
-use art_lines::{Sink, Source};
+use art_lines::{Sink, Source, ToWriter};
 use memchr::memchr;
 use std::io::Write;
 
@@ -45,6 +49,9 @@ pub fn run<S: Source, W: Sink, const PREFIX_LEN: usize>(
         × (W.taken sink.new ≡ W.taken sink.old ++ written)
         × IsOutcome index.old (lines_of text) written index.new) }
 
+    // All that the readers counted that went ahead of lines is told of these lines, and nothing else is.
+    ensures ahead { OnOk result (IsAllTold index.old index.new) }
+
     // A fault is that of the end that failed.
     ensures read { (result ≡ Err RunFault.Read) ↔ (S.has_failed source.new ≡ true) }
     ensures write { (result ≡ Err RunFault.Write) ↔ (W.has_failed sink.new ≡ true) }
@@ -54,6 +61,7 @@ pub fn run<S: Source, W: Sink, const PREFIX_LEN: usize>(
         × (S.given source.new ≡ S.given source.old ++ text)
         × (W.taken sink.new ≡ W.taken sink.old ++ written)
         × IsOutcome index.old (whole_lines_of text) written index.new }
+    ensures ahead_of_read_fault { result ≡ Err RunFault.Read → IsAllTold index.old index.new }
 
     // After a failed write, one line more is carried out than is answered whole. Of its answer a beginning is written.
     ensures after_write_fault { result ≡ Err RunFault.Write → (text written : List ℕ)
@@ -80,7 +88,8 @@ pub fn run<S: Source, W: Sink, const PREFIX_LEN: usize>(
         return Ok(());
     }
     let line = held.as_slice();
-    let asked = upcoming.read_now(line);
+    upcoming.read_now(line);
+    let asked = upcoming.asked();
     index.carry_out(line, asked.word, asked.fields, 0, sink)?;
     Ok(())
 }
@@ -94,10 +103,13 @@ fn feed<W: Sink, const PREFIX_LEN: usize>(
     piece: &[u8],
     sink: &mut W,
 ) -> Result<(), RunFault>
-    requires { W.has_failed sink.old ≡ false }
+    requires open { W.has_failed sink.old ≡ false }
+    requires used_up { to_come upcoming.old ≡ [] }
     ensures carried { OnOk result ((start : State) (text before : List ℕ)
         → Carried start index.old text held.old.items before (W.taken sink.old)
         → Carried start index.new (text ++ piece.now) held.new.items before (W.taken sink.new)) }
+    ensures used_up { OnOk result (to_come upcoming.new ≡ []) }
+    ensures told { OnOk result (Tells index.old 0 index.new 0) }
     ensures cut { OnErr result ((start : State) (text before : List ℕ)
         → Carried start index.old text held.old.items before (W.taken sink.old)
         → IsCutRun start index.new (whole_lines_of (text ++ piece.now)) before (W.taken sink.new)) }
@@ -122,11 +134,19 @@ fn finish<W: Sink, const PREFIX_LEN: usize>(
     part: &[u8],
     sink: &mut W,
 ) -> Result<(), RunFault>
-    requires { W.has_failed sink.old ≡ false }
+    requires open { W.has_failed sink.old ≡ false }
+    requires part { NoNewline part.now × ((behind : List ℕ) × (rest.now ≡ (part.now ++ 10 ∷ []) ++ behind)) }
+    requires comes { AreNext (texts_of (to_come upcoming.old)) rest.now }
+    requires cut { (held.old.items ≡ []) ⊎ (to_come upcoming.old ≡ []) }
     ensures carried { OnOk result ((start : State) (text before : List ℕ)
         → NoNewline part.now
         → Carried start index.old text held.old.items before (W.taken sink.old)
         → Carried start index.new (text ++ part.now ++ 10 ∷ []) held.new.items before (W.taken sink.new)) }
+    ensures emptied { OnOk result (held.new.items ≡ []) }
+    ensures comes { OnOk result ((behind : List ℕ) → rest.now ≡ (part.now ++ 10 ∷ []) ++ behind
+        → AreNext (texts_of (to_come upcoming.new)) behind) }
+    ensures told { OnOk result
+        (Tells index.old (read_of (to_come upcoming.old)) index.new (read_of (to_come upcoming.new))) }
     ensures cut { OnErr result ((start : State) (text before : List ℕ)
         → NoNewline part.now
         → Carried start index.old text held.old.items before (W.taken sink.old)
@@ -135,13 +155,16 @@ fn finish<W: Sink, const PREFIX_LEN: usize>(
     ensures failed { is_err result ≡ W.has_failed sink.new }
 {
     if held.is_empty() {
-        let asked = upcoming.next(index.byte_map(), index.number_map(), rest, part);
+        index.read_ahead(upcoming, rest);
+        upcoming.next(part);
+        let asked = upcoming.asked();
         index.carry_out(part, asked.word, asked.fields, asked.ahead, sink)?;
         return Ok(());
     }
     hold(held, part);
     let line = held.as_slice();
-    let asked = upcoming.read_now(line);
+    upcoming.read_now(line);
+    let asked = upcoming.asked();
     index.carry_out(line, asked.word, asked.fields, 0, sink)?;
     held.clear();
     Ok(())
@@ -155,19 +178,24 @@ fn hold(held: &mut ArrayVec<u8, HELD>, part: &[u8])
     let _ = held.try_extend_from_slice(&part[..room]);
 }
 
-/// Flushes a writer if all went well, and returns how it went then.
+/// Flushes a writer once if all went well, and returns how it went then.
 ///
 /// ```
-/// assert!(rt; flushed(Ok(()), &mut rt.stdout()).is_ok());
-/// assert!(rt; flushed(Err(RunFault::Read), &mut rt.stdout()).is_err());
+/// let mut writer = ToWriter::new(rt.stdout());
+/// assert!(rt; flushed(Ok(()), &mut writer).is_ok());
+/// assert!(rt; flushed(Err(RunFault::Read), &mut writer).is_err());
 /// ```
-pub fn flushed<W: Write>(done: Result<(), RunFault>, writer: &mut W) -> Result<(), RunFault>
+pub fn flushed<W: Write>(
+    done: Result<(), RunFault>,
+    writer: &mut ToWriter<W>,
+) -> Result<(), RunFault>
     ensures kept { IfErr done (λ fault. result ≡ Err fault) }
     ensures write { OnOk done (IfErr result (λ fault. fault ≡ RunFault.Write)) }
+    ensures exact { OnOk done (is_err result ≡ has_write_failed writer.new) }
+    ensures flushes { OnOk done (has_write_failed writer.old ≡ false
+        → calls_to_flush writer.new ≡ suc (calls_to_flush writer.old)) }
 {
     done?;
-    match writer.flush() {
-        Ok(()) => Ok(()),
-        Err(_) => Err(RunFault::Write),
-    }
+    writer.flush()?;
+    Ok(())
 }

@@ -5,29 +5,27 @@
 //!
 //! A line's way goes along its full key and no further, and each node is counted. No answer rests on what is read: if a
 //! line between changes a tree, the way of one after it may have been of no use.
-ghost use Rattle.std.specs.Prelude.{◌≡◌, ◌≤◌, ◌+◌, ◌-◌, ◌^◌, ℕ, IfSome, Some, drop, length, min, option_map};
-ghost use Rattle.std.specs.Prelude.{slice_get, take};
+ghost use Rattle.std.specs.Prelude.{◌≡◌, ◌≤◌, ◌<◌, ◌+◌, [], IfSome, IsTrue, drop, length, option_map, take, ◌++◌, map};
 ghost use Rattle.std.specs.List.{sum_by};
 ghost use Rattle.art_arena.specs.arena.Visited.{count_of};
+ghost use Rattle.art_lines.specs.Lines.{whole_lines_of};
 ghost use Rattle.art_lines.specs.Parsed.{command_with};
 ghost use Rattle.art_lines.specs.Reading.{command_of};
-ghost use Rattle.art_engine.specs.Ahead.{GrewAlike, most_ahead, told_at};
-ghost use Rattle.art_engine.specs.Counts.{GrewBy};
+ghost use Rattle.art_engine.specs.Ahead.{AreNext, IsNextLine, most_ahead};
+ghost use Rattle.art_engine.specs.Upcoming.{ahead_now, fields_now, to_come, read_of, texts_of, word_now};
 
-mod door;
 mod line;
+mod way_reader;
 
-use art_arena::NodeArena;
 use art_bytes::AsBytes;
 use art_lines::command::fields::{Fields, NUMBER_KEY};
 use art_lines::command::read_line;
 use art_lines::command::word::Word;
-use art_map::TreeMap;
 use art_nodes::{LeafNode, OpaqueNodePtr};
-use door::Door;
 use line::{KEY, Line, SHORT};
 use memchr::memchr;
 use std::alloc::Global;
+pub use way_reader::WayReader;
 
 /// How many lines are read ahead together, at most.
 pub const LINES: usize = 16;
@@ -104,19 +102,19 @@ impl Seen {
 /// that a way ends at is kept at the line's place.
 fn go_on<'a, K, const PREFIX_LEN: usize>(
     lines: &mut [Line],
-    door: &mut Door<'a, K, PREFIX_LEN>,
+    reader: &mut WayReader<'a, K, PREFIX_LEN>,
     of_number: bool,
     leaves: &mut [Option<&'a LeafNode<K, Vec<u8>>>; LINES],
 ) -> bool
-    ensures counted { GrewAlike (sum_by (λ line. line.read) lines.old) (sum_by (λ line. line.read) lines.new)
-        (count_of door.old.reader) (count_of door.new.reader) }
+    ensures counted { read_of lines.new + count_of reader.old.reader ≡ read_of lines.old + count_of reader.new.reader }
+    ensures texts { texts_of lines.new ≡ texts_of lines.old }
     ensures long { length lines.new ≡ length lines.old }
 {
     let mut goes_on = false;
     'lines: for at in 0..lines.len().min(LINES) {
         if lines[at].goes_on(of_number) {
             goes_on = true;
-            if let Some(reached) = lines[at].step(door) {
+            if let Some(reached) = lines[at].step(reader) {
                 leaves[at] = Some(reached);
             }
         }
@@ -124,52 +122,52 @@ fn go_on<'a, K, const PREFIX_LEN: usize>(
     goes_on
 }
 
-/// Goes the ways of some lines down one map, a step of each in turn, and reads the leaves that they end at. Returns how
-/// many nodes were read.
+/// Goes the ways of some lines down one map, a step of each in turn, and reads the leaves that they end at.
 fn go_ways<K: AsBytes, const PREFIX_LEN: usize>(
     lines: &mut [Line],
-    arena: &NodeArena<K, Vec<u8>, PREFIX_LEN>,
+    reader: &mut WayReader<'_, K, PREFIX_LEN>,
     of_number: bool,
     seen: &mut Seen,
-) -> u64
-    ensures counted { GrewAlike (sum_by (λ line. line.read) lines.old) (sum_by (λ line. line.read) lines.new)
-        0 result }
+)
+    ensures counted { read_of lines.new + count_of reader.old.reader ≡ read_of lines.old + count_of reader.new.reader }
+    ensures texts { texts_of lines.new ≡ texts_of lines.old }
     ensures long { length lines.new ≡ length lines.old }
 {
-    let mut door = Door::new(arena);
     let mut leaves = [None; LINES];
     'steps: for _ in 0..KEY + 1 {
-        if !go_on(lines, &mut door, of_number, &mut leaves) {
+        if !go_on(lines, reader, of_number, &mut leaves) {
             break;
         }
     }
     seen.read(&leaves);
-    door.end()
 }
 
-/// Goes the ways of the first lines down both maps, and returns how many nodes were read.
+/// Goes the ways of the first lines down both maps.
 fn go_all<const PREFIX_LEN: usize>(
     lines: &mut [Line],
     len: usize,
-    keys: &NodeArena<Vec<u8>, Vec<u8>, PREFIX_LEN>,
-    values: &NodeArena<[u8; NUMBER_KEY], Vec<u8>, PREFIX_LEN>,
+    keys: &mut WayReader<'_, Vec<u8>, PREFIX_LEN>,
+    numbers: &mut WayReader<'_, [u8; NUMBER_KEY], PREFIX_LEN>,
     seen: &mut Seen,
-) -> u64
+)
     requires { len ≤ length lines.old }
-    ensures { GrewAlike (sum_by (λ line. line.read) (take len lines.old))
-        (sum_by (λ line. line.read) (take len lines.new)) 0 result }
+    ensures counted { read_of (take len lines.new) + count_of keys.old.reader + count_of numbers.old.reader
+        ≡ read_of (take len lines.old) + count_of keys.new.reader + count_of numbers.new.reader }
+    ensures texts { texts_of (take len lines.new) ≡ texts_of (take len lines.old) }
+    ensures long { length lines.new ≡ length lines.old }
 {
     let first = &mut lines[..len];
-    let of_keys = go_ways(first, keys, false, seen);
-    let of_numbers = go_ways(first, values, true, seen);
-    of_keys.saturating_add(of_numbers)
+    go_ways(first, keys, false, seen);
+    go_ways(first, numbers, true, seen);
 }
 
 /// Reads lines at the front of a text, as many as there are places and up to one that is not whole or not short. It
 /// returns how many.
 fn read_lines(lines: &mut [Line], roots: &Roots, text: &[u8]) -> usize
     ensures within { result ≤ length lines.new }
-    ensures none { sum_by (λ line. line.read) (take result lines.new) ≡ 0 }
+    ensures long { length lines.new ≡ length lines.old }
+    ensures none { read_of (take result lines.new) ≡ 0 }
+    ensures next { AreNext (texts_of (take result lines.new)) text.now }
 {
     let (mut len, mut rest) = (0, text);
     'lines: while len < lines.len() {
@@ -195,144 +193,152 @@ pub struct Upcoming {
     len: usize,
     at: usize,
     pause: usize,
-    nodes: u64,
     leaves: usize,
     seen: u8,
+    turn: Option<usize>,
+    word: Option<Word>,
     fields: Fields,
 }
 
 impl Upcoming {
     /// No lines, at first. It allocates nothing.
-    pub fn new(alloc: Global) -> Self {
+    ///
+    /// ```
+    /// use art_engine::upcoming::Upcoming;
+    /// assert_eq!(rt; Upcoming::new(rt.alloc()).leaves(), 0);
+    /// ```
+    pub fn new(alloc: Global) -> Self
+        ensures { to_come result ≡ [] }
+    {
         Upcoming {
             alloc,
             lines: Vec::new(alloc),
             len: 0,
             at: 0,
             pause: 0,
-            nodes: 0,
             leaves: 0,
             seen: 0,
+            turn: None,
+            word: None,
             fields: Fields::new(),
         }
     }
 
-    /// Returns what the next line asks for, with which the text begins. If those that were read before their turn are
-    /// used up, the next ones are.
+    /// The next line comes. If some were read before their turn and are still to come, it has to be their first.
+    ///
+    /// What was read ahead of it goes to no other line: `asked` tells it, and what is left is that of those behind it.
+    ///
+    /// ```
+    /// use art_engine::upcoming::Upcoming;
+    /// let mut upcoming = Upcoming::new(rt.alloc());
+    /// upcoming.next(b"get 7 0a");
+    /// assert_eq!(rt; upcoming.asked().ahead, 0);
+    /// ```
     #[inline]
-    pub fn next<const PREFIX_LEN: usize>(
-        &mut self,
-        records: &TreeMap<Vec<u8>, Vec<u8>, PREFIX_LEN>,
-        numbers: &TreeMap<[u8; NUMBER_KEY], Vec<u8>, PREFIX_LEN>,
-        text: &[u8],
-        line: &[u8],
-    ) -> Asked<'_>
-        ensures read { option_map (λ word. command_with word result.fields.now) result.word ≡ command_of line.now }
-        ensures few { result.ahead ≤ most_ahead (command_of line.now) }
+    pub fn next(&mut self, line: &[u8])
+        requires comes { IsNextLine line.now (texts_of (to_come self.old)) }
+        ensures read { option_map (λ word. command_with word (fields_now self.new)) (word_now self.new)
+            ≡ command_of line.now }
+        ensures few { ahead_now self.new ≤ most_ahead (command_of line.now) }
+        ensures told { ahead_now self.new + read_of (to_come self.new) ≡ read_of (to_come self.old) }
+        ensures behind { texts_of (to_come self.new) ≡ drop 1 (texts_of (to_come self.old)) }
     {
-        match self.turn(records, numbers, text, line) {
-            Some(at) => {
-                let this = &*self;
-                this.lines[at].asked()
-            }
-            None => self.read_now(line),
+        let at = self.at;
+        if at < self.len && at < self.lines.len() {
+            self.lines[at].is_read();
+            self.at = at + 1;
+            self.turn = Some(at);
+            return;
         }
+        self.read_now(line);
     }
 
-    /// Returns what a line asks for that is read in its turn.
+    /// A line comes that is read in its turn.
     #[inline]
-    pub(crate) fn read_now(&mut self, line: &[u8]) -> Asked<'_>
-        ensures read { option_map (λ word. command_with word result.fields.now) result.word ≡ command_of line.now }
-        ensures ahead { result.ahead ≡ 0 }
+    pub(crate) fn read_now(&mut self, line: &[u8])
+        ensures read { option_map (λ word. command_with word (fields_now self.new)) (word_now self.new)
+            ≡ command_of line.now }
+        ensures ahead { ahead_now self.new ≡ 0 }
+        ensures kept { to_come self.new ≡ to_come self.old }
     {
-        let word = read_line(line, &mut self.fields);
-        let this = &*self;
+        self.turn = None;
+        self.word = read_line(line, &mut self.fields);
+    }
+
+    /// Returns what the line asks for that came last.
+    ///
+    /// ```
+    /// use art_engine::upcoming::Upcoming;
+    /// let mut upcoming = Upcoming::new(rt.alloc());
+    /// upcoming.next(b"lost");
+    /// assert!(rt; upcoming.asked().word.is_none());
+    /// ```
+    #[inline]
+    pub fn asked(&self) -> Asked<'_>
+        ensures word { result.word ≡ word_now self.now }
+        ensures fields { result.fields.now ≡ fields_now self.now }
+        ensures ahead { result.ahead ≡ ahead_now self.now }
+    {
+        if let Some(at) = self.turn {
+            if let Some(line) = self.lines.get(at) {
+                return line.asked();
+            }
+        }
         Asked {
-            word,
-            fields: &this.fields,
+            word: self.word,
+            fields: &self.fields,
             ahead: 0,
         }
     }
 
-    /// Reads the next lines of the text, if those that were read before their turn are used up, and where it may pay.
+    /// Whether the next lines are to be read now, where the larger of both maps has so many records: those that were
+    /// read before their turn are used up, and it may pay.
     #[inline]
-    fn refill<const PREFIX_LEN: usize>(
-        &mut self,
-        records: &TreeMap<Vec<u8>, Vec<u8>, PREFIX_LEN>,
-        numbers: &TreeMap<[u8; NUMBER_KEY], Vec<u8>, PREFIX_LEN>,
-        text: &[u8],
-    )
-        ensures counted { GrewAlike
-            (sum_by (λ line. line.read) (drop self.old.at (take self.old.len self.old.lines.items)))
-            (sum_by (λ line. line.read) (drop self.new.at (take self.new.len self.new.lines.items)))
-            self.old.nodes self.new.nodes }
+    pub(crate) fn wants(&mut self, records: usize) -> bool
+        ensures used_up { IsTrue result → to_come self.old ≡ [] }
+        ensures kept { to_come self.new ≡ to_come self.old }
     {
         if self.at < self.len {
-            return;
+            return false;
         }
         if let Some(pause) = self.pause.checked_sub(1) {
             self.pause = pause;
-            return;
+            return false;
         }
-        if records.len() < FEW && numbers.len() < FEW {
-            return;
-        }
-        self.read_maps(records, numbers, FEW, text);
-    }
-
-    /// Goes on by one of the lines that were read before their turn, and returns its place if it is this line. If they
-    /// are used up, the next ones are read. What is counted ahead of a line goes to no other: what it has and what
-    /// those behind it have was left before, or was read now.
-    #[inline]
-    fn turn<const PREFIX_LEN: usize>(
-        &mut self,
-        records: &TreeMap<Vec<u8>, Vec<u8>, PREFIX_LEN>,
-        numbers: &TreeMap<[u8; NUMBER_KEY], Vec<u8>, PREFIX_LEN>,
-        text: &[u8],
-        line: &[u8],
-    ) -> Option<usize>
-        ensures is { IfSome result
-            (λ at. option_map (λ read. read.text.items) (slice_get self.new.lines.items at) ≡ Some line.now) }
-        ensures once { (n : ℕ) × GrewBy n self.old.nodes self.new.nodes
-            × (told_at (λ read. read.read) self.new.lines.items result
-            + sum_by (λ line. line.read) (drop self.new.at (take self.new.len self.new.lines.items))
-            ≤ sum_by (λ line. line.read) (drop self.old.at (take self.old.len self.old.lines.items)) + n) }
-    {
-        self.refill(records, numbers, text);
-        let at = self.at;
-        if at >= self.len {
-            return None;
-        }
-        self.at = at + 1;
-        match self.lines.get(at) {
-            Some(read) if read.is(line) => Some(at),
-            _ => None,
-        }
+        records >= FEW
     }
 
     /// Reads the next lines of the text, 16 at most and up to one that is not whole or longer than 256 bytes. Goes the
     /// ways of these lines down the maps that have as many records as `few`, or more. If they are fewer than four
-    /// lines, no way is gone.
+    /// lines, no way is gone. Each node that it reads is counted by the reader of its map, and told of the one line on
+    /// whose way it lies.
+    ///
+    /// ```
+    /// use art_engine::upcoming::{Upcoming, WayReader};
+    /// let mut keys: TreeMap<Vec<u8>, Vec<u8>, 16> = TreeMap::new(rt.alloc());
+    /// keys.try_insert(b"\0\0\0\x07\x0a".to_vec(rt.alloc())?, b"hi".to_vec(rt.alloc())?)?;
+    /// let numbers = TreeMap::new(rt.alloc());
+    /// let (mut keys, mut numbers) = (WayReader::new(&keys), WayReader::new(&numbers));
+    /// let mut upcoming = Upcoming::new(rt.alloc());
+    /// upcoming.read_maps(&mut keys, &mut numbers, 0, b"get 7 0a\nput 7 0b -\nget 7 0c\nbad\n");
+    /// assert_eq!(rt; (keys.end(), numbers.end(), upcoming.leaves()), (2, 0, 2));
+    /// ```
     #[inline(never)]
     pub fn read_maps<const PREFIX_LEN: usize>(
         &mut self,
-        records: &TreeMap<Vec<u8>, Vec<u8>, PREFIX_LEN>,
-        numbers: &TreeMap<[u8; NUMBER_KEY], Vec<u8>, PREFIX_LEN>,
+        keys: &mut WayReader<'_, Vec<u8>, PREFIX_LEN>,
+        numbers: &mut WayReader<'_, [u8; NUMBER_KEY], PREFIX_LEN>,
         few: usize,
         text: &[u8],
     )
-        ensures first { self.new.at ≡ 0 }
-        ensures least { min (self.old.nodes + sum_by (λ line. line.read) (take self.new.len self.new.lines.items))
-            (2 ^ 64 - 1) ≤ self.new.nodes }
-        ensures most { self.new.nodes
-            ≤ self.old.nodes + sum_by (λ line. line.read) (take self.new.len self.new.lines.items) }
+        ensures next { AreNext (texts_of (to_come self.new)) text.now }
+        ensures told { read_of (to_come self.new) + count_of keys.old.reader + count_of numbers.old.reader
+            ≡ count_of keys.new.reader + count_of numbers.new.reader }
     {
-        let (keys, key_root) = records.nodes();
-        let (values, number_root) = numbers.nodes();
         self.take_lines(
             &Roots {
-                keys: key_root.filter(|_| records.len() >= few),
-                numbers: number_root.filter(|_| numbers.len() >= few),
+                keys: keys.root(few),
+                numbers: numbers.root(few),
             },
             text,
         );
@@ -341,8 +347,7 @@ impl Upcoming {
             return;
         }
         let mut seen = Seen::default();
-        let nodes = go_all(&mut self.lines[..], self.len, keys, values, &mut seen);
-        self.nodes = self.nodes.saturating_add(nodes);
+        go_all(&mut self.lines[..], self.len, keys, numbers, &mut seen);
         self.leaves = seen.leaves;
         self.seen ^= seen.byte;
         if self.leaves < PAYS && self.len >= LINES {
@@ -350,14 +355,12 @@ impl Upcoming {
         }
     }
 
-    /// Returns how many nodes were read ahead so far. A count that reaches the greatest number stays there.
-    pub fn nodes(&self) -> u64
-        ensures { result ≡ self.now.nodes }
-    {
-        self.nodes
-    }
-
     /// Returns how many leaves the ways of the lines ended at that were read together last.
+    ///
+    /// ```
+    /// use art_engine::upcoming::Upcoming;
+    /// assert_eq!(rt; Upcoming::new(rt.alloc()).leaves(), 0);
+    /// ```
     pub fn leaves(&self) -> usize
         ensures { result ≡ self.now.leaves }
     {
@@ -366,24 +369,18 @@ impl Upcoming {
 
     /// Makes room for one line more, if there is memory for it.
     #[inline(never)]
-    fn add_line(&mut self) -> bool
-        ensures { self.new.nodes ≡ self.old.nodes }
-    {
+    fn add_line(&mut self) -> bool {
         self.lines.push(Line::new()).is_ok()
     }
 
     /// Makes room for four lines more, or for as many as there is memory for.
-    fn add_four(&mut self) -> bool
-        ensures { self.new.nodes ≡ self.old.nodes }
-    {
+    fn add_four(&mut self) -> bool {
         self.add_line() && self.add_line() && self.add_line() && self.add_line()
     }
 
     /// Makes room for `LINES` lines, or for as many as there is memory for. (Not by a loop: Rattle's own compiler puts
     /// what is called in a loop into the frame around it, and the frame of `run` would have three lines more.)
-    fn make_room(&mut self)
-        ensures { self.new.nodes ≡ self.old.nodes }
-    {
+    fn make_room(&mut self) {
         let _is_made = self.add_four() && self.add_four() && self.add_four() && self.add_four();
     }
 
@@ -391,13 +388,13 @@ impl Upcoming {
     fn take_lines(&mut self, roots: &Roots, text: &[u8])
         ensures first { self.new.at ≡ 0 }
         ensures within { self.new.len ≤ length self.new.lines.items }
-        ensures none { sum_by (λ line. line.read) (take self.new.len self.new.lines.items) ≡ 0 }
-        ensures nodes { self.new.nodes ≡ self.old.nodes }
+        ensures none { read_of (to_come self.new) ≡ 0 }
+        ensures next { AreNext (texts_of (to_come self.new)) text.now }
     {
         if self.lines.is_empty() {
             self.make_room();
         }
-        self.len = read_lines(&mut self.lines[..], roots, text);
         self.at = 0;
+        self.len = read_lines(&mut self.lines[..], roots, text);
     }
 }

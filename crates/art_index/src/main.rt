@@ -15,7 +15,7 @@ ghost use Rattle.std.specs.Prelude.{◌<◌, length};
 mod buffered;
 mod serving;
 
-use art_engine::{Index, RunFault, flushed};
+use art_engine::{Index, RunFault, flushed, run};
 use art_lines::buffered::make_room;
 use art_lines::{Buffered, FromReader, ToWriter};
 use buffered::run_buffered;
@@ -34,7 +34,16 @@ fn serve(rt: &HostRuntime, index: &mut Index<PREFIX_LEN>, room: Vec<u8>) -> Resu
     let mut source = FromReader::new(rt.stdin());
     let mut sink = Buffered::new(ToWriter::new(rt.stdout()), room);
     let done = run_buffered(index, &mut source, &mut sink);
-    flushed(done, &mut rt.stdout())
+    flushed(done, &mut sink.into_sink())
+}
+
+/// Answers standard input out of an index where there is no memory for a room: each reply leaves at once.
+#[inline(never)]
+fn serve_at_once(rt: &HostRuntime, index: &mut Index<PREFIX_LEN>) -> Result<(), RunFault> {
+    let mut source = FromReader::new(rt.stdin());
+    let mut sink = ToWriter::new(rt.stdout());
+    let done = run(index, &mut source, &mut sink);
+    flushed(done, &mut sink)
 }
 
 fn main(rt: HostRuntime) -> ExitCode {
@@ -46,12 +55,11 @@ fn main(rt: HostRuntime) -> ExitCode {
         let _ = eprintln!(rt; "art_index: takes no arguments");
         return ExitCode::from(2);
     }
-    let done = match make_room(rt.alloc(), touch_stack(count, count / 2)) {
-        Ok(room) => {
-            let mut index: Index<PREFIX_LEN> = Index::new(rt.alloc());
-            serve(&rt, &mut index, room)
-        }
-        Err(_) => Err(RunFault::Write),
+    let filler = touch_stack(count, count / 2);
+    let mut index: Index<PREFIX_LEN> = Index::new(rt.alloc());
+    let done = match make_room(rt.alloc(), filler) {
+        Ok(room) => serve(&rt, &mut index, room),
+        Err(_) => serve_at_once(&rt, &mut index),
     };
     report(&rt, done)
 }

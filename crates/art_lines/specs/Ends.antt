@@ -1,5 +1,5 @@
 -- What the ends of a run hold: a reader as a source, a writer as a sink, and a sink that gathers before another one.
-use Rattle.std.specs.Prelude.{ℕ, Bool, List}
+use Rattle.std.specs.Prelude.{ℕ, Bool, List, length}
 use Rattle.std.specs.List.{between}
 use Rattle.art_lines.specs.declared.from_reader.FromReader.{FromReader}
 use Rattle.art_lines.specs.declared.to_writer.ToWriter.{ToWriter}
@@ -9,7 +9,7 @@ use Rattle.art_lines.specs.declared.stream.Sink as sink
 
 -- the reader, the bytes that it gave, whether it came to its end, whether a read failed, and how many reads may follow
 abbrev pub reader_of : {R : Type 0} → FromReader R → R
-reader_of s = s.reader
+reader_of s = s.reader.inner
 
 abbrev pub bytes_given : {R : Type 0} → FromReader R → List ℕ
 bytes_given s = s.given.items
@@ -23,15 +23,26 @@ has_read_failed s = s.failed
 abbrev pub reads_to_come : {R : Type 0} → FromReader R → ℕ
 reads_to_come s = s.reads_left
 
+-- how often the reader was called to read
+abbrev pub calls_to_read : {R : Type 0} → FromReader R → ℕ
+calls_to_read s = length s.reader.calls.items
+
 -- the writer, the bytes that it took, and whether a write failed
 abbrev pub writer_of : {W : Type 0} → ToWriter W → W
-writer_of s = s.writer
+writer_of s = s.writer.inner
 
 abbrev pub bytes_taken : {W : Type 0} → ToWriter W → List ℕ
 bytes_taken s = s.taken.items
 
 abbrev pub has_write_failed : {W : Type 0} → ToWriter W → Bool
 has_write_failed s = s.failed
+
+-- how often the writer was called to write, and how often to flush
+abbrev pub calls_to_write : {W : Type 0} → ToWriter W → ℕ
+calls_to_write s = length s.writer.calls.items
+
+abbrev pub calls_to_flush : {W : Type 0} → ToWriter W → ℕ
+calls_to_flush s = length s.writer.flushes.items
 
 -- the sink behind a gathering one, what is held back before it, and whether a write to the gathering one failed
 abbrev pub sink_behind : {S : Type 0} {of : sink.Ghosts S} → Buffered S of → S

@@ -43,7 +43,7 @@ pub struct Buffered<S: Sink> {
 }
 
 impl<S: Sink> Buffered<S> {
-    ghost use Rattle.art_lines.specs.Ends.{sink_behind};
+    ghost use Rattle.art_lines.specs.Ends.{held_back, sink_behind};
 
     /// Makes a sink in front of this one, which holds nothing. The room must not be empty.
     ///
@@ -99,9 +99,24 @@ impl<S: Sink> Buffered<S> {
         ensures all { result ≡ true → S.taken (sink_behind self.new) ≡ ⟦<Buffered<S> as Sink>⟧.taken self.old }
         ensures failed { S.has_failed (sink_behind self.new) ≡ true → result ≡ false }
         ensures exact { S.has_failed (sink_behind self.new) ≡ false → result ≡ true }
+        ensures sent { S.has_failed (sink_behind self.new) ≡ false → held_back self.new ≡ [] }
     {
         self.write_out();
         !self.sink.failed()
+    }
+
+    /// Returns the sink behind it. What it holds is let go.
+    ///
+    /// ```
+    /// let mut replies = Vec::new(rt.alloc());
+    /// let room = art_lines::buffered::make_room(rt.alloc(), 0)?;
+    /// let sink = Buffered::new(ToWriter::new(&mut replies), room);
+    /// assert!(rt; sink.into_sink().flush().is_ok());
+    /// ```
+    pub fn into_sink(self) -> S
+        ensures { result ≡ sink_behind self }
+    {
+        self.sink
     }
 }
 

@@ -1,9 +1,11 @@
 //! A reader as a source.
-ghost use Rattle.std.specs.Prelude.{◌≡◌, ℕ, suc, ◌^◌, ◌-◌, ◌<◌, ◌≤◌, ◌++◌, [], length, take, is_err, IsTrue, IsErr};
-ghost use Rattle.std.specs.Prelude.{IfOk, OnErr, Ok, false};
+ghost use Rattle.std.specs.Prelude.{◌≡◌, ℕ, suc, ◌^◌, ◌-◌, ◌+◌, ◌<◌, ◌≤◌, ◌++◌, ◌⊎◌, [], length, take, is_err};
+ghost use Rattle.std.specs.Prelude.{IfOk, IsTrue, IsErr, OnErr, Ok, false};
 ghost use Rattle.std.specs.Io.KnownBytes.{Consumes, Keeps, IsAtEnd};
 ghost use Rattle.art_lines.specs.Ends.{reader_of, bytes_given, has_run_out, has_read_failed, reads_to_come};
+ghost use Rattle.art_lines.specs.Ends.{calls_to_read};
 
+use crate::counted::Counted;
 use crate::stream::{ReadFailed, Source};
 use art_bytes::{History, Piece};
 use std::io::Read;
@@ -12,7 +14,7 @@ use std::io::Read;
 /// error is taken for an end. After 2^64 - 1 reads it fails.
 #[derive(Drop)]
 pub struct FromReader<R> {
-    reader: R,
+    reader: Counted<R>,
     failed: bool,
     ended: bool,
     reads_left: u64,
@@ -33,9 +35,10 @@ impl<R: Read> FromReader<R> {
         ensures ended { ⟦<FromReader<R> as Source>⟧.has_ended result ≡ false }
         ensures reads { ⟦<FromReader<R> as Source>⟧.reads_left result ≡ 2 ^ 64 - 1 }
         ensures over { reader_of result ≡ reader }
+        ensures calls { calls_to_read result ≡ 0 }
     {
         FromReader {
-            reader,
+            reader: Counted::new(reader),
             failed: false,
             ended: false,
             reads_left: u64::MAX,
@@ -52,6 +55,8 @@ impl<R: Read> Source for FromReader<R> {
     ghost has_failed = { λ s. has_read_failed s };
 
     ghost reads_left = { λ s. reads_to_come s };
+
+    ghost calls = { λ s. calls_to_read s };
 
     fn read(&mut self, buf: &mut [u8]) -> Result<usize, ReadFailed>
         requires { 0 < length buf.old }
@@ -79,6 +84,11 @@ impl<R: Read> Source for FromReader<R> {
             → IsAtEnd (R.remaining (reader_of self.new))) }
         ensures passes_none { OnErr result
             (Keeps (R.remaining (reader_of self.old)) (R.remaining (reader_of self.new))) }
+
+        // It calls the reader once; where that has failed or come to its end, not again.
+        ensures once { calls_to_read self.new ≤ calls_to_read self.old + 1 }
+        ensures not_again { IsTrue (has_read_failed self.old) ⊎ IsTrue (has_run_out self.old)
+            → calls_to_read self.new ≡ calls_to_read self.old }
     {
         if self.failed || self.reads_left == 0 {
             self.failed = true;

@@ -8,6 +8,7 @@
 
 pub mod buffered;
 pub mod command;
+mod counted;
 mod from_reader;
 pub mod gather;
 pub mod head;

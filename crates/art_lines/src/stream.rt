@@ -1,5 +1,5 @@
 //! Where bytes come from and where they go.
-ghost use Rattle.std.specs.Prelude.{◌≡◌, ℕ, ◌<◌, ◌≤◌, ◌++◌, List, Bool, length, take, is_err, IsTrue, IsErr};
+ghost use Rattle.std.specs.Prelude.{◌≡◌, ℕ, ◌<◌, ◌≤◌, ◌+◌, ◌++◌, ◌⊎◌, List, Bool, length, take, is_err, IsTrue, IsErr};
 ghost use Rattle.std.specs.Prelude.{IfOk, OnErr, Ok};
 
 /// A source failed to give bytes.
@@ -24,6 +24,9 @@ pub trait Source {
     /// A number that each read lowers until the source ends or fails.
     ghost reads_left: { Self → ℕ };
 
+    /// How often what stands behind it was asked for bytes.
+    ghost calls: { Self → ℕ } = { λ _. 0 };
+
     /// Reads the next bytes, to the first places of `buf`, and returns how many they are. No byte is the end, and a
     /// source that has ended gives nothing more.
     fn read(&mut self, buf: &mut [u8]) -> Result<usize, ReadFailed>
@@ -39,7 +42,12 @@ pub trait Source {
         ensures goes_on { IfOk result (λ n. 0 < n → has_ended self.new ≡ has_ended self.old) }
         ensures gives_no_more { IfOk result (λ n. IsTrue (has_ended self.old) → n ≡ 0) }
         ensures ended_before { OnErr result (has_ended self.new ≡ has_ended self.old) }
-        ensures fewer { IfOk result (λ n. 0 < n → reads_left self.new < reads_left self.old) };
+        ensures fewer { IfOk result (λ n. 0 < n → reads_left self.new < reads_left self.old) }
+
+        // What stands behind it is asked once at most; where a read has failed or the end has come, not again.
+        ensures once { calls self.new ≤ calls self.old + 1 }
+        ensures not_again { IsTrue (has_failed self.old) ⊎ IsTrue (has_ended self.old)
+            → calls self.new ≡ calls self.old };
 
     /// Returns whether a read has failed.
     fn failed(&self) -> bool
@@ -58,6 +66,9 @@ pub trait Sink {
     /// Whether a write has failed.
     ghost has_failed: { Self → Bool };
 
+    /// How often what stands behind it was asked to take bytes, where each write asks it.
+    ghost calls: { Self → ℕ } = { λ _. 0 };
+
     /// Takes some bytes from the front of `piece`, at least one if there are any, and returns how many they are.
     fn write(&mut self, piece: &[u8]) -> Result<usize, WriteFailed>
         ensures bound { IfOk result (λ n. n ≤ length piece.now) }
@@ -65,7 +76,9 @@ pub trait Sink {
         ensures takes { IfOk result (λ n. taken self.new ≡ taken self.old ++ take n piece.now) }
         ensures takes_none { OnErr result (taken self.new ≡ taken self.old) }
         ensures failed { is_err result ≡ has_failed self.new }
-        ensures stays_failed { IsTrue (has_failed self.old) → IsErr result };
+        ensures stays_failed { IsTrue (has_failed self.old) → IsErr result }
+        ensures once { calls self.new ≤ calls self.old + 1 }
+        ensures not_again { IsTrue (has_failed self.old) → calls self.new ≡ calls self.old };
 
     /// Hands on what it has taken and still holds, if it holds bytes back. `run` calls it before each read. If that
     /// fails, the next write does.

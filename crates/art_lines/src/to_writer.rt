@@ -1,9 +1,10 @@
 //! A writer as a sink.
-ghost use Rattle.std.specs.Prelude.{◌≡◌, ◌<◌, ◌≤◌, ◌++◌, [], length, take, is_err, IsTrue, IsErr, IfOk, OnErr};
-ghost use Rattle.std.specs.Prelude.{false};
-ghost use Rattle.std.specs.Io.KnownBytes.{WriteAppends};
-ghost use Rattle.art_lines.specs.Ends.{writer_of, bytes_taken, has_write_failed};
+ghost use Rattle.std.specs.Prelude.{◌≡◌, ◌+◌, ◌<◌, ◌≤◌, ◌++◌, [], length, take, is_err, IsTrue, IsErr, IfOk, OnErr};
+ghost use Rattle.std.specs.Prelude.{suc, true, false};
+ghost use Rattle.std.specs.Io.KnownBytes.{Keeps, WriteAppends};
+ghost use Rattle.art_lines.specs.Ends.{calls_to_flush, calls_to_write, writer_of, bytes_taken, has_write_failed};
 
+use crate::counted::Counted;
 use crate::stream::{Sink, WriteFailed};
 use art_bytes::{History, Piece};
 use std::io::Write;
@@ -12,7 +13,7 @@ use std::io::Write;
 /// again.
 #[derive(Drop)]
 pub struct ToWriter<W> {
-    writer: W,
+    writer: Counted<W>,
     failed: bool,
     taken: History,
 }
@@ -30,11 +31,39 @@ impl<W: Write> ToWriter<W> {
         ensures taken { ⟦<ToWriter<W> as Sink>⟧.taken result ≡ [] }
         ensures failed { ⟦<ToWriter<W> as Sink>⟧.has_failed result ≡ false }
         ensures over { writer_of result ≡ writer }
+        ensures calls { (calls_to_write result ≡ 0) × (calls_to_flush result ≡ 0) }
     {
         ToWriter {
-            writer,
+            writer: Counted::new(writer),
             failed: false,
             taken: History::new(),
+        }
+    }
+
+    /// Flushes the writer. Fails if that does, or if a write has failed before: then it isn't called.
+    ///
+    /// ```
+    /// let mut replies = Vec::new(rt.alloc());
+    /// assert!(rt; ToWriter::new(&mut replies).flush().is_ok());
+    /// ```
+    pub fn flush(&mut self) -> Result<(), WriteFailed>
+        ensures failed { is_err result ≡ has_write_failed self.new }
+        ensures stays_failed { IsTrue (has_write_failed self.old) → IsErr result }
+        ensures taken { bytes_taken self.new ≡ bytes_taken self.old }
+        ensures kept { Keeps (W.contents (writer_of self.old)) (W.contents (writer_of self.new)) }
+        ensures once { has_write_failed self.old ≡ false → calls_to_flush self.new ≡ suc (calls_to_flush self.old) }
+        ensures not_again { has_write_failed self.old ≡ true → calls_to_flush self.new ≡ calls_to_flush self.old }
+        ensures calls { calls_to_write self.new ≡ calls_to_write self.old }
+    {
+        if self.failed {
+            return Err(WriteFailed);
+        }
+        match self.writer.flush() {
+            Ok(()) => Ok(()),
+            Err(_) => {
+                self.failed = true;
+                Err(WriteFailed)
+            }
         }
     }
 }
@@ -43,6 +72,8 @@ impl<W: Write> Sink for ToWriter<W> {
     ghost taken = { λ s. bytes_taken s };
 
     ghost has_failed = { λ s. has_write_failed s };
+
+    ghost calls = { λ s. calls_to_write s };
 
     fn write(&mut self, piece: &[u8]) -> Result<usize, WriteFailed>
         ensures bound { IfOk result (λ n. n ≤ length piece.now) }
@@ -55,6 +86,10 @@ impl<W: Write> Sink for ToWriter<W> {
         // The writer gets what is taken, and nothing else.
         ensures passed { WriteAppends
             (W.contents (writer_of self.old)) (W.contents (writer_of self.new)) result piece.now }
+
+        // It calls the writer once; where a write has failed, not again.
+        ensures once { calls_to_write self.new ≤ calls_to_write self.old + 1 }
+        ensures not_again { IsTrue (has_write_failed self.old) → calls_to_write self.new ≡ calls_to_write self.old }
     {
         if self.failed {
             return Err(WriteFailed);

@@ -1,13 +1,18 @@
 -- What a map in the making has of the pairs that it took.
-use Rattle.std.proofs.Common.{◌≡◌, ℕ, Bool, true, false, cond, not, MatchBool, List, [], ◌∷◌, ◌++◌, Option, Some, None, refl, sym, ap, subst, ◌∙◌}
+use Rattle.std.proofs.Common.{◌≡◌, ℕ, Bool, true, false, cond, not, MatchBool, List, [], ◌∷◌, ◌++◌, Option, Some, None, Result, Ok, Err, refl, sym, ap, subst, ◌∙◌}
 use Rattle.std.specs.List.{AllByRecursion}
+use Rattle.std.specs.Prelude.{IfErr, OnOk}
 use Rattle.art_arena.proofs.Common.{Arena, Held, cell_of, inner_held, leaf_held, key_of, AscendsByKey, all_append}
 use Rattle.art_nodes.proofs.Common.{Name}
-use Rattle.art_operations.proofs.Common.{Builds, BuildsTo, HasLeavesOf, HasPairs, with_pair_put, IsEmptySpine, fresh}
+use Rattle.art_operations.proofs.Common.{Builds, BuildsTo, HasLeavesOf, HasPairs, IsBlocked, with_pair_put, IsEmptySpine, fresh}
+use Rattle.art_operations.specs.Builders.{IsPushRefused}
+use Rattle.art_operations.specs.declared.build.PushRefused.{PushRefused}
+use Rattle.art_operations.specs.declared.build.PushRefused.TheVariants.{NotBehind, Memory}
 use Rattle.art_operations.specs.declared.build.TreeBuilder.{TreeBuilder}
 use Rattle.art_map.proofs.Terms.{HasGathered, HasGatheredInOrder, nodes_of}
+use Rattle.art_map.specs.inner.Pushes.{pair_handed_back}
 use Rattle.art_map.specs.declared.map.builder.TreeMapBuilder.{TreeMapBuilder}
-use Rattle.art_map.proofs.Puts.{put-last}
+use Rattle.art_map.proofs.Puts.{free-last, put-last}
 
 -- what is so where its opposite was told
 pub is-false : (b : Bool) → not b ≡ true → b ≡ false
@@ -25,6 +30,10 @@ built-ascend {K} {V} bytes P arena builder pairs builds = of builder.last builds
     of : (last : Option ℕ) → BuildsTo bytes P arena builder.spine last pairs → AscendsByKey (key_of bytes) pairs
     of None b = subst (AscendsByKey (key_of bytes)) (sym b.0) tt
     of (Some last) b = b.ascends
+
+-- and none blocks the key of a pair that was taken behind them
+pub free-behind : {K V : Type 0} (bytes : K → List ℕ) (P : ℕ) (arena : Arena K V) (builder : TreeBuilder) (pairs : List (K × V)) (k : K) (v : V) → Builds bytes P arena builder (pairs ++ (k, v) ∷ []) → IsBlocked (key_of bytes) (bytes k) pairs → ⊥
+free-behind bytes P arena builder pairs k v builds = free-last bytes pairs (k, v) (built-ascend bytes P arena builder (pairs ++ (k, v) ∷ []) builds)
 
 -- what stands under no name is no node
 held-none : {K V : Type 0} (o : Option (Held K V)) → cell_of o ≡ None → o ≡ None
@@ -57,6 +66,10 @@ module _ {K V : Type 0} {P : ℕ} (bytes : K → List ℕ) (is_key : K → Type 
   pub is-in-order : b.in_order ≡ true → HasGatheredInOrder bytes is_key b pairs → HasGathered bytes is_key b pairs
   is-in-order e taken = subst (λ o. MatchBool o (HasGatheredInOrder bytes is_key b pairs) (b.map.pairs ≡ pairs)) (sym e) taken
 
+  pub is-settled : {A E : Type 0} (r : Result A E) → b.in_order ≡ false → OnOk r (b.map.pairs ≡ pairs) → OnOk r (HasGathered bytes is_key b pairs)
+  is-settled (Ok x) e has = subst (λ o. MatchBool o (HasGatheredInOrder bytes is_key b pairs) (b.map.pairs ≡ pairs)) (sym e) has
+  is-settled (Err e) f has = tt
+
   -- a pair that goes behind all others is put in there
   pub taken-behind : (was : List (K × V)) (k : K) (v : V) → pairs ≡ with_pair_put bytes k v was → b.in_order ≡ true → Builds bytes P b.arena b.builder (was ++ (k, v) ∷ [])
       → AllByRecursion (λ p. is_key p.0) was → is_key k → b.map.pairs ≡ [] → HasGathered bytes is_key b pairs
@@ -64,6 +77,36 @@ module _ {K V : Type 0} {P : ℕ} (bytes : K → List ℕ) (is_key : K → Type 
       let last = put-last bytes was (k, v) (built-ascend bytes P b.arena b.builder (was ++ (k, v) ∷ []) builds) in
       is-in-order e
       (subst (HasGatheredInOrder bytes is_key b) (sym (pairs_are ∙ last)) (builds, all_append (λ p. is_key p.0) was ((k, v) ∷ []) keys (one, tt), none))
+
+module _ {K V : Type 0} {P : ℕ} (bytes : K → List ℕ) (is_key : K → Type 0) (b : TreeMapBuilder K V P) (had : List (K × V)) (k l : K) (v w : V) where
+  -- whatever pairs it has, they are these, and the key and the value are those that came
+  abbrev pub AreThese : Type 0
+  AreThese = (pairs : List (K × V)) → HasGathered bytes is_key b pairs → (had ≡ pairs) × (k ≡ l) × (v ≡ w)
+
+  module _ (these : AreThese) where
+    -- so what is so of these is so of whatever pairs it has
+    pub of-these : (Q : K → V → List (K × V) → Type 0) → Q k v had → (pairs : List (K × V)) → HasGathered bytes is_key b pairs → Q l w pairs
+    of-these Q q pairs has =
+        let (same, key, value) = these pairs has in
+        subst (λ x. Q x w pairs) key (subst (λ x. Q k x pairs) value (subst (Q k v) same q))
+
+    pub ok-of-these : {A E : Type 0} (Q : K → V → List (K × V) → Type 0) (r : Result A E) → OnOk r (Q k v had) → OnOk r ((pairs : List (K × V)) → HasGathered bytes is_key b pairs → Q l w pairs)
+    ok-of-these Q (Ok x) q = of-these Q q
+    ok-of-these Q (Err e) q = tt
+
+    pub err-of-these : {A E : Type 0} (Q : E → K → V → List (K × V) → Type 0) (r : Result A E) → IfErr r (λ e. Q e k v had) → IfErr r (λ e. (pairs : List (K × V)) → HasGathered bytes is_key b pairs → Q e l w pairs)
+    err-of-these Q (Ok x) q = tt
+    err-of-these Q (Err e) q = of-these (Q e) q
+
+-- a pair that is handed back is the one that came
+pub handed-back : {K V : Type 0} (B : Type 0) (key : K) (value : V) (refused : PushRefused K V) (gone : K × V) → gone ≡ pair_handed_back refused → IsPushRefused key value B refused → (gone.0 ≡ key) × (gone.1 ≡ value)
+handed-back B key value (NotBehind k v) gone is back = (ap (λ p. p.0) is ∙ back.0, ap (λ p. p.1) is ∙ back.1)
+handed-back B key value (Memory k v) gone is back = (ap (λ p. p.0) is ∙ back.0, ap (λ p. p.1) is ∙ back.1)
+
+-- what an error tells where one thing is so, it tells where another is so from which that one follows
+pub err-where : {A E S T : Type 0} (C : E → Type 0) (r : Result A E) → (S → T) → IfErr r (λ e. T → C e) → IfErr r (λ e. S → C e)
+err-where C (Ok x) f told = tt
+err-where C (Err e) f told = λ s. told (f s)
 
 module _ {K V : Type 0} {P : ℕ} (bytes : K → List ℕ) where
   -- which nodes hold the pairs is told by whether they came in order

@@ -27,6 +27,7 @@ pub mod Joins
 pub mod PrefixBlocks
 pub mod LonePairs
 pub mod FoundBehind
+pub mod BehindChanges
 pub mod EndedKeys
 pub mod Merged
 pub mod CutLeaves

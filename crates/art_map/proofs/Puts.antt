@@ -33,7 +33,10 @@ module _ {K V : Type 0} (bytes : K → List ℕ) where
   pub put-first : (p : K × V) (back : List (K × V)) → AscendsByKey (key_of bytes) (p ∷ back) → with_pair_put bytes p.0 p.1 back ≡ p ∷ back
   put-first p back up = sym (put_new (key_of bytes) p [] back up).new_is
 
-  -- it is not blocked
+  -- neither is blocked
+  pub free-last : (front : List (K × V)) (p : K × V) → AscendsByKey (key_of bytes) (front ++ p ∷ []) → IsBlocked (key_of bytes) (bytes p.0) front → ⊥
+  free-last front p up blocked = (put_new (key_of bytes) p front [] up).free (subst (IsBlocked (key_of bytes) (bytes p.0)) (sym (append-nil front)) blocked)
+
   pub free-first : (p : K × V) (back : List (K × V)) → AscendsByKey (key_of bytes) (p ∷ back) → IsBlocked (key_of bytes) (bytes p.0) back → ⊥
   free-first p back up = (put_new (key_of bytes) p [] back up).free
 

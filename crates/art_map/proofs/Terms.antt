@@ -8,7 +8,7 @@ pub use Rattle.art_map.specs.Contents.{Contents, HasLeafAt, IsMap, IsUntouched, 
 pub use Rattle.art_map.specs.Entries.{IsEntryOf, IsSame, IsWritten, Vacant, entry_key, entry_pairs, entry_value, option_key, pairs_without, the, with_entry_value}
 pub use Rattle.art_map.specs.Extractions.{left_of, map_of}
 pub use Rattle.art_map.specs.Found.{HasPairAt, HasPairUnder, IsAt, IsFound, has_leaf, is_held, leaf_pair, pair_under, still_held, stored_slot}
-pub use Rattle.art_map.specs.Laws.{ended}
+pub use Rattle.art_map.specs.Laws.{ended, kept_value, last_value}
 pub use Rattle.art_map.specs.LeafNames.{AddsNoLeaf, AreNamed, KeepsAllLeaves, KeepsLeaves}
 pub use Rattle.art_map.specs.Leaves.{AreLeaves, IsNextAt, IsRun, with_end}
 pub use Rattle.art_map.specs.Lends.{with_value_at}

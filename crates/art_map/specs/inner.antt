@@ -1,3 +1,4 @@
 -- Words of private contracts.
 pub mod Asks
 pub mod Joins
+pub mod Pushes

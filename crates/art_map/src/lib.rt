@@ -11,9 +11,11 @@
 //! ```
 #![tactic(auto)]
 
+mod clone_key;
 pub mod laws;
 mod map;
 
+pub use clone_key::CloneKey;
 pub use map::builder::TreeMapBuilder;
 pub use map::entry::{Entry, OccupiedEntry, VacantEntry};
 pub use map::extract_if::ExtractIf;

@@ -10,6 +10,7 @@ pub mod builder;
 mod bulk;
 mod changes;
 mod clones;
+mod collects;
 mod compared;
 mod end_entries;
 pub mod entry;

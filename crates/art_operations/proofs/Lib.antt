@@ -8,6 +8,8 @@ pub mod Stretches
 pub mod RangeEnds
 pub mod Points
 pub mod Stops
+-- Where a key's way by all its bytes ends, told of a place in the tree, and what is read from there.
+pub mod WayParts
 pub mod NewNodes
 pub mod Edits
 pub mod Inserted

@@ -11,14 +11,15 @@ use Rattle.std.proofs.lemmas.List.Elements.{filter-append}
 use Rattle.art_bytes.proofs.Common.{BeginsWith, Conflict, IsBefore, bytes_cmp, before_cmp}
 use Rattle.art_nodes.proofs.Common.{child_at, children_between, first_child, Name}
 use Rattle.art_nodes.specs.declared.leaf.LeafNode.{LeafNode}
-use Rattle.art_arena.proofs.Common.{Arena, Held, leaf_held, held_at, links_of, links_at, node_at, pair, leaf_name, Frame, path_to, leaves_before, leaves_after, leaf_where, passing, Links, AreLinked, first_slot, last_slot, IsSubtree, IsPlace, Shape, Branches, inner_at, no_branch, branch, LeafAt, name_of, children_at, join, leaves, leaves_in, pairs_of, erase, IsUnder, AreUnder, key_of, all_append, all_left, all_right, all_weaker, AscendsByKey, leaves-plug, leaves_in-join, items-erase, canonical-erase, opening, leaves_are_held, branch-first, leaves_begin_prefix, holds_pair, some_leaf, ends_with-first, last_slot-append, link_there, AreAfter, AreBefore, branches-after, branches-before, ctx-after, ctx-before, smaller_byte_first, behind, place-subtree}
+use Rattle.art_arena.proofs.Common.{Arena, Held, leaf_held, held_at, links_of, links_at, node_at, pair, leaf_name, Frame, path_to, leaves_before, leaves_after, leaf_where, passing, Links, AreLinked, first_slot, last_slot, IsSubtree, IsPlace, Shape, Branches, inner_at, no_branch, branch, LeafAt, name_of, children_at, join, leaves, leaves_in, pairs_of, erase, erase_in, IsUnder, AreUnder, key_of, all_append, all_left, all_right, all_weaker, AscendsByKey, leaves-plug, leaves_in-join, items-erase, canonical-erase, opening, leaves_are_held, branch-first, leaves_begin_prefix, holds_pair, some_leaf, ends_with-first, last_slot-append, link_there, AreAfter, AreBefore, branches-after, branches-before, ctx-after, ctx-before, smaller_byte_first, behind, place-subtree}
 use Rattle.art_arena.proofs.tree.Canonical.{ascending}
 use Rattle.std.specs.declared.ops.Bound.TheVariants.{Excluded, Unbounded}
-use Rattle.art_operations.proofs.Terms.{slot_inside, PartAt, AllConflict, IsPoint, InsertPoint, Parted, Compare, IsNearest, bound_at, takes}
+use Rattle.art_operations.proofs.Terms.{slot_inside, PartAt, AllConflict, IsPoint, InsertPoint, Parted, Compare, IsNearest, bound_at, first_above, takes}
 use Rattle.art_operations.proofs.Door.{links-are}
 use Rattle.art_operations.proofs.KeyedLists.{all-pass, none-pass}
 use Rattle.art_operations.proofs.Points.{leaf_there, part_new, part_old}
 use Rattle.art_operations.proofs.Waiting.{children_behind}
+use Rattle.art_operations.proofs.WayParts.{above-none, above-some}
 
 -- the other way round, the order is turned
 pub turned : (k l : List ℕ) (o : Ordering) → bytes_cmp k l ≡ o → bytes_cmp l k ≡ ordering_reverse o
@@ -210,6 +211,7 @@ module _ {K V : Type 0} (bytes : K → List ℕ) (key path prefix : List ℕ) (k
       pub after : Branches K V
       pub whole : kids ≡ join before (branch c.0 here after)
       pub named : name_of here ≡ c.1
+      pub above : first_above byte (erase_in kids) ≡ Some (erase here)
       pub nearest : BeginsWith ((path ++ prefix) ++ byte ∷ []) key → (slot : ℕ) → first_slot (leaves here) None ≡ Some slot → IsNearest bytes key (leaves_in kids) slot Greater
 
     pub child_after : (c : ℕ × Name) → first_child (children_between (Excluded byte) Unbounded (children_at kids)) ≡ Some c → IsChildAfter c
@@ -225,6 +227,9 @@ module _ {K V : Type 0} (bytes : K → List ℕ) (key path prefix : List ℕ) (k
           after = b.1;
           whole = whole;
           named = b.3;
+          above =
+              let more : byte + 1 ≤ c.0 = (subst (AreUnder bytes (path ++ prefix) (byte + 1)) b.2 o.after_under).0 in
+              ap (λ f. first_above byte (erase_in f)) whole ∙ above-some byte c.0 o.before b.0 b.1 o.below (omega (arith, more));
           nearest = λ on slot first.
               let below = below_before bytes key (leaves_in o.before) (branches-before bytes key (path ++ prefix) byte 0 o.before o.before_under o.below on) in
               let above = above_after bytes key (leaves_in o.after) (branches-after bytes key (path ++ prefix) byte (byte + 1) o.after o.after_under (omega arith) on) in
@@ -234,6 +239,17 @@ module _ {K V : Type 0} (bytes : K → List ℕ) (key path prefix : List ℕ) (k
         }
 
     -- there is none
+    pub none_above : first_child (children_between (Excluded byte) Unbounded (children_at kids)) ≡ None → first_above byte (erase_in kids) ≡ None
+    none_above missed =
+        let o = opening bytes kids byte (path ++ prefix) 0 under missing in
+        let none : first_child (children_at o.after) ≡ None =
+        ap first_child (sym (children_behind bytes (path ++ prefix) byte o.before o.after o.below o.after_under)) ∙ ap (λ ks. first_child (children_between (Excluded byte) Unbounded (children_at ks))) (sym o.kids_are) ∙ missed in
+        ap (λ f. first_above byte (erase_in f)) o.kids_are ∙ ap (λ f. first_above byte (erase_in (join o.before f))) (no_more o.after none) ∙ above-none byte o.before o.below
+      where
+        no_more : (f : Branches K V) → first_child (children_at f) ≡ None → f ≡ no_branch
+        no_more no_branch e = refl
+        no_more (branch b s rest) e = absurd (cc)
+
     pub no_child_after : first_child (children_between (Excluded byte) Unbounded (children_at kids)) ≡ None → BeginsWith ((path ++ prefix) ++ byte ∷ []) key → (slot : ℕ)
         → last_slot None (leaves_in kids) ≡ Some slot → IsNearest bytes key (leaves_in kids) slot Less
     no_child_after missed on slot last =

@@ -1,9 +1,9 @@
 -- Nodes that are made in an arena: the room for them, and what is left where one is taken out again.
-use Rattle.std.proofs.Common.{◌≡◌, ◌≢◌, ℕ, ◌≤◌, None, Some, Option, IsSome, refl, sym, ◌∙◌, inl, inr, arith, subst}
+use Rattle.std.proofs.Common.{◌≡◌, ◌≢◌, ℕ, zero, suc, ◌+◌, ◌≤◌, None, Some, Option, IsSome, refl, sym, ◌∙◌, inl, inr, arith, subst}
 use Rattle.art_nodes.proofs.Common.{Name, InnerNode}
 use Rattle.art_nodes.specs.declared.kind.NodeType.{NodeType}
 use Rattle.art_nodes.specs.declared.kind.NodeType.TheVariants.{Leaf}
-use Rattle.art_arena.proofs.Common.{Arena, Held, inner_held, as_inner, held_as, held_at, Allocates, SameNodes, HasRoom, UpdatesAt, same_name_tells}
+use Rattle.art_arena.proofs.Common.{Arena, Held, inner_held, as_inner, held_as, held_at, Allocates, SameNodes, FreesRoomOf, HasRoom, HasRoomOf, KeepsRoomOf, UsesRoomOf, UpdatesAt, same_kind_tells, same_name_tells}
 
 module _ {K V : Type 0} where
   -- room for more is room for fewer
@@ -17,6 +17,20 @@ module _ {K V : Type 0} where
   undone old made still new n node allocates same removed m = elim (same_name_tells m n) [
     | inl is ↦ subst (λ x. held_at new x ≡ held_at old x) (sym is.1) (removed.changed ∙ sym allocates.vacant)
     | inr other ↦ removed.others m other.1 ∙ same m ∙ allocates.updates.others m other.1
+  ]
+
+  -- and leaves the room for leaves as it was
+  leaf_room : (old made still new : Arena K V) → UsesRoomOf Leaf old made → KeepsRoomOf made still → FreesRoomOf Leaf still new → HasRoomOf new Leaf 1 → (n : ℕ) → HasRoomOf old Leaf n → HasRoomOf new Leaf n
+  leaf_room old made still new uses keeps frees one zero room = omega (arith, one)
+  leaf_room old made still new uses keeps frees one (suc n) room =
+      let more : HasRoomOf old Leaf (n + 1) = omega (arith, room) in
+      frees n (keeps Leaf n (uses.own n more))
+
+  -- a leaf that was made and taken out again leaves the room of each kind as it was
+  pub undone_room : (old made still new : Arena K V) → UsesRoomOf Leaf old made → KeepsRoomOf made still → KeepsRoomOf still new → FreesRoomOf Leaf still new → HasRoomOf new Leaf 1 → KeepsRoomOf old new
+  undone_room old made still new uses keeps back frees one kind n room = elim (same_kind_tells kind Leaf) [
+    | inl is ↦ subst (λ k. HasRoomOf new k n) (sym is.1) (leaf_room old made still new uses keeps frees one n (subst (λ k. HasRoomOf old k n) is.1 room))
+    | inr other ↦ back kind n (keeps kind n (uses.others kind other.1 n room))
   ]
 
   of_inner : (o : Option InnerNode) → IsSome (as_inner {K = K} {V = V} o) → (n : InnerNode) × (as_inner {K = K} {V = V} o ≡ Some (inner_held n))

@@ -1,16 +1,17 @@
 -- Where the leaves between two bounds begin and end: at the first one from the start on, and at the last one up to the
 -- end, unless the first is past the end.
-use Rattle.std.proofs.Common.{◌≡◌, ℕ, Bool, true, false, cond, not, List, [], ◌∷◌, Some, None, IsSome, refl, sym, ap, subst, ◌∙◌, inl, inr}
+use Rattle.std.proofs.Common.{◌≡◌, ℕ, suc, filter, Bool, true, false, cond, not, List, [], ◌∷◌, Some, None, IsSome, refl, sym, ap, subst, ◌∙◌, inl, inr}
 use Rattle.std.specs.List.{AllByRecursion}
 use Rattle.std.specs.BTreeMap.Range.{is_from_start, is_past_end, range_contains}
 use Rattle.std.specs.declared.ops.Bound.{Bound}
 use Rattle.art_bytes.proofs.Common.{IsBefore, bytes_cmp}
 use Rattle.art_nodes.proofs.Common.{Name}
 use Rattle.art_nodes.specs.declared.leaf.LeafNode.{LeafNode}
-use Rattle.art_arena.proofs.Common.{Arena, leaf_held, held_at, node_at, pair, leaf_name, leaf_where, passing, first_slot, last_slot, Shape, LeafAt, leaves, Stores, IsIn, AscendsByKey, leaves_are_held, holds_pair, all_at, all_weaker}
-use Rattle.art_operations.proofs.Terms.{AreEndsWhere}
+use Rattle.art_arena.proofs.Common.{Arena, leaf_held, held_at, node_at, pair, leaf_name, leaf_where, passing, first_slot, last_slot, Shape, LeafAt, leaves, erase, items, items-erase, key_of, pairs_of, Stores, IsIn, AscendsByKey, leaves_are_held, holds_pair, all_at, all_weaker}
+use Rattle.art_operations.proofs.Terms.{AreEndsWhere, bound_reads, end_reads}
 use Rattle.art_operations.proofs.KeyedLists.{none-pass}
 use Rattle.art_operations.proofs.LeafPairs.{pairs_ascend}
+use Rattle.art_operations.proofs.WayParts.{passing-items}
 use Rattle.art_operations.proofs.Stretches.{from_later, leaves_ascend, past_later}
 
 module _ {K V : Type 0} where
@@ -54,6 +55,7 @@ module _ {K V : Type 0} (bytes : K → List ℕ) (start end : Bound (List ℕ)) 
     pub among : IsIn leaf ls
     pub behind : AllByRecursion (λ (r : LeafAt K V). IsBefore (bytes leaf.key) (bytes r.key)) others
     pub inside : Between ls ≡ UpTo (leaf ∷ others)
+    pub from : (more : List (LeafAt K V)) × (passing bytes (λ k. is_from_start bytes_cmp start k) ls ≡ leaf ∷ more)
     pub last : is_past_end bytes_cmp end (bytes leaf.key) ≡ false → last_slot None (UpTo ls) ≡ last_slot (Some leaf.slot) (UpTo others)
 
   pub starts-at : (ls : List (LeafAt K V)) (slot : ℕ) → AscendsByKey (λ (l : LeafAt K V). bytes l.key) ls → leaf_where bytes (λ k. is_from_start bytes_cmp start k) ls ≡ Some slot → StartsAt ls slot
@@ -67,6 +69,7 @@ module _ {K V : Type 0} (bytes : K → List ℕ) (start end : Bound (List ℕ)) 
         is = (let f = rw t at e in cc);
         among = inl refl;
         behind = up.0;
+        from = (passing bytes (λ k. is_from_start bytes_cmp start k) ls, rw t refl);
         inside = all-from (l ∷ ls) (t, all_weaker _ _ (λ r b. from_later start (bytes l.key) (bytes r.key) b t) ls up.0);
         last = λ off. rw off refl;
       }
@@ -79,6 +82,7 @@ module _ {K V : Type 0} (bytes : K → List ℕ) (start end : Bound (List ℕ)) 
             among = inr later.among;
             behind = later.behind;
             inside = rw t later.inside;
+            from = (later.from.0, rw t later.from.1);
             last = λ off. last-kept (not (is_past_end bytes_cmp end (bytes l.key))) l (UpTo ls) later.leaf.slot (UpTo later.others) (later.last off);
           }
 
@@ -118,3 +122,27 @@ module _ {K V : Type 0} (bytes : K → List ℕ) (P : ℕ) (arena : Arena K V) (
 
     pub key-read : (key : List ℕ) → ((l : LeafNode K V) → held_at arena (leaf_name slot) ≡ Some (leaf_held l) → key ≡ bytes l.key) → key ≡ bytes first-from.leaf.key
     key-read key told = let h = holds_pair (held_at arena (leaf_name slot)) first-from.leaf.key first-from.leaf.value there in told h.leaf h.is ∙ ap bytes h.key
+
+-- what is read for the second end, by whether a leaf is from the start on, and by how its key meets the end
+module _ {K V : Type 0} (bytes : K → List ℕ) (P : ℕ) (start end : Bound (List ℕ)) (s : Shape K V) where
+  abbrev pub behind_reads : ℕ
+  behind_reads = end_reads (key_of bytes) P (erase s) end (filter (λ x. is_from_start bytes_cmp start (key_of bytes x)) (items (erase s)))
+
+  listed : (ls : List (LeafAt K V)) → passing bytes (λ k. is_from_start bytes_cmp start k) (leaves s) ≡ ls → behind_reads ≡ end_reads (key_of bytes) P (erase s) end (pairs_of ls)
+  listed ls is =
+      ap (λ xs. end_reads (key_of bytes) P (erase s) end (filter (λ x. is_from_start bytes_cmp start (key_of bytes x)) xs)) (items-erase s)
+      ∙ ap (end_reads (key_of bytes) P (erase s) end) (passing-items bytes (λ k. is_from_start bytes_cmp start k) (leaves s) ∙ ap pairs_of is)
+
+  pub behind-none : leaf_where bytes (λ k. is_from_start bytes_cmp start k) (leaves s) ≡ None → behind_reads ≡ 0
+  behind-none none = listed [] (empty (passing bytes (λ k. is_from_start bytes_cmp start k) (leaves s)) none)
+    where
+      empty : (ls : List (LeafAt K V)) → first_slot ls None ≡ None → ls ≡ []
+      empty [] e = refl
+      empty (l ∷ ls) e = absurd (cc)
+
+  module _ (slot : ℕ) (at : StartsAt bytes start end (leaves s) slot) where
+    pub behind-past : is_past_end bytes_cmp end (bytes at.leaf.key) ≡ true → behind_reads ≡ 1
+    behind-past past = listed (at.leaf ∷ at.from.0) at.from.1 ∙ rw past refl
+
+    pub behind-found : is_past_end bytes_cmp end (bytes at.leaf.key) ≡ false → behind_reads ≡ suc (bound_reads P false (erase s) end)
+    behind-found off = listed (at.leaf ∷ at.from.0) at.from.1 ∙ rw off refl

@@ -1,5 +1,5 @@
 -- Pairs among which a key's place was searched: what the end of the search tells of them.
-use Rattle.std.proofs.Common.{◌≡◌, ℕ, List, Option, Some, refl, subst}
+use Rattle.std.proofs.Common.{◌≡◌, ℕ, List, Option, None, Some, refl, subst}
 use Rattle.art_bytes.proofs.Common.{BeginsWith}
 use Rattle.art_nodes.proofs.Common.{Name}
 use Rattle.art_arena.proofs.Common.{Arena, node_at, Cell, OnWayTo, Shape, key_of, leaves, steps_of, Stores, StoresAt, AscendsByKey}
@@ -19,6 +19,14 @@ something-met name (way.PartsFromLeaf parted) free = (_, refl)
 something-met name (way.PartsFromPrefix parted) free = (_, refl)
 something-met name (way.NoChild byte) free = (_, refl)
 something-met name way.Conflict free = absurd (free refl)
+
+-- and where it meets nothing, there is one
+pub conflicts : (name : Name) (end : Way) → met_by name end ≡ None → end ≡ way.Conflict
+conflicts name way.Conflict none = refl
+conflicts name way.Same none = absurd (cc)
+conflicts name (way.PartsFromLeaf parted) none = absurd (cc)
+conflicts name (way.PartsFromPrefix parted) none = absurd (cc)
+conflicts name (way.NoChild byte) none = absurd (cc)
 
 module _ {K V : Type 0} (bytes : K → List ℕ) (P : ℕ) (arena : Arena K V) (root : Option Name) (top : Name) (root_is : root ≡ Some top) (key : List ℕ) (stop : Stop) (end : Way)
     (on : (s : Shape K V) → Stores bytes P arena top s → OnWayTo bytes P (node_at arena) key s stop.node (steps_of stop.path) stop.depth)

@@ -1,9 +1,9 @@
 -- Where the search for a key's place ended below a root, told of the whole tree.
-use Rattle.std.proofs.Common.{◌≡◌, ℕ, List, Option, Some, None, IfErr, refl, sym, subst}
+use Rattle.std.proofs.Common.{◌≡◌, ℕ, List, drop, length, Option, Some, None, IfErr, refl, sym, subst}
 use Rattle.art_bytes.proofs.Common.{BeginsWith}
 use Rattle.art_nodes.proofs.Common.{Name}
-use Rattle.art_arena.proofs.Common.{Arena, node_at, path_to, OnWayTo, Shape, leaves, steps_of, Stores, StoresAt, free, conflict, IsSubtree, Step, StoresBelow, place-subtree}
-use Rattle.art_operations.proofs.Terms.{AllConflict, HasConflict, IsInTheWay, IsPoint, NoConflict, IsEndAt, IsPlaceAt, answer_at, point_at, InsertKind}
+use Rattle.art_arena.proofs.Common.{Arena, node_at, path_to, OnWayTo, Shape, erase, leaves, steps_of, Stores, StoresAt, free, conflict, IsSubtree, Step, StoresBelow, place-subtree}
+use Rattle.art_operations.proofs.Terms.{AllConflict, EndsInside, HasConflict, IsInTheWay, IsPoint, NoConflict, IsEndAt, IsPlaceAt, answer_at, point_at, InsertKind}
 use Rattle.art_operations.specs.Points.{IsPlaceOrConflict}
 use Rattle.art_operations.specs.declared.insert.point.Stop.{Stop}
 use Rattle.art_operations.proofs.Points.{way_at_depth, some_conflict}
@@ -54,6 +54,18 @@ module _ {K V : Type 0} (bytes : K → List ℕ) (P : ℕ) (arena : Arena K V) (
   pub refused : (end : Option InsertKind) → EndsThere end → IfErr (answer_at root stop end) (λ e. (s : Shape K V) → Stores bytes P arena root s → IsInTheWay bytes key s e.root e.part (steps_of e.path))
   refused (Some met) is = tt
   refused None is = λ s tree. in-the-way bytes P arena root key stop s tree (on s tree) is
+
+  -- a conflict where the key ends within a prefix
+  pub inside : (met : Option InsertKind) → EndsThere met → (met ≡ None → (path : List ℕ) (part : Shape K V) → StoresAt bytes P arena stop.node stop.depth path part → EndsInside (erase part) (drop stop.depth key))
+      → IfErr (answer_at root stop met) (λ e. (s : Shape K V) → Stores bytes P arena root s → (there : IsInTheWay bytes key s e.root e.part (steps_of e.path)) × EndsInside (erase there.part) (drop (length (path_to there.ctx)) key))
+  unfolding in-the-way
+  inside (Some met) is ends = tt
+  inside None is ends = λ s tree.
+      let way = on s tree in (
+        in-the-way bytes P arena root key stop s tree way is,
+        subst (λ d. EndsInside (erase way.part) (drop d key)) (sym way.toward.depth_is)
+            (ends refl (path_to way.ctx) way.part (way_at_depth bytes P (node_at arena) key s stop.node (steps_of stop.path) stop.depth way)),
+      )
 
 -- the part in the way of a key stands in an arena that is as it was
 pub way_part : {K V : Type 0} (bytes : K → List ℕ) (P : ℕ) (key : List ℕ) (old new : Arena K V) → new ≡ old → (root name : Name) (s : Shape K V) {top : Name} {last : List Step} → Stores bytes P old root s → (way : IsInTheWay bytes key s top name last)

@@ -11,7 +11,7 @@ pub use Rattle.art_operations.specs.LeafCursors.{HasInserted, HasMoved, HasPutIn
 pub use Rattle.art_operations.specs.LeafNames.{HasKeyAt, HasLeavesOf, KeepsLeavesOf}
 pub use Rattle.art_operations.specs.Meetings.{PartAt}
 pub use Rattle.art_operations.specs.NodeCounts.{node_count, nodes_counted}
-pub use Rattle.art_operations.specs.Openings.{ForLongest, OpeningReads, PlaceReads, ReadsAtLeast, SpanReads}
+pub use Rattle.art_operations.specs.Openings.{ForLongest, OpeningReads, PlaceReads, ReadsAtLeast, ReadsExactly, SpanReads, beside_reads, bound_reads, end_reads, ends_reads, first_above, near_reads, part_reads, place_reads, range_reads}
 pub use Rattle.art_operations.specs.Overwrites.{AreRemoved, IsExact, IsOverwrittenBeside, IsPrefixPoint, removed_by, root_at, steps_at}
 pub use Rattle.art_operations.specs.Pairs.{CanPut, CanPutOver, HasCut, HasPairs, HasPairsBeside, HasPairsWhere, HasPut, HasPutOver, HasTaken, HasTakenEnd, IsAtEnd, IsPlaceFor, IsPlaced, IsSubtreeFor, ShrinksAtEnd, pair_in, with_pair_over, with_pair_put}
 pub use Rattle.art_operations.specs.Points.{AllConflict, HasConflict, IsInTheWay, IsPoint, MeetsAt, NoConflict}
@@ -49,4 +49,4 @@ pub use Rattle.art_operations.specs.inner.Spines.{AddsChild, AreOpen, HasSpine, 
 pub use Rattle.art_operations.specs.inner.Splits.{IsBetween, IsEnd, PartsFrom, root_cell, split_node, trimmed, with_prefix}
 pub use Rattle.art_operations.specs.inner.Unmade.{HasRoomAround, kind_over, noted_before, one_of, unmade}
 pub use Rattle.art_operations.specs.inner.Waiting.{AreNeighbours, AwaitsLeaf}
-pub use Rattle.art_operations.specs.inner.Ways.{IsWayAtInner, IsWayAtLeaf, IsEndAt, IsPlaceAt, IsWay, answer_at, met_by, point_at}
+pub use Rattle.art_operations.specs.inner.Ways.{EndsInside, IsWayAtInner, IsWayAtLeaf, IsEndAt, IsPlaceAt, IsWay, answer_at, met_by, point_at}

@@ -1,6 +1,6 @@
 //! The leaves that a bound or a prefix selects.
-ghost use Rattle.std.specs.Prelude.{◌≡◌, ℕ, ◌+◌, ◌*◌, ◌≤◌, ◌++◌, ◌∷◌, [], List, drop, if◌then◌else◌, length};
-ghost use Rattle.std.specs.Prelude.{None, Some, IfSome};
+ghost use Rattle.std.specs.Prelude.{◌≡◌, ℕ, suc, ◌+◌, ◌*◌, ◌≤◌, ◌++◌, ◌∷◌, [], List, drop, if◌then◌else◌, length};
+ghost use Rattle.std.specs.Prelude.{nat_lt, None, Some, IfSome, MatchOption};
 ghost use Rattle.std.specs.BTreeMap.Range.{is_past_end, range_contains};
 ghost use Rattle.std.specs.Range.Bound.{bound_map};
 ghost use Rattle.art_bytes.specs.Keys.{BeginsWith, bytes_cmp};
@@ -8,12 +8,17 @@ ghost use Rattle.art_nodes.specs.InnerNode.{child_at};
 ghost use Rattle.art_arena.specs.arena.Arena.{links_at};
 ghost use Rattle.art_arena.specs.arena.Descents.{passing};
 ghost use Rattle.art_arena.specs.arena.Linked.{AreLinked};
-ghost use Rattle.art_arena.specs.arena.Shapes.{Branches, Shape, children_at, inner_at, leaves, leaves_in};
+ghost use Rattle.art_arena.specs.arena.Shapes.{Branches, Shape, children_at, erase, erase_in, inner_at};
+ghost use Rattle.art_arena.specs.arena.Shapes.{key_of, leaves, leaves_in};
+ghost use Rattle.art_arena.specs.declared.ends.End.TheVariants.{First, Last};
+ghost use Rattle.art_arena.specs.tree.Ways.{end_path, way_end};
 ghost use Rattle.art_arena.specs.arena.Stores.{Stores, StoresBelow};
 ghost use Rattle.art_arena.specs.tree.Tenants.{begins_with};
 ghost use Rattle.art_operations.specs.Bounds.{AreEndsWhere, slot_inside};
 ghost use Rattle.art_operations.specs.Meetings.{PartAt};
-ghost use Rattle.art_operations.specs.Openings.{EndReads, ForLongest, ReadsAtLeast, SpanReads};
+ghost use Rattle.art_operations.specs.Openings.{EndReads, ForLongest, ReadsAtLeast, ReadsExactly, SpanReads};
+ghost use Rattle.art_operations.specs.Openings.{beside_reads, bound_reads, first_above, near_reads, part_reads};
+ghost use Rattle.art_operations.specs.Openings.{place_reads, range_reads};
 ghost use Rattle.art_operations.specs.Points.{AllConflict, IsPoint};
 ghost use Rattle.art_operations.specs.declared.insert.point.InsertKind.TheVariants as kind;
 ghost use Rattle.art_operations.specs.inner.Nearest.{IsNearest, bound_at, takes};
@@ -69,6 +74,9 @@ pub fn find_leaf_pointer_for_bound_with<K: AsBytes, V, const PREFIX_LEN: usize>(
         (λ s. AreLinked (links_at reader.old.arena.now) None (leaves s) None
         → result ≡ slot_inside K.bytes is_start (bound_map (λ key. key.now) bound.entry) (leaves s)) }
     ensures kept { reader.new.arena.now ≡ reader.old.arena.now }
+    ensures counts { OfTree K.bytes PREFIX_LEN reader.old.arena.now root (λ s. ReadsExactly
+        (bound_reads PREFIX_LEN is_start (erase s) (bound_map (λ key. key.now) bound.entry)) reader.old.count
+        reader.new.count) }
     ensures least { ReadsAtLeast 1 reader.old.count reader.new.count }
     ensures few { OfTree K.bytes PREFIX_LEN reader.old.arena.now root (λ s. ForLongest K.bytes s
         (λ longest. EndReads longest reader.old.count reader.new.count)) }
@@ -99,6 +107,9 @@ fn leaf_inside<K: AsBytes, V, const PREFIX_LEN: usize>(
         (λ s. AreLinked (links_at reader.old.arena.now) None (leaves s) None
         → result ≡ slot_inside K.bytes is_start (bound_at includes key.now) (leaves s)) }
     ensures kept { reader.new.arena.now ≡ reader.old.arena.now }
+    ensures counts { OfTree K.bytes PREFIX_LEN reader.old.arena.now root
+        (λ s. ReadsExactly (suc (place_reads PREFIX_LEN (erase s) key.now + near_reads (way_end (erase s) key.now)))
+        reader.old.count reader.new.count) }
     ensures least { ReadsAtLeast 1 reader.old.count reader.new.count }
     ensures few { OfTree K.bytes PREFIX_LEN reader.old.arena.now root (λ s. ForLongest K.bytes s
         (λ longest. EndReads longest reader.old.count reader.new.count)) }
@@ -152,6 +163,9 @@ fn nearest_leaf<K: AsBytes, V, const PREFIX_LEN: usize>(
     ensures nearest { OfTree K.bytes PREFIX_LEN reader.old.arena.now root
         (λ s. IsNearest K.bytes key.now (leaves s) result.leaf result.order) }
     ensures kept { reader.new.arena.now ≡ reader.old.arena.now }
+    ensures counts { OfTree K.bytes PREFIX_LEN reader.old.arena.now root
+        (λ s. ReadsExactly (place_reads PREFIX_LEN (erase s) key.now + near_reads (way_end (erase s) key.now))
+        reader.old.count reader.new.count) }
     ensures least { ReadsAtLeast 1 reader.old.count reader.new.count }
     ensures few { OfTree K.bytes PREFIX_LEN reader.old.arena.now root (λ s. ForLongest K.bytes s
         (λ longest. reader.new.count ≤ reader.old.count + (3 * longest + 4))) }
@@ -177,6 +191,8 @@ fn nearest_at<K: AsBytes, V, const PREFIX_LEN: usize>(
     ensures nearest { OfTree K.bytes PREFIX_LEN reader.old.arena.now root (λ s. IsPoint K.bytes key.now s point
         → IsNearest K.bytes key.now (leaves s) result.leaf result.order) }
     ensures kept { reader.new.arena.now ≡ reader.old.arena.now }
+    ensures counts { OfTree K.bytes PREFIX_LEN reader.old.arena.now root (λ s. IsPoint K.bytes key.now s point
+        → ReadsExactly (near_reads (way_end (erase s) key.now)) reader.old.count reader.new.count) }
     ensures least { ReadsAtLeast 1 reader.old.count reader.new.count }
     ensures few { OfTree K.bytes PREFIX_LEN reader.old.arena.now root (λ s. IsPoint K.bytes key.now s point
         → ForLongest K.bytes s (λ longest. reader.new.count ≤ reader.old.count + (longest + 2))) }
@@ -225,6 +241,9 @@ fn nearest_parted<K: AsBytes, V, const PREFIX_LEN: usize>(
         → BeginsWith path key → PartAt prefix (drop (length path) key) parted
         → IsNearest K.bytes key (leaves_in kids) result.leaf result.order }
     ensures kept { reader.new.arena.now ≡ reader.old.arena.now }
+    ensures counts { OfEach (StoresBelow K.bytes PREFIX_LEN reader.old.arena.now node) (λ path s. ReadsExactly
+        (length (end_path (if nat_lt parted.new_byte parted.old_byte then First else Last) (erase s))) reader.old.count
+        reader.new.count) }
     ensures least { ReadsAtLeast 1 reader.old.count reader.new.count }
     ensures few { OfEach (StoresBelow K.bytes PREFIX_LEN reader.old.arena.now node)
         (λ path s. ForLongest K.bytes s (λ longest. reader.new.count ≤ reader.old.count + (longest + 1))) }
@@ -255,6 +274,11 @@ fn nearest_child<K: AsBytes, V, const PREFIX_LEN: usize>(
         → child_at (children_at kids) byte ≡ None → BeginsWith ((path ++ prefix) ++ byte ∷ []) key
         → IsNearest K.bytes key (leaves_in kids) result.leaf result.order }
     ensures kept { reader.new.arena.now ≡ reader.old.arena.now }
+    ensures counts { (path : List ℕ) (prefix : List ℕ) (kids : Branches K V)
+        → StoresBelow K.bytes PREFIX_LEN reader.old.arena.now node path (inner_at node prefix kids)
+        → child_at (children_at kids) byte ≡ None → ReadsExactly
+        (beside_reads (erase (inner_at node prefix kids)) (first_above byte (erase_in kids))) reader.old.count
+        reader.new.count }
     ensures least { ReadsAtLeast 1 reader.old.count reader.new.count }
     ensures few { (path : List ℕ) (prefix : List ℕ) (kids : Branches K V)
         → StoresBelow K.bytes PREFIX_LEN reader.old.arena.now node path (inner_at node prefix kids)
@@ -320,6 +344,10 @@ pub fn find_range_segment_with<K: AsBytes, V, const PREFIX_LEN: usize>(
         → AreEndsWhere K.bytes (λ k. range_contains bytes_cmp (bound_map (λ key. key.now) start.entry)
         (bound_map (λ key. key.now) end.entry) k) (leaves s) result) }
     ensures kept { reader.new.arena.now ≡ reader.old.arena.now }
+    ensures counts { OfTree K.bytes PREFIX_LEN reader.old.arena.now root
+        (λ s. AreLinked (links_at reader.old.arena.now) None (leaves s) None → ReadsExactly
+        (range_reads (key_of K.bytes) PREFIX_LEN (erase s) (bound_map (λ key. key.now) start.entry)
+        (bound_map (λ key. key.now) end.entry)) reader.old.count reader.new.count) }
     ensures least { ReadsAtLeast 1 reader.old.count reader.new.count }
     ensures few { OfTree K.bytes PREFIX_LEN reader.old.arena.now root (λ s. ForLongest K.bytes s
         (λ longest. SpanReads longest reader.old.count reader.new.count)) }
@@ -365,6 +393,8 @@ pub fn find_prefix_segment_with<K: AsBytes, V, const PREFIX_LEN: usize>(
     ensures value { OfTree K.bytes PREFIX_LEN reader.old.arena.now root
         (λ s. AreEndsWhere K.bytes (λ k. begins_with prefix.now k) (leaves s) result) }
     ensures kept { reader.new.arena.now ≡ reader.old.arena.now }
+    ensures counts { OfTree K.bytes PREFIX_LEN reader.old.arena.now root (λ s. ReadsExactly
+        (part_reads (key_of K.bytes) PREFIX_LEN (erase s) prefix.now) reader.old.count reader.new.count) }
     ensures least { ReadsAtLeast 1 reader.old.count reader.new.count }
     ensures few { OfTree K.bytes PREFIX_LEN reader.old.arena.now root (λ s. ForLongest K.bytes s
         (λ longest. SpanReads longest reader.old.count reader.new.count)) }
@@ -389,6 +419,10 @@ pub(crate) fn segment_at<K: AsBytes, V, const PREFIX_LEN: usize>(
         (λ path s. AllConflict K.bytes prefix.now (leaves s)
         → passing K.bytes (λ k. begins_with prefix.now k) (leaves s) ≡ leaves s)) }
     ensures kept { reader.new.arena.now ≡ reader.old.arena.now }
+    ensures counts { OfEach (StoresBelow K.bytes PREFIX_LEN reader.old.arena.now part) (λ path s. MatchOption result
+        (ReadsExactly (length (end_path First (erase s))) reader.old.count reader.new.count)
+        (λ ends. ReadsExactly (length (end_path First (erase s)) + length (end_path Last (erase s))) reader.old.count
+        reader.new.count)) }
     ensures least { ReadsAtLeast 1 reader.old.count reader.new.count }
     ensures few { OfEach (StoresBelow K.bytes PREFIX_LEN reader.old.arena.now part)
         (λ path s. ForLongest K.bytes s (λ longest. reader.new.count ≤ reader.old.count + 2 * (longest + 1))) }

@@ -1,12 +1,14 @@
 //! The first and the last leaf below a node.
 ghost use Rattle.std.specs.Prelude.{◌≡◌, ◌+◌, ◌≤◌, Some, None, drop, length};
-ghost use Rattle.art_arena.specs.arena.Shapes.{leaves};
+ghost use Rattle.art_arena.specs.arena.Shapes.{erase, leaves};
 ghost use Rattle.art_arena.specs.arena.Linked.{first_slot, last_slot};
 ghost use Rattle.art_arena.specs.arena.Stores.{StoresBelow};
 ghost use Rattle.art_nodes.specs.declared.leaf.LeafNode.{LeafNode};
 ghost use Rattle.art_operations.specs.Held.{HasLeaf};
 ghost use Rattle.art_operations.specs.Lookups.{ReadsPath};
-ghost use Rattle.art_operations.specs.Openings.{ForLongest, ReadsAtLeast};
+ghost use Rattle.art_operations.specs.Openings.{ForLongest, ReadsAtLeast, ReadsExactly};
+ghost use Rattle.art_arena.specs.declared.ends.End.TheVariants.{First, Last};
+ghost use Rattle.art_arena.specs.tree.Ways.{end_path};
 ghost use Rattle.art_operations.specs.Whichever.{HasSome, OfEach};
 
 use art_arena::{ArenaReader, End, LeafPtr, NodeArena, end_leaf_with};
@@ -53,6 +55,8 @@ pub fn minimum_with<K: AsBytes, V, const PREFIX_LEN: usize>(
     ensures counts { OfEach (StoresBelow K.bytes PREFIX_LEN reader.old.arena.now root)
         (λ path s. (l : LeafNode K V) → HasLeaf reader.old.arena.now result l
         → ReadsPath (drop (length path) (K.bytes l.key)) s reader.old.count reader.new.count) }
+    ensures exact { OfEach (StoresBelow K.bytes PREFIX_LEN reader.old.arena.now root)
+        (λ path s. ReadsExactly (length (end_path First (erase s))) reader.old.count reader.new.count) }
     ensures least { ReadsAtLeast 1 reader.old.count reader.new.count }
     ensures few { OfEach (StoresBelow K.bytes PREFIX_LEN reader.old.arena.now root)
         (λ path s. ForLongest K.bytes s (λ longest. reader.new.count ≤ reader.old.count + (longest + 1))) }
@@ -74,6 +78,8 @@ pub fn maximum_with<K: AsBytes, V, const PREFIX_LEN: usize>(
     ensures counts { OfEach (StoresBelow K.bytes PREFIX_LEN reader.old.arena.now root)
         (λ path s. (l : LeafNode K V) → HasLeaf reader.old.arena.now result l
         → ReadsPath (drop (length path) (K.bytes l.key)) s reader.old.count reader.new.count) }
+    ensures exact { OfEach (StoresBelow K.bytes PREFIX_LEN reader.old.arena.now root)
+        (λ path s. ReadsExactly (length (end_path Last (erase s))) reader.old.count reader.new.count) }
     ensures least { ReadsAtLeast 1 reader.old.count reader.new.count }
     ensures few { OfEach (StoresBelow K.bytes PREFIX_LEN reader.old.arena.now root)
         (λ path s. ForLongest K.bytes s (λ longest. reader.new.count ≤ reader.old.count + (longest + 1))) }

@@ -1,7 +1,7 @@
 //! Insertion and deletion, told by the pairs that an arena has: commands and maps stand on these.
-ghost use Rattle.std.specs.Prelude.{◌≡◌, ◌+◌, List, [], Some, None, IfErr, IfOk, IfSome, IsOk, OnErr, OnOk};
+ghost use Rattle.std.specs.Prelude.{◌≡◌, ◌+◌, List, [], Some, None, IfErr, IfNone, IfOk, IfSome, IsOk, OnErr, OnOk};
 ghost use Rattle.art_nodes.specs.Name.{Name};
-ghost use Rattle.art_arena.specs.arena.Arena.{node_at, HasRoom, KeepsNodes, SameNodes, UsesRoom};
+ghost use Rattle.art_arena.specs.arena.Arena.{node_at, HasRoom, KeepsNodes, KeepsRoomOf, SameNodes, UsesRoom};
 ghost use Rattle.art_arena.specs.arena.Cells.{Cell, HoldsOnly};
 ghost use Rattle.art_arena.specs.arena.Shapes.{key_of};
 ghost use Rattle.art_arena.specs.tree.Shrinks.{Shrinks};
@@ -66,6 +66,7 @@ fn put_first<K: AsBytes, V, const PREFIX_LEN: usize>(
     ensures handed_back { HandsPairBack key value result }
     ensures succeeds { HasRoom arena.old 1 → IsOk result }
     ensures room { UsesRoom 1 arena.old arena.new }
+    ensures kept_room { OnErr result (KeepsRoomOf arena.old arena.new) }
 {
     let leaf = store_leaf(arena, key, value)?;
     Ok(InsertResult {
@@ -99,6 +100,9 @@ pub fn put_pair<K: AsBytes, V, const PREFIX_LEN: usize>(
     ensures handed_back { HandsPairBack key value result }
     ensures succeeds { HasRoom arena.old 2 → IsOk result }
     ensures room { UsesRoom 2 arena.old arena.new }
+    ensures kept_room { OnErr result (KeepsRoomOf arena.old arena.new) }
+    ensures stored_room { OfEach (CanPut K.bytes PREFIX_LEN arena.old place (K.bytes key))
+        (λ pairs rest. HasKey (key_of K.bytes) (K.bytes key) pairs → KeepsRoomOf arena.old arena.new) }
 {
     match place {
         Some(point) => point.apply(arena, key, value),
@@ -144,6 +148,9 @@ pub fn insert_pair<K: AsBytes, V, const PREFIX_LEN: usize>(
         (λ pairs rest. IsPairRefused key value (IsBlocked (key_of K.bytes) (K.bytes key) pairs) e)) }
     ensures succeeds { IfErr result (λ e. HasRoom arena.old 2 → IsForConflict e) }
     ensures room { UsesRoom 2 arena.old arena.new }
+    ensures kept_room { OnErr result (KeepsRoomOf arena.old arena.new) }
+    ensures stored_room { OfEach (HasPairsBeside K.bytes PREFIX_LEN arena.old root)
+        (λ pairs rest. HasKey (key_of K.bytes) (K.bytes key) pairs → KeepsRoomOf arena.old arena.new) }
 {
     let Some(top) = root else {
         return match put_first(arena, key, value) {
@@ -204,6 +211,9 @@ pub fn put_over<K: AsBytes + Drop, V: Drop, const PREFIX_LEN: usize>(
     ensures handed_back { HandsPairBack key value result }
     ensures succeeds { HasRoom arena.old 2 → IsOk result }
     ensures room { UsesRoom 2 arena.old arena.new }
+    ensures kept_room { OnErr result (KeepsRoomOf arena.old arena.new) }
+    ensures stored_room { OfEach (CanPutOver K.bytes PREFIX_LEN arena.old place (K.bytes key))
+        (λ pairs rest. HasKey (key_of K.bytes) (K.bytes key) pairs → KeepsRoomOf arena.old arena.new) }
 {
     match place {
         Some(over) => over.apply(arena, key, value),
@@ -237,6 +247,8 @@ pub fn take_pair<K: AsBytes, V, const PREFIX_LEN: usize>(
         (λ pairs rest. HasKey (key_of K.bytes) key.now pairs × Shrinks (key_of K.bytes) pairs key.now)) }
     ensures succeeds { HasRoom arena.old 1 → IsOk result }
     ensures room { UsesRoom 1 arena.old arena.new }
+    ensures kept_room { OnErr result (KeepsRoomOf arena.old arena.new) }
+    ensures none_room { IfOk result (λ taken. IfNone taken (KeepsRoomOf arena.old arena.new)) }
 {
     let Some(top) = root else {
         return Ok(None);
@@ -273,6 +285,8 @@ pub fn take_end<K: AsBytes, V, const PREFIX_LEN: usize>(
         (λ pairs rest. ShrinksAtEnd K.bytes end pairs)) }
     ensures succeeds { HasRoom arena.old 1 → IsOk result }
     ensures room { UsesRoom 1 arena.old arena.new }
+    ensures kept_room { OnErr result (KeepsRoomOf arena.old arena.new) }
+    ensures none_room { IfOk result (λ taken. IfNone taken (KeepsRoomOf arena.old arena.new)) }
 {
     let Some(top) = root else {
         return Ok(None);

@@ -1,5 +1,5 @@
 -- Many keys that are put in, one after another.
-use Rattle.std.proofs.Common.{◌≡◌, ℕ, List, [], ◌∷◌, ◌++◌, map, Option, Some, Ok, Err, Result, IfErr, IfOk, MatchResult, refl, sym, ap, ap₂, subst, ◌∙◌, map-id}
+use Rattle.std.proofs.Common.{◌≡◌, ℕ, suc, ◌*◌, length, List, [], ◌∷◌, ◌++◌, map, Option, Some, Ok, Err, Result, IfErr, IfOk, MatchResult, refl, sym, ap, ap₂, subst, ◌∙◌, map-id}
 use Rattle.std.specs.Iterator.{Drains, Yields, YieldsThen}
 use Rattle.std.specs.Map.{keys_of}
 use Rattle.std.specs.Result.{IsErrAnd}
@@ -14,13 +14,15 @@ use Rattle.art_map.proofs.Common.{HasGathered, IsMadeOf, Contents}
 use Rattle.art_map.proofs.VecPairs.{taken-front}
 use Rattle.art_map.specs.declared.map.builder.TreeMapBuilder.{TreeMapBuilder}
 use Rattle.art_set.specs.Bulk.{ExtendsWithKeys, GathersKeysWith, HandsNextKeyBack, IsMadeOfKeys, IsKeyOfList}
+use Rattle.art_map.specs.Builders.{HasRoomLeft}
+use Rattle.art_set.specs.Members.{Members, members}
 use Rattle.art_set.proofs.Terms.{with_key_put, with_keys_put}
 use Rattle.art_set.specs.declared.set.refused.RefusedKey.{RefusedKey}
 use Rattle.art_set.proofs.Seen.{keys-put-all}
 
 -- the keys of a map, or the key that is handed back
-abbrev pub set_of : {K : Type 0} → Result (Contents K (Unit {0})) (InsertRefused K (Unit {0})) → Result (List K) (RefusedKey K)
-set_of (Ok made) = Ok (keys_of made.pairs)
+abbrev pub set_of : {K : Type 0} → Result (Contents K (Unit {0})) (InsertRefused K (Unit {0})) → Result (Members K) (RefusedKey K)
+set_of (Ok made) = Ok (members made)
 set_of (Err e) = Err (record { key = e.key })
 
 keys-shown : {K A : Type 0} (key_of : A → K) (xs : List A) → keys_of (map (λ x. (key_of x, tt {0})) xs) ≡ map key_of xs
@@ -38,21 +40,28 @@ module _ {K : Type 0} (bytes : K → List ℕ) where
         → HandsNextKeyBack bytes key_of becomes steps it given e
     next-back it t u given item e k yielded step is back = (item, u, (t, yielded, step), is ∙ sym back)
 
-    pub made-refused : (iter : U) (it : S) (given : List A) (e : RefusedKey K) (r : Result (List K) (RefusedKey K)) → becomes iter it → HandsNextKeyBack bytes key_of becomes steps it given e
+    pub made-refused : (iter : U) (it : S) (given : List A) (e : RefusedKey K) (r : Result (Members K) (RefusedKey K)) → becomes iter it → HandsNextKeyBack bytes key_of becomes steps it given e
         → IsErrAnd r (λ x. x ≡ e) → IsMadeOfKeys bytes key_of becomes steps iter r
     made-refused iter it given e (Ok x) b back h = absurd h
     made-refused iter it given e (Err x) b back h = (it, given, b, subst (HandsNextKeyBack bytes key_of becomes steps it given) (sym h) back)
 
+    -- where there was room, the map in the making had it
+    had-room : {P : ℕ} (old : TreeMapBuilder K (Unit {0}) P) (HadRoom : ℕ → Type 0) (it : S) (given : List A) (r : Result (Unit {0}) (RefusedKey K)) → ((n : ℕ) → HadRoom n → HasRoomLeft old n)
+        → MatchResult r (λ _. Drains steps it given) (λ e. HandsNextKeyBack bytes key_of becomes steps it given e × (HasRoomLeft old (2 * suc (length given)) → ⊥))
+        → MatchResult r (λ _. Drains steps it given) (λ e. HandsNextKeyBack bytes key_of becomes steps it given e × (HadRoom (2 * suc (length given)) → ⊥))
+    had-room old HadRoom it given (Ok x) has outcome = outcome
+    had-room old HadRoom it given (Err e) has outcome = (outcome.0, λ room. outcome.1 (has (2 * suc (length given)) room))
+
     -- a set whose keys were gathered behind others
-    pub gather-extends : {P : ℕ} (is_key : K → Type 0) (old now : TreeMapBuilder K (Unit {0}) P) (iter : U) (r : Result (Unit {0}) (RefusedKey K)) (pairs : List (K × Unit {0})) (had new : List K)
-        → GathersKeysWith bytes key_of becomes steps is_key iter old r now → HasGathered bytes is_key old pairs → keys_of pairs ≡ had → ((all : List (K × Unit {0})) → HasGathered bytes is_key now all → new ≡ keys_of all)
-        → ExtendsWithKeys bytes key_of becomes steps iter had r new
-    gather-extends is_key old now iter r pairs had new (it, given, b, put, outcome) has same made = (
+    pub gather-extends : {P : ℕ} (is_key : K → Type 0) (old now : TreeMapBuilder K (Unit {0}) P) (iter : U) (HadRoom : ℕ → Type 0) (r : Result (Unit {0}) (RefusedKey K)) (pairs : List (K × Unit {0})) (had new : List K)
+        → GathersKeysWith bytes key_of becomes steps is_key iter old r now → ((n : ℕ) → HadRoom n → HasRoomLeft old n) → HasGathered bytes is_key old pairs → keys_of pairs ≡ had → ((all : List (K × Unit {0})) → HasGathered bytes is_key now all → new ≡ keys_of all)
+        → ExtendsWithKeys bytes key_of becomes steps iter HadRoom had r new
+    gather-extends is_key old now iter HadRoom r pairs had new (it, given, b, put, outcome) room has same made = (
       it,
       given,
       b,
       made _ (put pairs has) ∙ keys-put-all bytes (map (λ x. (key_of x, tt)) given) pairs ∙ ap₂ (with_keys_put bytes) (keys-shown key_of given) same,
-      outcome,
+      had-room old HadRoom it given r room outcome,
     )
 
     -- what comes of the map of the keys beside the unit comes of the set
@@ -67,16 +76,16 @@ module _ {K : Type 0} (bytes : K → List ℕ) where
 
 module _ {K Z : Type 0} (bytes : K → List ℕ) (it : IntoIter K Z) (given items : List K) (has : into_iter_items it ≡ items) where
   -- what comes of a set that is made of the vector's keys
-  abbrev IsMade : Result (List K) (RefusedKey K) → Type 0
+  abbrev IsMade : Result (Members K) (RefusedKey K) → Type 0
   IsMade r =
-      MatchResult r (λ made. Drains into_iter_steps it given × (made ≡ with_keys_put bytes (map (λ k. k) given) []))
+      MatchResult r (λ made. Drains into_iter_steps it given × (made.keys ≡ with_keys_put bytes (map (λ k. k) given) []))
       (λ e. (item : K) × (rest : IntoIter K Z) × YieldsThen into_iter_steps it given (Some item) rest × (item ≡ e.key))
 
-  pub vec-made : (r : Result (List K) (RefusedKey K)) → IsMade r → IfOk r (λ made. made ≡ with_keys_put bytes items [])
+  pub vec-made : (r : Result (Members K) (RefusedKey K)) → IsMade r → IfOk r (λ made. made.keys ≡ with_keys_put bytes items [])
   vec-made (Ok made) (drains, put) = put ∙ ap (λ ks. with_keys_put bytes ks []) (map-id given ∙ (All-taken it given drains ∙ has))
   vec-made (Err e) is = tt
 
-  pub vec-refused : (r : Result (List K) (RefusedKey K)) → IsMade r → IfErr r (IsKeyOfList items)
+  pub vec-refused : (r : Result (Members K) (RefusedKey K)) → IsMade r → IfErr r (IsKeyOfList items)
   vec-refused (Ok made) is = tt
   vec-refused (Err e) (item, rest, yielded, told) = (
     given,

@@ -6,13 +6,13 @@ use Rattle.std.specs.Map.{keys_of, lookup, lookup_entry}
 use Rattle.std.specs.declared.ops.Bound.{Bound}
 use Rattle.std.proofs.lemmas.List.{map-append}
 use Rattle.std.proofs.lemmas.Map.Made.{is_some-lookup}
-use Rattle.art_arena.proofs.Common.{key_of, is_before, put_in_order, AscendsByKey, Shrinks, in_map, in_unmap}
+use Rattle.art_arena.proofs.Common.{Arena, key_of, is_before, put_in_order, AscendsByKey, Shrinks, in_map, in_unmap}
 use Rattle.art_arena.proofs.tree.Paths.{all_map}
 use Rattle.art_arena.specs.declared.ends.End.{End}
 use Rattle.art_arena.specs.declared.ends.End.TheVariants.{First, Last}
 use Rattle.art_bytes.proofs.Common.{Conflict, IsBefore}
 use Rattle.art_map.proofs.Common.{with_pairs_put, has_bytes, last_item, pairs_between}
-use Rattle.art_operations.proofs.Common.{HasKey, IsBlocked, without_key, IsAtEnd, ShrinksAtEnd, with_pair_put}
+use Rattle.art_operations.proofs.Common.{HasKey, HasKeyAt, IsBlocked, KeepsLeavesOf, without_key, IsAtEnd, ShrinksAtEnd, with_pair_put}
 use Rattle.art_operations.proofs.LeafPairs.{shrinks-map}
 use Rattle.art_set.proofs.Terms.{keys_between, key_if_some, with_key_put, with_keys_put, KeyShrinksAtEnd}
 
@@ -115,3 +115,13 @@ clone-keys C D [] [] h = h
 clone-keys C D [] (q ∷ qs) h = h
 clone-keys C D (p ∷ ps) [] h = h
 clone-keys C D (p ∷ ps) (q ∷ qs) h = (h.0.0, clone-keys C D ps qs h.1)
+
+-- each key that stays keeps its leaf
+pub kept-names : {K V : Type 0} (bytes : K → List ℕ) (ps : List (K × V)) (old new : Arena K V) → KeepsLeavesOf bytes ps old new → (slot : ℕ) (key : List ℕ) → HasKeyAt bytes old slot key → HasKey bytes key (keys_of ps) → HasKeyAt bytes new slot key
+kept-names bytes ps old new kept slot key at has = kept slot key at (has-pair bytes key ps has)
+
+-- and so where a call succeeded
+pub names-if-ok : {K V A E : Type 0} (bytes : K → List ℕ) (ps : List (K × V)) (old new : Arena K V) (r : Result A E) → OnOk r (KeepsLeavesOf bytes ps old new)
+    → OnOk r ((slot : ℕ) (key : List ℕ) → HasKeyAt bytes old slot key → HasKey bytes key (keys_of ps) → HasKeyAt bytes new slot key)
+names-if-ok bytes ps old new (Ok x) kept = kept-names bytes ps old new kept
+names-if-ok bytes ps old new (Err e) kept = tt

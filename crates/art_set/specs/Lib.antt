@@ -5,6 +5,7 @@ pub mod Merges
 pub mod Asked
 pub mod Lends
 pub mod Laws
+pub mod LeafNames
 pub mod Bulk
 pub mod inner
 pub mod lemmas

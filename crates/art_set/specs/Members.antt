@@ -1,15 +1,28 @@
--- What a contract says of a set: it is the list of its keys, which ascend by their bytes.
+-- What a contract says of a set: its keys, which ascend by their bytes, and the nodes that hold them.
 use Rattle.std.specs.Prelude.{ℕ, Bool, List, [], ◌∷◌, filter, Option, Some, None}
 use Rattle.std.specs.List.{list_any}
+use Rattle.std.specs.Map.{keys_of}
 use Rattle.std.specs.BTreeMap.Range.{range_contains}
 use Rattle.std.specs.declared.ops.Bound.{Bound}
+use Rattle.art_nodes.specs.Name.{Name}
+use Rattle.art_arena.specs.arena.Arena.{Arena}
 use Rattle.art_arena.specs.declared.ends.End.{End}
 use Rattle.art_arena.specs.tree.Changes.{put_in_order}
 use Rattle.art_arena.specs.tree.Shrinks.{Shrinks}
 use Rattle.art_bytes.specs.Keys.{bytes_cmp}
-use Rattle.art_map.specs.Contents.{has_bytes}
+use Rattle.art_map.specs.Contents.{Contents, has_bytes}
 use Rattle.art_operations.specs.KeyedLists.{without_key}
 use Rattle.art_operations.specs.Pairs.{IsAtEnd}
+
+-- the keys, ascending by their bytes; the nodes that hold them, and the name of the root
+pub record Members (K : Type 0) : Type 0 where
+  pub keys : List K
+  pub nodes : Arena K (Unit {0})
+  pub root : Option Name
+
+-- those of the set that a map to the unit is
+abbrev pub members : {K : Type 0} → Contents K (Unit {0}) → Members K
+members m = record { keys = keys_of m.pairs; nodes = m.nodes; root = m.root }
 
 -- the key of a pair, if there is one
 abbrev pub key_if_some : {K V : Type 0} → Option (K × V) → Option K

@@ -15,7 +15,7 @@ fn collected<W: Kind<K>, K: OrderedBytes + NoPrefixesBytes + Clone + Drop, const
     first: &TreeSet<K, PREFIX_LEN>,
     second: &TreeSet<K, PREFIX_LEN>,
 ) -> Result<TreeSet<K, PREFIX_LEN>, AllocError>
-    ensures { ((k c : K) → K.is_clone k c → c ≡ k) → IfOk result (λ s. s ≡ W.keys first.now second.now) }
+    ensures { ((k c : K) → K.is_clone k c → c ≡ k) → IfOk result (λ s. s.keys ≡ W.keys first.now.keys second.now.keys) }
 {
     if !nodes_fit::<PREFIX_LEN>() {
         return Err(AllocError);
@@ -53,7 +53,7 @@ impl<'a, 'b, K: OrderedBytes + NoPrefixesBytes + Clone + Drop, const PREFIX_LEN:
     type Output = Result<TreeSet<K, PREFIX_LEN>, AllocError>;
 
     ghost bitand_gives = { λ a b r. ((k c : K) → K.is_clone k c → c ≡ k)
-        → IfOk r (λ s. s ≡ intersection_of K.bytes a.now b.now) };
+        → IfOk r (λ s. s.keys ≡ intersection_of K.bytes a.now.keys b.now.keys) };
 
     fn bitand(self, other: &'b TreeSet<K, PREFIX_LEN>) -> Self::Output {
         collected::<InBoth, _, _>(self, other)
@@ -76,7 +76,7 @@ impl<'a, 'b, K: OrderedBytes + NoPrefixesBytes + Clone + Drop, const PREFIX_LEN:
     type Output = Result<TreeSet<K, PREFIX_LEN>, AllocError>;
 
     ghost bitor_gives = { λ a b r. ((k c : K) → K.is_clone k c → c ≡ k)
-        → IfOk r (λ s. s ≡ union_of K.bytes a.now b.now) };
+        → IfOk r (λ s. s.keys ≡ union_of K.bytes a.now.keys b.now.keys) };
 
     fn bitor(self, other: &'b TreeSet<K, PREFIX_LEN>) -> Self::Output {
         collected::<InEither, _, _>(self, other)
@@ -99,7 +99,7 @@ impl<'a, 'b, K: OrderedBytes + NoPrefixesBytes + Clone + Drop, const PREFIX_LEN:
     type Output = Result<TreeSet<K, PREFIX_LEN>, AllocError>;
 
     ghost bitxor_gives = { λ a b r. ((k c : K) → K.is_clone k c → c ≡ k)
-        → IfOk r (λ s. s ≡ symmetric_difference_of K.bytes a.now b.now) };
+        → IfOk r (λ s. s.keys ≡ symmetric_difference_of K.bytes a.now.keys b.now.keys) };
 
     fn bitxor(self, other: &'b TreeSet<K, PREFIX_LEN>) -> Self::Output {
         collected::<OneAlone, _, _>(self, other)
@@ -122,7 +122,7 @@ impl<'a, 'b, K: OrderedBytes + NoPrefixesBytes + Clone + Drop, const PREFIX_LEN:
     type Output = Result<TreeSet<K, PREFIX_LEN>, AllocError>;
 
     ghost sub_gives = { λ a b r. ((k c : K) → K.is_clone k c → c ≡ k)
-        → IfOk r (λ s. s ≡ difference_of K.bytes a.now b.now) };
+        → IfOk r (λ s. s.keys ≡ difference_of K.bytes a.now.keys b.now.keys) };
 
     fn sub(self, other: &'b TreeSet<K, PREFIX_LEN>) -> Self::Output {
         collected::<FirstAlone, _, _>(self, other)

@@ -1,5 +1,7 @@
 //! The set itself: what it keeps, how it is made, and its length.
-ghost use Rattle.std.specs.Prelude.{◌≡◌, ◌==◌, [], length};
+ghost use Rattle.std.specs.Prelude.{◌≡◌, ◌==◌, ◌*◌, ◌<◌, ◌^◌, [], length, IsOk, OnOk};
+ghost use Rattle.art_arena.specs.arena.Arena.{HasRoom, IsTrimmed, KeepsRoom, KeepsRoomOf};
+ghost use Rattle.art_set.specs.LeafNames.{IsSetUntouched};
 
 mod algebra;
 mod builder;
@@ -16,7 +18,7 @@ mod walks;
 
 use art_bytes::AsBytes;
 use art_map::{DEFAULT_PREFIX_LEN, TreeMap};
-use std::alloc::Global;
+use std::alloc::{AllocError, Global};
 use std::default::MadeWith;
 use std::marker::Model;
 
@@ -38,12 +40,11 @@ pub struct TreeSet<K: AsBytes, const PREFIX_LEN: usize> {
 }
 
 impl<K: AsBytes, const PREFIX_LEN: usize> Model for TreeSet<K, PREFIX_LEN> {
-    ghost use Rattle.std.specs.Prelude.{List};
-    ghost use Rattle.std.specs.Map.{keys_of};
+    ghost use Rattle.art_set.specs.Members.{Members, members};
 
-    ghost Value = { List K };
+    ghost Value = { Members K };
 
-    ghost view = { λ s. keys_of s.map.pairs };
+    ghost view = { λ s. members s.map };
 }
 
 impl<K: AsBytes> TreeSet<K, DEFAULT_PREFIX_LEN> {
@@ -55,7 +56,7 @@ impl<K: AsBytes> TreeSet<K, DEFAULT_PREFIX_LEN> {
     /// set.insert(*b"ab")?;
     /// ```
     pub fn new(alloc: Global) -> Self
-        ensures { result ≡ [] }
+        ensures { result.keys ≡ [] }
     {
         TreeSet::with_prefix_len(alloc)
     }
@@ -70,7 +71,7 @@ impl<K: AsBytes, const PREFIX_LEN: usize> TreeSet<K, PREFIX_LEN> {
     /// assert_eq!(rt; set.len(), 1);
     /// ```
     pub fn with_prefix_len(alloc: Global) -> Self
-        ensures { result ≡ [] }
+        ensures { result.keys ≡ [] }
     {
         TreeSet {
             alloc,
@@ -86,7 +87,7 @@ impl<K: AsBytes, const PREFIX_LEN: usize> TreeSet<K, PREFIX_LEN> {
     /// assert_eq!(rt; set.len(), 2);
     /// ```
     pub fn len(&self) -> usize
-        ensures { result ≡ length self.now }
+        ensures { result ≡ length self.now.keys }
     {
         self.map.len()
     }
@@ -100,7 +101,7 @@ impl<K: AsBytes, const PREFIX_LEN: usize> TreeSet<K, PREFIX_LEN> {
     /// assert!(rt; !set.is_empty());
     /// ```
     pub fn is_empty(&self) -> bool
-        ensures { result ≡ (length self.now == 0) }
+        ensures { result ≡ (length self.now.keys == 0) }
     {
         self.len() == 0
     }
@@ -116,7 +117,8 @@ impl<K: AsBytes, const PREFIX_LEN: usize> TreeSet<K, PREFIX_LEN> {
     pub fn clear(&mut self)
     where
         K: Drop,
-        ensures { self.new ≡ [] }
+        ensures keys { self.new.keys ≡ [] }
+        ensures room { KeepsRoom self.old.nodes self.new.nodes }
     {
         self.map.clear();
     }
@@ -133,9 +135,33 @@ impl<K: AsBytes, const PREFIX_LEN: usize> TreeSet<K, PREFIX_LEN> {
     pub fn shrink_to_fit(&mut self)
     where
         K: Drop,
-        ensures { self.new ≡ self.old }
+        ensures keys { self.new.keys ≡ self.old.keys }
+        ensures kept { IsSetUntouched self.old self.new }
+        ensures no_more { KeepsRoomOf self.new.nodes self.old.nodes }
+        ensures trimmed { PREFIX_LEN < 2 ^ 62 → IsTrimmed self.new.nodes }
     {
         self.map.shrink_to_fit();
+    }
+
+    /// Allocates the nodes of so many more insertions, whatever their keys are, as `TreeMap::reserve` does. While there
+    /// is room for two nodes, `insert`, `try_insert` and `replace` are never out of memory, and each uses room for two
+    /// at most.
+    ///
+    /// Fails only if there is no room for so many, and no memory. Either way the set is unchanged.
+    ///
+    /// ```
+    /// let mut set = TreeSet::new(rt.alloc());
+    /// set.reserve(2)?;
+    /// set.extend([*b"ab", *b"cd"])?;
+    /// assert_eq!(rt; set.len(), 2);
+    /// ```
+    pub fn reserve(&mut self, additional: usize) -> Result<(), AllocError>
+        ensures room { OnOk result (HasRoom self.new.nodes (2 * additional)) }
+        ensures succeeds { HasRoom self.old.nodes (2 * additional) → IsOk result }
+        ensures keys { self.new.keys ≡ self.old.keys }
+        ensures kept { IsSetUntouched self.old self.new }
+    {
+        self.map.reserve(additional)
     }
 }
 
@@ -148,7 +174,7 @@ impl<K: AsBytes, const PREFIX_LEN: usize> TreeSet<K, PREFIX_LEN> {
 /// assert!(rt; shelves[&7].contains(b"ab"));
 /// ```
 impl<K: AsBytes, const PREFIX_LEN: usize> MadeWith<Global> for TreeSet<K, PREFIX_LEN> {
-    ghost is_made_with = { λ s. s ≡ [] };
+    ghost is_made_with = { λ s. s.keys ≡ [] };
 
     fn made_with(alloc: Global) -> Self {
         TreeSet::with_prefix_len(alloc)

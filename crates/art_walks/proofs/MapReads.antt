@@ -7,13 +7,14 @@ use Rattle.std.proofs.lemmas.Bool.Decides.{eqb_tells}
 use Rattle.std.proofs.lemmas.List.{length-map}
 use Rattle.art_nodes.proofs.Common.{Name}
 use Rattle.art_nodes.specs.declared.leaf.LeafNode.{LeafNode}
-use Rattle.art_arena.proofs.Common.{Arena, begins_with, begins_of, begins_same, begins_true, other_key, same_key, takes_equal, takes_front, cell_of, held_at, leaf_held, links_at, node_at, leaf_name, HasNoFront, LandsAt, ReadsPath, TakesFronts, passing, AreLinked, KeysWithin, Shape, LeafAt, erase, key_of, leaves, pairs_of, Step, Stores, tree_of, canonical-erase, items-erase, leaves_of, located-fails, located-passes, passing-located, nodes-subtree}
+use Rattle.art_arena.proofs.Common.{Arena, begins_with, begins_of, begins_same, begins_true, other_key, same_key, takes_equal, takes_front, cell_of, held_at, leaf_held, links_at, node_at, leaf_name, HasNoFront, LandsAt, ReadsPath, TakesFronts, passing, AreLinked, KeysWithin, Shape, LeafAt, erase, key_of, leaves, pairs_of, Step, Stores, Tree, tree_of, canonical-erase, items-erase, leaves_of, located-fails, located-passes, passing-located, nodes-subtree}
 use Rattle.art_arena.specs.arena.Descents.{located_where}
+use Rattle.art_arena.specs.arena.Reads.{ReadsExactly}
 use Rattle.art_arena.specs.arena.Found.{located}
 use Rattle.art_arena.proofs.shapes.Prefixes.{begins_not}
 use Rattle.art_arena.proofs.tree.Unique.{tree_of_items}
 use Rattle.art_operations.proofs.Common.{AreEndsWhere, leaf_pair, IsConvex}
-use Rattle.art_walks.proofs.Terms.{IsSpan, IsSpanOf, PairsWithin, ReadsPathOf, ReadsPairs, path_length, Ends, HasEnds, IsWalk, AreStored}
+use Rattle.art_walks.proofs.Terms.{IsSpan, IsSpanOf, PairsWithin, ReadsPathOf, ReadsPairs, ReadsTree, of_tree, path_length, Ends, HasEnds, IsWalk, AreStored}
 use Rattle.art_walks.proofs.RunSteps.{front-alone, front-is, front-step, next_of}
 use Rattle.art_walks.proofs.Spans.{passing-pairs, span-in}
 
@@ -72,6 +73,13 @@ module _ {K V : Type 0} (bytes : K → List ℕ) (P : ℕ) (arena : Arena K V) (
       let built : tree_of (key_of bytes) pairs ≡ Some (erase the-shape) =
       ap (tree_of (key_of bytes)) (sym the-pairs) ∙ sym (ap (tree_of (key_of bytes)) (items-erase the-shape)) ∙ tree_of_items (key_of bytes) (erase the-shape) (canonical-erase bytes [] the-shape has.1.1.nodes.under) in
       reads the-shape the-stores ∙ ap (λ t. min (old + path_length key t) (2 ^ 64 - 1)) (sym built)
+
+  -- what is read of it is read of that one
+  pub tree-read : (of : Tree (K × V) → ℕ) (old new : ℕ) → ReadsExactly (of (erase the-shape)) old new → ReadsTree bytes of pairs old new
+  tree-read of old new reads =
+      let built : tree_of (key_of bytes) pairs ≡ Some (erase the-shape) =
+      ap (tree_of (key_of bytes)) (sym the-pairs) ∙ sym (ap (tree_of (key_of bytes)) (items-erase the-shape)) ∙ tree_of_items (key_of bytes) (erase the-shape) (canonical-erase bytes [] the-shape has.1.1.nodes.under) in
+      reads ∙ ap (λ t. min (old + of_tree of t) (2 ^ 64 - 1)) (sym built)
 
   -- what is found where a query lands
   module _ (of_fronts : Bool) (query : List ℕ) where

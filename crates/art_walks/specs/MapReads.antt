@@ -40,7 +40,16 @@ abbrev pub path_length : {X : Type 0} → List ℕ → Option (Tree X) → ℕ
 path_length key None = 0
 path_length key (Some t) = length (path_of t key)
 
+-- so much of a tree, if there is one
+abbrev pub of_tree : {X : Type 0} → (Tree X → ℕ) → Option (Tree X) → ℕ
+of_tree reads None = 0
+of_tree reads (Some t) = reads t
+
 module _ {K V : Type 0} (bytes : K → List ℕ) where
+  -- as many nodes were read as this says of the tree of the pairs; the greatest count stays
+  abbrev pub ReadsTree : (Tree (K × V) → ℕ) → List (K × V) → ℕ → ℕ → Type 0
+  ReadsTree reads pairs old new = new ≡ min (old + of_tree reads (tree_of (key_of bytes) pairs)) (2 ^ 64 - 1)
+
   -- as many nodes were read as the path of a key has in the tree of the pairs; the greatest count stays
   abbrev pub ReadsPathOf : List ℕ → List (K × V) → ℕ → ℕ → Type 0
   ReadsPathOf key pairs old new = new ≡ min (old + path_length key (tree_of (key_of bytes) pairs)) (2 ^ 64 - 1)

@@ -6,12 +6,15 @@ ghost use Rattle.std.specs.Map.{lookup_entry};
 ghost use Rattle.std.specs.Map.Iter.{deref_pair};
 ghost use Rattle.std.specs.Range.Bound.{bound_map};
 ghost use Rattle.art_bytes.specs.Keys.{bytes_cmp};
+ghost use Rattle.art_arena.specs.arena.Shapes.{key_of};
 ghost use Rattle.art_arena.specs.tree.Tenants.{begins_with};
 ghost use Rattle.art_operations.specs.Openings.{bound_len, OpeningReads, ReadsAtLeast, SpanReads};
+ghost use Rattle.art_operations.specs.Openings.{part_reads, range_reads};
 ghost use Rattle.art_operations.specs.Pairs.{HasPairsBeside};
 ghost use Rattle.art_operations.specs.Whichever.{HasSome};
 ghost use Rattle.art_walks.specs.Bounds.{AreValidKeyBounds};
 ghost use Rattle.art_walks.specs.MapReads.{IsSameMap, IsSpan, IsSpanOf, OfPairs, PairsWithin, ReadsMap, ReadsPathOf};
+ghost use Rattle.art_walks.specs.MapReads.{ReadsTree};
 
 use crate::raw_iterator::RawIterator;
 use art_arena::{ArenaReader, LeafPtr, NodeArena, land};
@@ -217,8 +220,8 @@ impl<'a, K: AsBytes, V, const PREFIX_LEN: usize> MapReader<'a, K, V, PREFIX_LEN>
     /// Returns a span over the pairs whose keys are between two bounds, by their bytes, ascending. If the map has a
     /// pair, the bounds have to be valid, as `bounds_are_valid` tells.
     ///
-    /// If the map has a pair, at least one node is read, the root. At most 6 * (k + 2) nodes are read, where k is the
-    /// length of the longest key.
+    /// Which nodes are read follows from the pairs and `PREFIX_LEN`. If the map has a pair, at least one is, the root.
+    /// At most 6 * (k + 2) nodes are read, where k is the length of the longest key.
     ///
     /// ```
     /// use art_map::TreeMap;
@@ -238,6 +241,9 @@ impl<'a, K: AsBytes, V, const PREFIX_LEN: usize> MapReader<'a, K, V, PREFIX_LEN>
             (K.bytes p.0)) pairs)) }
         ensures span { IsSpan self.new.nodes result }
         ensures kept { IsSameMap self.old self.new }
+        ensures counts { OfPairs K.bytes PREFIX_LEN self.old.nodes self.old.root (λ pairs. ReadsTree K.bytes
+            (λ t. range_reads (key_of K.bytes) PREFIX_LEN t (bound_map (λ key. Q.bytes key.now) start.entry)
+            (bound_map (λ key. Q.bytes key.now) end.entry)) pairs self.old.count self.new.count) }
         ensures least { MatchOption self.old.root (self.new.count ≡ self.old.count)
             (λ root. ReadsAtLeast 1 self.old.count self.new.count) }
         ensures few { OfPairs K.bytes PREFIX_LEN self.old.nodes self.old.root (λ pairs. (longest most : ℕ)
@@ -261,8 +267,8 @@ impl<'a, K: AsBytes, V, const PREFIX_LEN: usize> MapReader<'a, K, V, PREFIX_LEN>
 
     /// Returns a span over the pairs whose keys begin with a prefix's bytes, ascending.
     ///
-    /// If the map has a pair, at least one node is read, the root. At most 6 * (k + 2) nodes are read, where k is the
-    /// length of the longest key.
+    /// Which nodes are read follows from the pairs and `PREFIX_LEN`. If the map has a pair, at least one is, the root.
+    /// At most 6 * (k + 2) nodes are read, where k is the length of the longest key.
     ///
     /// ```
     /// use art_map::TreeMap;
@@ -278,6 +284,8 @@ impl<'a, K: AsBytes, V, const PREFIX_LEN: usize> MapReader<'a, K, V, PREFIX_LEN>
             (filter (λ p. begins_with (Q.bytes prefix.now) (K.bytes p.0)) pairs)) }
         ensures span { IsSpan self.new.nodes result }
         ensures kept { IsSameMap self.old self.new }
+        ensures counts { OfPairs K.bytes PREFIX_LEN self.old.nodes self.old.root (λ pairs. ReadsTree K.bytes
+            (λ t. part_reads (key_of K.bytes) PREFIX_LEN t (Q.bytes prefix.now)) pairs self.old.count self.new.count) }
         ensures least { MatchOption self.old.root (self.new.count ≡ self.old.count)
             (λ root. ReadsAtLeast 1 self.old.count self.new.count) }
         ensures few { OfPairs K.bytes PREFIX_LEN self.old.nodes self.old.root (λ pairs. (longest : ℕ)

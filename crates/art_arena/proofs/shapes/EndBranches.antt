@@ -1,7 +1,7 @@
 -- The child at the end of the branches: the first or the last leaf stands there.
 use Rattle.std.proofs.Common.{◌≡◌, ℕ, List, [], ◌∷◌, ◌++◌, Some, None, IsSome, refl, sym, ap, subst, ◌∙◌, arith, ◌≤◌}
 use Rattle.art_nodes.proofs.Common.{Name}
-use Rattle.art_arena.proofs.Terms.{Shape, Branches, no_branch, branch, LeafAt, leaves, leaves_in, join, width, IsUnder, AreUnder, children_at, name_of, end_slot, end_child, End, First, Last}
+use Rattle.art_arena.proofs.Terms.{Tree, Shape, erase, erase_in, end_path, end_path_in, last_path_in, Branches, no_branch, branch, LeafAt, leaves, leaves_in, join, width, IsUnder, AreUnder, children_at, name_of, end_slot, end_child, End, First, Last}
 use Rattle.art_arena.proofs.shapes.Contexts.{leaves_in-join}
 use Rattle.art_arena.proofs.shapes.LinkedLists.{last_slot-append}
 use Rattle.std.proofs.lemmas.List.{append-nil}
@@ -14,6 +14,16 @@ module _ {K V : Type 0} where
   last-more : (xs ys : List (LeafAt K V)) → (l : LeafAt K V) × (ls : List (LeafAt K V)) × (ys ≡ l ∷ ls) → end_slot Last (xs ++ ys) ≡ end_slot Last ys
   last-more xs ys (l, ls, e) = last_slot-append None xs ys ∙ rw e refl
 
+module _ {K V : Type 0} where
+  last-path-in : (path : List (Tree (K × V))) (before : Branches K V) (b : ℕ) (t : Shape K V) → last_path_in path (erase_in (join before (branch b t no_branch))) ≡ end_path Last (erase t)
+  last-path-in path no_branch b t = refl
+  last-path-in path (branch c s before) b t = last-path-in (end_path Last (erase s)) before b t
+
+  -- the path to the last leaf goes by the last branch
+  last-path : (before : Branches K V) (b : ℕ) (t : Shape K V) → end_path_in Last (erase_in (join before (branch b t no_branch))) ≡ end_path Last (erase t)
+  last-path no_branch b t = refl
+  last-path (branch c s before) b t = last-path-in (end_path Last (erase s)) before b t
+
 module _ (K V : Type 0) (bytes : K → List ℕ) (end : End) where
   -- a branch, and the end of all branches, which is its end
   pub record ChildAtEnd (kids : Branches K V) (c : ℕ × Name) : Type 0 where
@@ -23,6 +33,7 @@ module _ (K V : Type 0) (bytes : K → List ℕ) (end : End) where
     pub whole : kids ≡ join before (branch c.0 here after)
     pub named : name_of here ≡ c.1
     pub same_end : end_slot end (leaves here) ≡ end_slot end (leaves_in kids)
+    pub same_path : end_path_in end (erase_in kids) ≡ end_path end (erase here)
 
   -- the end of the branches stands in the child at their end
   pub record EndBranch : Type 0 where
@@ -43,6 +54,7 @@ module _ {K V : Type 0} (bytes : K → List ℕ) where
           whole = b.2;
           named = b.3;
           same_end = sym (first-more (leaves b.0) (leaves_in b.1) (some_leaf bytes (path ++ c.0 ∷ []) b.0 here)) ∙ ap (λ f. end_slot First (leaves_in f)) (sym b.2);
+          same_path = ap (λ f. end_path_in First (erase_in f)) b.2;
         };
   }
 
@@ -60,6 +72,7 @@ module _ {K V : Type 0} (bytes : K → List ℕ) where
           whole = b.2;
           named = b.3;
           same_end = sym (last-more (leaves_in b.0) (leaves b.1) (some_leaf bytes (path ++ c.0 ∷ []) b.1 here)) ∙ ap (end_slot Last) (sym parts);
+          same_path = ap (λ f. end_path_in Last (erase_in f)) b.2 ∙ last-path b.0 c.0 b.1;
         };
   }
 

@@ -4,7 +4,7 @@ use Rattle.std.proofs.lemmas.List.{drop-drop}
 use Rattle.art_bytes.proofs.Common.{BeginsWith, begins_append, begins_step}
 use Rattle.art_nodes.proofs.Common.{InnerNode, Name}
 use Rattle.art_nodes.specs.declared.kind.NodeType.TheVariants.{Leaf}
-use Rattle.art_arena.proofs.Terms.{Arena, Held, inner_held, held_at, node_at, slots_of, Shape, Branches, LeafAt, leaf_at, inner_at, name_of, branch, join, leaves, leaves_in, erase, erase_in, IsUnder, AreUnder, leaf_name, pair, ReadsPath, KeysWithin, path_of, path_in, Frame, IsSubtree, IsPlace, Step, steps_to, end_slot, end_child, IsLeafPlace, End, First, Last}
+use Rattle.art_arena.proofs.Terms.{Arena, Held, inner_held, held_at, node_at, slots_of, Shape, Branches, LeafAt, leaf_at, inner_at, name_of, branch, join, leaves, leaves_in, erase, erase_in, end_path, ReadsExactly, IsUnder, AreUnder, leaf_name, pair, ReadsPath, KeysWithin, path_of, path_in, Frame, IsSubtree, IsPlace, Step, steps_to, end_slot, end_child, IsLeafPlace, End, First, Last}
 use Rattle.art_arena.proofs.tree.Order.{all_left, all_right}
 use Rattle.art_arena.proofs.tree.Sizes.{path_length}
 use Rattle.art_arena.proofs.shapes.Finding.{counted_more, path_in-step}
@@ -55,6 +55,7 @@ module _ {K V : Type 0} (bytes : K → List ℕ) (P : ℕ) (arena : Arena K V) (
     pub deeper : length path + length ctx ≤ length below
     pub within : (longest : ℕ) → KeysWithin bytes longest (leaves s) → KeysWithin bytes longest (leaves part)
     pub long : (k : List ℕ) → BeginsWith below k → length (path_of (erase s) (drop (length path) k)) ≡ length ctx + length (path_of (erase part) (drop (length below) k))
+    pub led : length (end_path end (erase s)) ≡ length ctx + length (end_path end (erase part))
     pub reads : min (count + 1) (2 ^ 64 - 1) ≡ min (start + suc (length ctx)) (2 ^ 64 - 1)
 
   pub on_end-start : (root : Name) → IsSubtree bytes P (node_at arena) root path s → OnEnd root [] start
@@ -69,6 +70,7 @@ module _ {K V : Type 0} (bytes : K → List ℕ) (P : ℕ) (arena : Arena K V) (
     deeper = omega arith;
     within = λ longest short. short;
     long = λ k begins. omega arith;
+    led = omega arith;
     reads = refl;
   }
 
@@ -115,6 +117,7 @@ module _ {K V : Type 0} (bytes : K → List ℕ) (P : ℕ) (arena : Arena K V) (
                         let above = on.long k (begins_append on.below prefix k (begins_append (on.below ++ prefix) (c.0 ∷ []) k begins)) in
                         let goes = path_goes_on bytes on.below prefix n kids b.before c.0 b.here b.after subtree.under.1 b.whole k begins in
                         omega (arith, above, ap (λ t. length (path_of (erase t) (drop (length on.below) k))) is, goes);
+                    led = omega (arith, on.led, ap (λ t. length (end_path end (erase t))) is, ap length b.same_path);
                     reads = ap (λ m. min (m + 1) (2 ^ 64 - 1)) on.reads ∙ counted_more start (suc (length on.ctx)) (2 ^ 64 - 1);
                   },
                   omega (arith, fewer, measure_is bytes P arena n on.below (inner_at n prefix kids) subtree, measure_is bytes P arena c.1 ((on.below ++ prefix) ++ c.0 ∷ []) b.here child),
@@ -131,6 +134,7 @@ module _ {K V : Type 0} (bytes : K → List ℕ) (P : ℕ) (arena : Arena K V) (
     pub slot_is : end_slot end (leaves s) ≡ Some n.slot
     pub place : path ≡ [] → IsLeafPlace bytes s n.slot last
     pub reads : ReadsPath (drop (length path) (bytes k)) s start (min (count + 1) (2 ^ 64 - 1))
+    pub exact : ReadsExactly (length (end_path end (erase s))) start (min (count + 1) (2 ^ 64 - 1))
     pub few : (longest : ℕ) → KeysWithin bytes longest (leaves s) → min (count + 1) (2 ^ 64 - 1) + length path ≤ start + (longest + 1)
 
   pub end_at : (n : Name) (last : List Step) (count : ℕ) → OnEnd n last count → (k : K) (v : V) → node_at arena n ≡ Some (pair k v) → EndsAtLeaf n last count k
@@ -145,6 +149,7 @@ module _ {K V : Type 0} (bytes : K → List ℕ) (P : ℕ) (arena : Arena K V) (
         slot_is = sym on.same_end ∙ ap (λ t. end_slot end (leaves t)) is ∙ end_lone end (record { slot = n.slot; key = k; value = v });
         place = λ e. record { ctx = on.ctx; key = k; value = v; place = subst (IsPlace bytes s on.ctx) is (on.place e); steps = on.steps };
         reads = reads;
+        exact = on.reads ∙ ap (λ m. min (start + m) (2 ^ 64 - 1)) (omega (arith, on.led, ap (λ t. length (end_path end (erase t))) is));
         few = λ longest short.
             let own : length (bytes k) ≤ longest = (subst (λ t. KeysWithin bytes longest (leaves t)) is (on.within longest short)).0 in
             let front : length on.below ≤ length (bytes k) = omega (arith, ap length begins.1, length-append on.below begins.0) in

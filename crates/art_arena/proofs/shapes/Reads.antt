@@ -1,11 +1,11 @@
 -- What is read of an inner node, and on a way down from it to a first or last leaf.
-use Rattle.std.proofs.Common.{◌≡◌, ◌≢◌, ℕ, suc, ◌+◌, ◌-◌, ◌^◌, ◌≤◌, min, List, [], ◌++◌, length, drop, IfErr, IfSome, None, Option, Some, IsSome, Ok, Err, sym, ap, subst, ◌∙◌, arith}
+use Rattle.std.proofs.Common.{◌≡◌, ◌≢◌, ℕ, suc, ◌+◌, ◌-◌, ◌^◌, ◌<◌, ◌≤◌, ◌||◌, min, Bool, true, false, is_some, MatchOption, refl, lt-ltb, le-ltb, List, [], ◌++◌, length, drop, IfErr, IfSome, None, Option, Some, IsSome, Ok, Err, sym, ap, subst, ◌∙◌, arith}
 use Rattle.std.specs.declared.result.Result.{Result}
 use Rattle.art_bytes.proofs.Common.{BeginsWith, begins_append}
 use Rattle.art_nodes.proofs.Common.{InnerNode, Name}
 use Rattle.art_nodes.specs.declared.kind.NodeType.TheVariants.{Leaf}
 use Rattle.art_nodes.specs.declared.leaf.LeafNode.{LeafNode}
-use Rattle.art_arena.proofs.Terms.{Arena, cell_of, held_at, leaf_held, node_at, leaf_name, Frame, plug, leaves_before, leaves_after, ReadsPath, end_slot, end_child, first_slot, IsSubtree, prefix_of, IsReadAt, KeysWithin, ReadsAtLeast, ReadsToFirst, Shape, LeafAt, erase, leaves, path_of, Tree, End, First}
+use Rattle.art_arena.proofs.Terms.{Arena, cell_of, held_at, leaf_held, node_at, leaf_name, Frame, plug, leaves_before, leaves_after, ReadsPath, end_slot, end_child, first_slot, IsSubtree, prefix_of, IsReadAt, KeysWithin, ReadsAtLeast, ReadsExactly, ReadsToFirst, guide_cost, is_cut, path_to_guide, leaf_at, inner_at, Shape, LeafAt, end_path, erase, leaves, path_of, Tree, End, First}
 use Rattle.art_arena.specs.tree.Trees as tree
 use Rattle.art_arena.proofs.tree.Order.{all_left, all_right}
 use Rattle.art_arena.proofs.shapes.Contexts.{leaves-plug}
@@ -27,6 +27,35 @@ some_weaker (Some x) B C f h = f x h
 pub reads_some : {X : Type 0} (t : Tree X) (key : List ℕ) (old new : ℕ) → new ≡ min (old + length (path_of t key)) (2 ^ 64 - 1) → ReadsAtLeast 1 old new
 reads_some (tree.leaf x) key old new reads = omega (arith, reads)
 reads_some (tree.inner prefix children) key old new reads = omega (arith, reads)
+
+-- whether a prefix isn't wholly stored
+pub cut_if : {K V : Type 0} (P : ℕ) (s : Shape K V) → P < length (prefix_of s) → is_cut P (erase s) ≡ true
+cut_if P (leaf_at slot k v) more = absurd (omega (arith, more))
+cut_if P (inner_at n prefix kids) more = lt-ltb P (length prefix) more
+
+pub cut_not : {K V : Type 0} (P : ℕ) (s : Shape K V) → length (prefix_of s) ≤ P → is_cut P (erase s) ≡ false
+cut_not P (leaf_at slot k v) stored = refl
+cut_not P (inner_at n prefix kids) stored = le-ltb P (length prefix) stored
+
+-- a guide costs nothing where the prefix is stored, or there is one already
+pub cost_none : {X Y : Type 0} (g : Option X) (P : ℕ) (t : Tree Y) (k : List ℕ) → is_cut P t ≡ false → guide_cost g P t k ≡ 0
+cost_none None P t k stored = rw stored refl
+cost_none (Some x) P t k stored = refl
+
+pub cost_once : {X Y : Type 0} (g : Option X) (P : ℕ) (t : Tree Y) (k : List ℕ) (old new : ℕ) → is_cut P t ≡ true → old ≤ 2 ^ 64 - 1
+    → MatchOption g (ReadsExactly (length (path_to_guide t k) - 1) old new) (λ x. new ≡ old) → ReadsExactly (guide_cost g P t k) old new
+cost_once None P t k old new cut most reads = rw cut reads
+cost_once (Some x) P t k old new cut most reads = omega (arith, most, reads)
+
+pub found_if : {X : Type 0} (old new : Option X) (cut : Bool) → cut ≡ true → IsSome new → is_some new ≡ (is_some old || cut)
+found_if None None cut is found = absurd (cc)
+found_if None (Some y) cut is found = rw is refl
+found_if (Some x) None cut is found = absurd (cc)
+found_if (Some x) (Some y) cut is found = refl
+
+pub found_not : {X : Type 0} (old : Option X) (cut : Bool) → cut ≡ false → is_some old ≡ (is_some old || cut)
+found_not None cut is = rw is refl
+found_not (Some x) cut is = refl
 
 -- the keys of a part are among those of the whole
 pub part_within : {K V : Type 0} (bytes : K → List ℕ) (longest : ℕ) (whole : Shape K V) (ctx : List (Frame K V)) (part : Shape K V) → whole ≡ plug ctx part → KeysWithin bytes longest (leaves whole) → KeysWithin bytes longest (leaves part)
@@ -62,6 +91,7 @@ module _ {K V : Type 0} (bytes : K → List ℕ) (P : ℕ) (arena : Arena K V) (
       pub same_end : end_slot end (leaves part) ≡ end_slot end (leaves s)
       pub deeper : depth + 1 ≤ length below
       pub within : (longest : ℕ) → KeysWithin bytes longest (leaves s) → KeysWithin bytes longest (leaves part)
+      pub led : length (end_path end (erase s)) ≡ suc (length (end_path end (erase part)))
       pub long : (k : List ℕ) → BeginsWith below k → length (path_of (erase s) (drop (length path) k)) ≡ suc (length (path_of (erase part) (drop (length below) k)))
 
     pub read_child : (c : ℕ × Name) → end_child end node.children ≡ Some c → ReadChild c
@@ -74,6 +104,7 @@ module _ {K V : Type 0} (bytes : K → List ℕ) (P : ℕ) (arena : Arena K V) (
           same_end = on.same_end;
           deeper = omega (arith, on.deeper, on.reads, at.stands.behind);
           within = on.within;
+          led = omega (arith, on.led, on.reads);
           long = λ k begins. omega (arith, on.long k begins, on.reads);
         }
 

@@ -1,5 +1,5 @@
 -- How many nodes a walk reads, told by the keys.
-use Rattle.std.specs.Prelude.{◌≡◌, ℕ, ◌+◌, ◌-◌, ◌^◌, ◌≤◌, min, List, length, drop, Option, None, Some}
+use Rattle.std.specs.Prelude.{◌≡◌, ℕ, ◌+◌, ◌-◌, ◌^◌, ◌≤◌, min, List, length, drop, if◌then◌else◌, Option, None, Some}
 use Rattle.std.specs.List.{AllByRecursion}
 use Rattle.art_nodes.specs.Name.{Name}
 use Rattle.art_nodes.specs.InnerNode.{InnerNode}
@@ -10,10 +10,21 @@ use Rattle.art_arena.specs.arena.Linked.{first_slot}
 use Rattle.art_arena.specs.arena.Shapes.{Shape, LeafAt, erase, leaves}
 use Rattle.art_arena.specs.arena.Stores.{StoresAt}
 use Rattle.art_arena.specs.tree.Paths.{path_of}
+use Rattle.art_arena.specs.tree.Trees.{Tree}
+use Rattle.art_arena.specs.tree.Ways.{is_cut, path_to_guide}
 
 -- So many nodes were read at least. The greatest count stays, so a count never falls.
 abbrev pub ReadsAtLeast : ℕ → ℕ → ℕ → Type 0
 ReadsAtLeast n old new = min (old + n) (2 ^ 64 - 1) ≤ new
+
+-- So many nodes were read, no more and no fewer. The greatest count stays.
+abbrev pub ReadsExactly : ℕ → ℕ → ℕ → Type 0
+ReadsExactly n old new = new ≡ min (old + n) (2 ^ 64 - 1)
+
+-- what a descent by all bytes reads for a prefix at this part: if it isn't wholly stored, a guide, unless it has one
+abbrev pub guide_cost : {X Y : Type 0} → Option X → ℕ → Tree Y → List ℕ → ℕ
+guide_cost (Some guide) P t k = 0
+guide_cost None P t k = if is_cut P t then length (path_to_guide t k) - 1 else 0
 
 -- as many nodes were read as the key's path has behind the first of them; the greatest count stays
 abbrev pub ReadsBehind : {K V : Type 0} → List ℕ → Shape K V → ℕ → ℕ → Type 0

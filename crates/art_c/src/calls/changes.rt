@@ -1,41 +1,105 @@
 //! Pairs are put in and taken out.
-ghost use Rattle.art_c.specs.Calls.{IsPrefixRemoved, IsPairPut, IsRemoved};
+ghost use Rattle.std.specs.Prelude.{◌≡◌, MatchResult};
+ghost use Rattle.art_c.specs.Calls.{IsBytesPut, IsPrefixRemoved, GoesIn, IsPutRefused, IsRemoved, IsWordPut};
+ghost use Rattle.art_c.specs.Calls.{IsWordRemoved};
 
 use crate::bytes::Bytes;
 use crate::code::Code;
 use crate::handle::Map;
+use crate::value::{BytesPair, Value, WordsPair};
 use art_bytes::SliceKey;
-use art_map::TryInsertError;
 use std::alloc::Global;
 
-pub(super) fn put(map: &mut Map, alloc: Global, key: &[u8], value: &[u8]) -> Code
-    ensures { IsPairPut key.now value.now map.old.pairs tt result map.new.pairs tt }
+/// Puts in the value that is told so. Returns the value that the key had. All memory is taken before anything is
+/// changed, and none where there is a conflict.
+#[tactic(auto, using(crate::proofs::Lookups::put_copies))]
+pub(super) fn put<V: Value>(
+    map: &mut Map<V>,
+    alloc: Global,
+    key: &[u8],
+    item: V::Item,
+    text: &[u8],
+) -> Result<Option<V>, Code>
+    ensures { MatchResult result
+        (λ was. GoesIn key.now (V.value_of item text.now) map.old.pairs was map.new.pairs)
+        (λ code. IsPutRefused key.now map.old.pairs code map.new.pairs) }
 {
+    let Ok(place) = map.place(&SliceKey(key)) else {
+        return Err(Code::Conflict);
+    };
     let Ok(key) = Bytes::copied(alloc, key) else {
-        return Code::NoMemory;
+        return Err(Code::NoMemory);
     };
-    let Ok(value) = Bytes::copied(alloc, value) else {
-        return Code::NoMemory;
+    let Ok(value) = V::made(alloc, item, text) else {
+        return Err(Code::NoMemory);
     };
-    match map.try_insert(key, value) {
-        Ok(None) => Code::Done,
-        Ok(Some(_old)) => Code::Replaced,
-        Err(TryInsertError::Prefix { .. }) => Code::Conflict,
-        Err(TryInsertError::Memory { .. }) => Code::NoMemory,
+    match map.put_at(place, key, value) {
+        Ok(was) => Ok(was),
+        Err(_) => Err(Code::NoMemory),
     }
 }
 
-pub(super) fn remove(map: &mut Map, key: &[u8]) -> Code
-    ensures { IsRemoved key.now map.old.pairs tt result map.new.pairs tt }
+pub(crate) fn put_word(
+    map: &mut Map<u64>,
+    alloc: Global,
+    key: &[u8],
+    word: u64,
+    old: &mut u64,
+) -> Code
+    ensures { IsWordPut key.now word map.old.pairs old.old result map.new.pairs old.new }
+{
+    let item = WordsPair {
+        key_len: key.len(),
+        word,
+    };
+    match put(map, alloc, key, item, &[]) {
+        Ok(None) => Code::Done,
+        Ok(Some(was)) => {
+            *old = was;
+            Code::Replaced
+        }
+        Err(code) => code,
+    }
+}
+
+pub(crate) fn put_bytes(map: &mut Map<Bytes>, alloc: Global, key: &[u8], value: &[u8]) -> Code
+    ensures { IsBytesPut key.now value.now map.old.pairs tt result map.new.pairs tt }
+{
+    let item = BytesPair {
+        key_len: key.len(),
+        value_len: value.len(),
+    };
+    match put(map, alloc, key, item, value) {
+        Ok(None) => Code::Done,
+        Ok(Some(_was)) => Code::Replaced,
+        Err(code) => code,
+    }
+}
+
+pub(crate) fn remove_word(map: &mut Map<u64>, key: &[u8], word: &mut u64) -> Code
+    ensures { IsWordRemoved key.now map.old.pairs word.old result map.new.pairs word.new }
 {
     match map.remove(&SliceKey(key)) {
-        Ok(Some(_old)) => Code::Done,
+        Ok(Some(was)) => {
+            *word = was;
+            Code::Done
+        }
         Ok(None) => Code::NotFound,
         Err(_) => Code::NoMemory,
     }
 }
 
-pub(super) fn remove_prefix(map: &mut Map, prefix: &[u8], count: &mut usize) -> Code
+pub(crate) fn remove_bytes(map: &mut Map<Bytes>, key: &[u8]) -> Code
+    ensures { IsRemoved key.now map.old.pairs tt result map.new.pairs tt }
+{
+    match map.remove(&SliceKey(key)) {
+        Ok(Some(_was)) => Code::Done,
+        Ok(None) => Code::NotFound,
+        Err(_) => Code::NoMemory,
+    }
+}
+
+pub(crate) fn remove_prefix<V: Drop>(map: &mut Map<V>, prefix: &[u8], count: &mut usize) -> Code
     ensures { IsPrefixRemoved prefix.now map.old.pairs count.old result map.new.pairs count.new }
 {
     match map.remove_prefix(prefix) {

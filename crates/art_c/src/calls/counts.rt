@@ -2,15 +2,15 @@
 ghost use Rattle.std.specs.Prelude.{◌≡◌};
 ghost use Rattle.art_c.specs.Calls.{as_told, IsAudited};
 
-use crate::audit::ArtAudit;
 use crate::code::Code;
 use crate::handle::Map;
+use crate::nodes::NodeCounts;
 use art_walks::WellFormedTreeStats;
 
-fn told_of(stats: WellFormedTreeStats) -> ArtAudit
+fn told_of(stats: WellFormedTreeStats) -> NodeCounts
     ensures { result ≡ as_told stats }
 {
-    ArtAudit {
+    NodeCounts {
         nodes4: stats.num_node4,
         nodes16: stats.num_node16,
         nodes32: stats.num_node32,
@@ -20,8 +20,8 @@ fn told_of(stats: WellFormedTreeStats) -> ArtAudit
     }
 }
 
-pub(super) fn audit(map: &Map, told: &mut ArtAudit) -> Code
-    ensures { IsAudited map.now.pairs told.old result map.now.pairs told.new }
+pub(crate) fn audit<V>(map: &Map<V>, told: &mut NodeCounts) -> Code
+    ensures { IsAudited map.now.pairs told.old result told.new }
 {
     match map.audit() {
         Ok(stats) => {

@@ -1,12 +1,20 @@
 //! Many pairs are put in.
-ghost use Rattle.std.specs.Prelude.{◌≡◌, option_map};
-ghost use Rattle.art_c.specs.Loads.{is_above, IsLoaded, IsPutAbove};
+ghost use Rattle.std.specs.Prelude.{◌≡◌, if◌then◌else◌, MatchResult, option_map};
+ghost use Rattle.art_bytes.specs.Keys.{AreBytes};
+ghost use Rattle.art_c.specs.Calls.{IsPutRefused, whole};
+ghost use Rattle.art_c.specs.Handles.{Pairs};
+ghost use Rattle.art_c.specs.Loads.{is_above, IsLoaded};
+ghost use Rattle.art_map.specs.Builders.{HasGathered};
+ghost use Rattle.art_operations.specs.Pairs.{with_pair_put};
 
-use super::changes;
+use crate::bytes::Bytes;
 use crate::code::Code;
 use crate::handle::Map;
-use crate::many::{ArtLens, part_pair};
+use crate::value::Value;
+use art_bytes::SliceKey;
+use art_map::{TreeMap, TreeMapBuilder};
 use std::alloc::Global;
+use std::mem;
 
 fn is_above(before: Option<&[u8]>, key: &[u8]) -> bool
     ensures { result ≡ is_above (option_map (λ bytes. bytes.now) before.entry) key.now }
@@ -17,41 +25,92 @@ fn is_above(before: Option<&[u8]>, key: &[u8]) -> bool
     }
 }
 
-/// Puts a pair in whose key is above the one before it.
-fn put_above(map: &mut Map, alloc: Global, before: Option<&[u8]>, key: &[u8], value: &[u8]) -> Code
-    ensures { IsPutAbove (option_map (λ bytes. bytes.now) before.entry) key.now value.now map.old.pairs result
-        map.new.pairs }
+/// A map in the making.
+type Builder<V> = TreeMapBuilder<Bytes, V, 16>;
+
+/// Puts a pair in, behind the others where its key is above theirs. It tells whether it did. It did not where a stored
+/// key blocks the key, or there is no memory.
+fn put_behind<V: Value>(
+    builder: &mut Builder<V>,
+    alloc: Global,
+    key: &[u8],
+    item: V::Item,
+    text: &[u8],
+) -> bool
+    requires taken { (pairs : Pairs V) × HasGathered whole AreBytes builder.old pairs }
+    ensures { (pairs : Pairs V) → HasGathered whole AreBytes builder.old pairs → HasGathered whole AreBytes builder.new
+        (if result then with_pair_put whole key.now (V.value_of item text.now) pairs else pairs) }
 {
-    if !is_above(before, key) {
-        return Code::NotAbove;
-    }
-    match changes::put(map, alloc, key, value) {
-        Code::Replaced => Code::Done,
-        code => code,
-    }
+    let Ok(key) = Bytes::copied(alloc, key) else {
+        return false;
+    };
+    let Ok(value) = V::made(alloc, item, text) else {
+        return false;
+    };
+    builder.try_put(key, value).is_ok()
 }
 
-pub(super) fn load(
-    map: &mut Map,
+/// Puts in the pairs of a buffer, and tells how it ends, or the key of the first pair that is not put in.
+fn put_rising<'a, V: Value>(
+    builder: &mut Builder<V>,
     alloc: Global,
-    bytes: &[u8],
-    lens: &[ArtLens],
+    bytes: &'a [u8],
+    items: &[V::Item],
     taken: &mut usize,
-) -> Code
-    ensures { IsLoaded bytes.now lens.now map.old.pairs taken.old result map.new.pairs taken.new }
+) -> Result<Code, &'a [u8]>
+    requires taken { (pairs : Pairs V) × HasGathered whole AreBytes builder.old pairs }
+    ensures { (pairs : Pairs V) → HasGathered whole AreBytes builder.old pairs
+        → (new : Pairs V) × HasGathered whole AreBytes builder.new new × MatchResult result
+        (λ code. IsLoaded V.text_of V.item_of V.key_len_of V.text_len_of bytes.now items.now pairs taken.old
+        code new taken.new)
+        (λ key. (code : Code) → IsPutRefused key.now new code new
+        → IsLoaded V.text_of V.item_of V.key_len_of V.text_len_of bytes.now items.now pairs taken.old
+        code new taken.new) }
 {
     let (mut rest, mut before) = (bytes, None);
-    for (at, len) in lens.iter().enumerate() {
+    for (at, item) in items.iter().enumerate() {
         *taken = at;
-        let Some((key, value, behind)) = part_pair(rest, *len) else {
-            return Code::CutOff;
+        let Some((key, text, behind)) = V::parts(*item, rest) else {
+            return Ok(Code::CutOff);
         };
-        match put_above(map, alloc, before, key, value) {
-            Code::Done => (),
-            code => return code,
+        if !is_above(before, key) {
+            return Ok(Code::NotAbove);
+        }
+        if !put_behind(builder, alloc, key, *item, text) {
+            return Err(key);
         }
         (rest, before) = (behind, Some(key));
     }
-    *taken = lens.len();
-    Code::Done
+    *taken = items.len();
+    Ok(Code::Done)
+}
+
+/// Why a pair with this key was not put in: a stored key blocks it, or there was no memory.
+fn refusal<V: Drop>(map: &Map<V>, key: &[u8]) -> Code
+    ensures { IsPutRefused key.now map.now.pairs result map.now.pairs }
+{
+    match map.place(&SliceKey(key)) {
+        Ok(_) => Code::NoMemory,
+        Err(_) => Code::Conflict,
+    }
+}
+
+/// Builds along the last leaf, so as long as keys go behind those of the map no place is looked for.
+pub(crate) fn load<V: Value>(
+    map: &mut Map<V>,
+    alloc: Global,
+    bytes: &[u8],
+    items: &[V::Item],
+    taken: &mut usize,
+) -> Code
+    ensures { IsLoaded V.text_of V.item_of V.key_len_of V.text_len_of bytes.now items.now map.old.pairs taken.old
+        result map.new.pairs taken.new }
+{
+    let mut builder = TreeMapBuilder::from_map(mem::replace(map, TreeMap::new(alloc)));
+    let ended = put_rising(&mut builder, alloc, bytes, items, taken);
+    *map = builder.finish();
+    match ended {
+        Ok(code) => code,
+        Err(key) => refusal(map, key),
+    }
 }

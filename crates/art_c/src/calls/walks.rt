@@ -1,25 +1,60 @@
 //! Many pairs are copied out in order.
-ghost use Rattle.std.specs.Prelude.{◌≡◌, ◌+◌, ◌≤◌, ◌↔◌, IsTrue, length, option_map};
+ghost use Rattle.std.specs.Prelude.{◌≡◌, ◌+◌, ◌≤◌, ◌↔◌, IsTrue, length, MatchOption, option_map};
 ghost use Rattle.std.specs.Map.Iter.{deref_pair};
 ghost use Rattle.std.specs.Range.Bound.{bound_map};
-ghost use Rattle.art_map.specs.Asked.{from_end};
-ghost use Rattle.art_c.specs.Calls.{Answers};
-ghost use Rattle.art_c.specs.Walks.{AreTaken, bound_of, IsWalked, many_rooms, pairs_on, TakesNext};
+ghost use Rattle.art_map.specs.Ranges.{pairs_between};
+ghost use Rattle.art_walks.specs.Bounds.{AreValidKeyBounds};
+ghost use Rattle.art_c.specs.Calls.{whole};
+ghost use Rattle.art_c.specs.Spans.{bound_of, goes_on, is_block, IsForward, met_of, reach, reach_of, reached_in};
+ghost use Rattle.art_c.specs.Spans.{stop_of};
+ghost use Rattle.art_c.specs.Walks.{AreTaken, AreWordsTaken, IsWalked, IsWordsWalked, many_rooms, TakesNext};
+ghost use Rattle.art_c.specs.Walks.{words_code};
 
 use crate::bytes::Bytes;
 use crate::code::Code;
-use crate::handle::{Art, Map, with_store};
-use crate::many::{ArtLens, lens_of, tell_lens, write_pair};
+use crate::handle::Map;
+use crate::many::{tell_first, write_pair};
+use crate::value::Value;
 use art_arena::End;
 use art_bytes::{AsBytes, SliceKey};
-use art_walks::Range;
-use std::alloc::Global;
+use art_walks::{Range, bounds_are_valid};
 use std::ops::Bound;
 
 /// Pairs of a map that are still to come.
-type Pairs<'m> = Range<'m, Bytes, Bytes, 16>;
+type Pairs<'m, V> = Range<'m, Bytes, V, 16>;
 
-/// Where a walk begins, by its number in `bindings/c/art.h`.
+/// Which pairs a walk meets, as `artmap_span` has it: from which end, where it begins and where it ends.
+#[derive(Clone, Copy)]
+pub(crate) struct Span<'a> {
+    end: End,
+    from: u32,
+    from_key: &'a [u8],
+    to: u32,
+    to_key: &'a [u8],
+}
+
+impl<'a> Span<'a> {
+    pub(crate) fn new(
+        back: bool,
+        from: u32,
+        from_key: &'a [u8],
+        to: u32,
+        to_key: &'a [u8],
+    ) -> Span<'a>
+        ensures { reach_of result ≡ reach back from from_key.now to to_key.now }
+    {
+        let end = if back { End::Last } else { End::First };
+        Span {
+            end,
+            from,
+            from_key,
+            to,
+            to_key,
+        }
+    }
+}
+
+/// Where a walk begins, by its number in `bindings/c/artmap.h`.
 fn bound_of<'a, 'k>(from: u32, key: &'a SliceKey<'k>) -> Bound<&'a SliceKey<'k>>
     ensures { bound_map (λ it. it.now.0.now) result ≡ bound_of from key.now.0.now }
 {
@@ -30,100 +65,194 @@ fn bound_of<'a, 'k>(from: u32, key: &'a SliceKey<'k>) -> Bound<&'a SliceKey<'k>>
     }
 }
 
-fn pairs_on<'m>(map: &'m Map, end: End, from: u32, key: &[u8]) -> Pairs<'m>
-    ensures { result ≡ pairs_on end (bound_of from key.now) map.now.pairs }
+/// Where a walk ends, by its number there. With a prefix its bound is none.
+fn stop_of<'a, 'k>(to: u32, key: &'a SliceKey<'k>) -> Bound<&'a SliceKey<'k>>
+    ensures { bound_map (λ it. it.now.0.now) result ≡ stop_of to key.now.0.now }
 {
-    let key = SliceKey(key);
-    let bound = bound_of(from, &key);
-    match end {
-        End::First => map.range(bound, Bound::Unbounded),
-        End::Last => map.range(Bound::Unbounded, bound),
+    match to {
+        1 => Bound::Included(key),
+        2 => Bound::Excluded(key),
+        _ => Bound::Unbounded,
     }
 }
 
-fn next_pair<'m>(pairs: &mut Pairs<'m>, end: End) -> Option<(&'m Bytes, &'m Bytes)>
-    ensures { TakesNext end pairs.old (option_map deref_pair result) pairs.new }
+/// Whether a walk begins at an end, of the keys with a prefix alone.
+fn is_block(from: u32, to: u32) -> bool
+    ensures { result ≡ is_block from to }
 {
-    match end {
+    match (from, to) {
+        (0, 0..=2) => false,
+        (0, _) => true,
+        _ => false,
+    }
+}
+
+/// The pairs between two bounds, or nothing where these are not valid.
+fn between<'m, V>(
+    map: &'m Map<V>,
+    start: Bound<&SliceKey<'_>>,
+    end: Bound<&SliceKey<'_>>,
+) -> Option<Pairs<'m, V>>
+    ensures { let lower = bound_map (λ it. it.now.0.now) start.entry in
+        let upper = bound_map (λ it. it.now.0.now) end.entry in
+        MatchOption result (AreValidKeyBounds lower upper → ⊥)
+        (λ it. AreValidKeyBounds lower upper × (it ≡ pairs_between whole lower upper map.now.pairs)) }
+{
+    if bounds_are_valid(start, end) {
+        Some(map.range(start, end))
+    } else {
+        None
+    }
+}
+
+/// The pairs of a span, but for where its prefix ends it, or nothing where it ends before it begins.
+fn reached_in<'m, V>(map: &'m Map<V>, span: Span<'_>) -> Option<Pairs<'m, V>>
+    ensures { MatchOption result (IsForward (reach_of span.entry) → ⊥)
+        (λ it. IsForward (reach_of span.entry) × (it ≡ reached_in (reach_of span.entry) map.now.pairs)) }
+{
+    let (from_key, to_key) = (SliceKey(span.from_key), SliceKey(span.to_key));
+    if is_block(span.from, span.to) {
+        return Some(map.prefix(&to_key));
+    }
+    let (from, to) = (bound_of(span.from, &from_key), stop_of(span.to, &to_key));
+    match span.end {
+        End::First => between(map, from, to),
+        End::Last => between(map, to, from),
+    }
+}
+
+/// Whether a walk goes on to a key: not where it is to have a prefix and does not.
+fn goes_on(to: u32, prefix: &[u8], key: &[u8]) -> bool
+    ensures { result ≡ goes_on to prefix.now key.now }
+{
+    match to {
+        0..=2 => true,
+        _ => key.starts_with(prefix),
+    }
+}
+
+/// The next pair of a walk, if it goes on.
+fn next_pair<'m, V>(pairs: &mut Pairs<'m, V>, span: Span<'_>) -> Option<(&'m Bytes, &'m V)>
+    ensures { TakesNext (reach_of span.entry) pairs.old (option_map deref_pair result) pairs.new }
+{
+    let next = match span.end {
         End::First => pairs.next(),
         End::Last => pairs.next_back(),
+    };
+    let (key, value) = next?;
+    if goes_on(span.to, span.to_key, key.as_bytes()) {
+        Some((key, value))
+    } else {
+        None
     }
 }
 
 /// Whether a pair goes into so many bytes.
-fn fits(key: &[u8], value: &[u8], room: usize) -> bool
-    ensures { IsTrue result ↔ (length key.now + length value.now ≤ room) }
+fn fits(key: &[u8], text: &[u8], room: usize) -> bool
+    ensures { IsTrue result ↔ (length key.now + length text.now ≤ room) }
 {
-    key.len() <= room && value.len() <= room - key.len()
+    key.len() <= room && text.len() <= room - key.len()
 }
 
 /// Copies pairs out while they go in. Tells their number, and the pair that does not go in, if there is one.
-fn copy_out<'m>(
-    mut pairs: Pairs<'m>,
-    end: End,
+fn copy_out<'m, V: Value>(
+    mut pairs: Pairs<'m, V>,
+    span: Span<'_>,
     room: &mut [u8],
-    lens: &mut [ArtLens],
-) -> (usize, Option<(&'m Bytes, &'m Bytes)>)
-    ensures { AreTaken (from_end end pairs.entry) (many_rooms room.old lens.old 0)
-        (option_map deref_pair result.1) (many_rooms room.new lens.new result.0) }
+    items: &mut [V::Item],
+) -> (usize, Option<(&'m Bytes, &'m V)>)
+    ensures { AreTaken V.text_of V.item_of (met_of (reach_of span.entry) pairs.entry) (many_rooms room.old items.old 0)
+        (option_map deref_pair result.1) (many_rooms room.new items.new result.0) }
 {
     let (mut at, mut count) = (0, 0);
-    while let Some((key, value)) = next_pair(&mut pairs, end) {
-        let (key_bytes, value_bytes) = (key.as_bytes(), value.as_bytes());
-        if count == lens.len() || !fits(key_bytes, value_bytes, room.len() - at) {
+    while let Some((key, value)) = next_pair(&mut pairs, span) {
+        let (key_bytes, text) = (key.as_bytes(), value.text());
+        if count == items.len() || !fits(key_bytes, text, room.len() - at) {
             return (count, Some((key, value)));
         }
-        write_pair(key_bytes, value_bytes, at, room);
-        lens[count] = lens_of(key_bytes, value_bytes);
-        at += key_bytes.len() + value_bytes.len();
+        write_pair(key_bytes, text, at, room);
+        items[count] = value.item(key_bytes);
+        at += key_bytes.len() + text.len();
         count += 1;
     }
     (count, None)
 }
 
-pub(super) fn walk(
-    map: &Map,
-    end: End,
-    from: u32,
-    key: &[u8],
+/// Copies words out while there is a place. Tells their number, and whether another is left.
+#[tactic(auto, using(crate::proofs::Walks::words_done))]
+fn words_out<'m>(mut pairs: Pairs<'m, u64>, span: Span<'_>, words: &mut [u64]) -> (usize, bool)
+    ensures { AreWordsTaken (met_of (reach_of span.entry) pairs.entry) words.old result.0 result.1 words.new }
+{
+    let mut count = 0;
+    while let Some((_key, word)) = next_pair(&mut pairs, span) {
+        if count == words.len() {
+            return (count, true);
+        }
+        words[count] = *word;
+        count += 1;
+    }
+    (count, false)
+}
+
+pub(crate) fn walk<V: Value>(
+    map: &Map<V>,
+    span: Span<'_>,
     room: &mut [u8],
-    lens: &mut [ArtLens],
+    items: &mut [V::Item],
     count: &mut usize,
 ) -> Code
-    ensures { IsWalked end (bound_of from key.now) map.now.pairs
-        (many_rooms room.old lens.old count.old)
-        result map.now.pairs (many_rooms room.new lens.new count.new) }
+    ensures { IsWalked V.text_of V.item_of (reach_of span.entry) map.now.pairs (many_rooms room.old items.old count.old)
+        result (many_rooms room.new items.new count.new) }
 {
-    let (copied, other) = copy_out(pairs_on(map, end, from, key), end, room, lens);
+    let Some(pairs) = reached_in(map, span) else {
+        *count = 0;
+        return Code::NotFound;
+    };
+    let (copied, other) = copy_out(pairs, span, room, items);
     *count = copied;
-    if copied != 0 {
-        return Code::Done;
-    }
     match other {
+        None => {
+            if copied == 0 {
+                Code::NotFound
+            } else {
+                Code::Done
+            }
+        }
         Some((key, value)) => {
-            tell_lens(key.as_bytes(), value.as_bytes(), lens);
+            if copied != 0 {
+                return Code::More;
+            }
+            tell_first(value.item(key.as_bytes()), items);
             Code::NoRoom
         }
-        None => Code::NotFound,
     }
 }
 
-/// The walk of a handle.
-pub(super) fn walk_in(
-    alloc: Global,
-    art: &mut Art,
-    end: End,
-    from: u32,
-    key: &[u8],
-    room: &mut [u8],
-    lens: &mut [ArtLens],
-    count: &mut usize,
-) -> u32
-    ensures { Answers (IsWalked end (bound_of from key.now)) art.old
-        (many_rooms room.old lens.old count.old)
-        result art.new (many_rooms room.new lens.new count.new) }
+/// What is answered of so many words.
+fn words_code(count: usize, is_more: bool) -> Code
+    ensures { result ≡ words_code count is_more }
 {
-    with_store!(alloc, art, |store| {
-        walk(&store.map, end, from, key, room, lens, count)
-    })
+    match (count, is_more) {
+        (0, false) => Code::NotFound,
+        (0, true) => Code::NoRoom,
+        (_, false) => Code::Done,
+        (_, true) => Code::More,
+    }
+}
+
+pub(crate) fn walk_words(
+    map: &Map<u64>,
+    span: Span<'_>,
+    words: &mut [u64],
+    count: &mut usize,
+) -> Code
+    ensures { IsWordsWalked (reach_of span.entry) map.now.pairs (words.old, count.old) result (words.new, count.new) }
+{
+    let Some(pairs) = reached_in(map, span) else {
+        *count = 0;
+        return Code::NotFound;
+    };
+    let (copied, is_more) = words_out(pairs, span, words);
+    *count = copied;
+    words_code(copied, is_more)
 }

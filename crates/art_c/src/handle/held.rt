@@ -5,7 +5,7 @@ ghost use Rattle.art_c.specs.Held.{held_owns, store_row, Kept};
 use super::Store;
 use super::loose::Loose;
 use std::alloc::Global;
-use std::marker::Model;
+use std::marker::{Model, Send};
 use std::ptr::null_mut;
 
 /// A map's box behind a pointer, or nothing.
@@ -19,6 +19,9 @@ pub struct Held {
 impl Model for Held {
     ghost also_owns = { λ h. held_owns store_row h.at h.store };
 }
+
+// What lies behind the pointer is the handle's own, or is never changed: it may go to another thread with it.
+unsafe impl Send for Held {}
 
 impl Held {
     pub(super) fn none() -> Held

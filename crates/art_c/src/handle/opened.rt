@@ -1,28 +1,28 @@
 //! How a handle is made and opened.
 ghost use Rattle.std.specs.Prelude.{◌≡◌, Some, None, option_map};
-ghost use Rattle.art_c.specs.Handles.{pairs_behind};
+ghost use Rattle.art_c.specs.Handles.{store_behind};
 
 use super::held::Held;
 use super::loose::Loose;
-use super::{Art, Store};
+use super::{Handle, Store};
 use std::alloc::Global;
 
-impl Art {
+impl Handle {
     // A handle with no map.
-    pub(crate) fn empty() -> Art
-        ensures { pairs_behind result ≡ None }
+    pub(crate) fn empty() -> Handle
+        ensures { store_behind result ≡ None }
     {
-        Art {
+        Handle {
             held: Held::none(),
             is_made: false,
         }
     }
 
     // A handle of this map.
-    pub(crate) fn of(store: Box<Store>) -> Art
-        ensures { pairs_behind result ≡ Some store.value.map.pairs }
+    pub(crate) fn of(store: Box<Store>) -> Handle
+        ensures { store_behind result ≡ Some store.value }
     {
-        Art {
+        Handle {
             held: Held::of(Loose::of(store)),
             is_made: true,
         }
@@ -30,7 +30,7 @@ impl Art {
 
     // The map, if one is made.
     fn into_store(self, alloc: Global) -> Option<Box<Store>>
-        ensures { pairs_behind self ≡ option_map (λ store. store.value.map.pairs) result }
+        ensures { store_behind self ≡ option_map (λ store. store.value) result }
     {
         if self.is_made {
             Some(self.held.into_loose(alloc).into_box())
@@ -41,9 +41,9 @@ impl Art {
 
     // Takes the map out, if one is made. The handle has none then.
     pub(crate) fn take(&mut self, alloc: Global) -> Option<Box<Store>>
-        ensures map { pairs_behind self.old ≡ option_map (λ store. store.value.map.pairs) result }
-        ensures left { pairs_behind self.new ≡ None }
+        ensures map { store_behind self.old ≡ option_map (λ store. store.value) result }
+        ensures left { store_behind self.new ≡ None }
     {
-        std::mem::replace(self, Art::empty()).into_store(alloc)
+        std::mem::replace(self, Handle::empty()).into_store(alloc)
     }
 }

@@ -1,14 +1,14 @@
 //! A line that is read before its turn: what it asks for, and how far the way of its key is gone.
-ghost use Rattle.std.specs.Prelude.{◌≡◌, ◌+◌, ◌≤◌, true, IsTrue, IfSome, drop, option_map};
+ghost use Rattle.std.specs.Prelude.{◌≡◌, ◌+◌, ◌<◌, ◌≤◌, true, IsTrue, IfSome, drop, length, option_map};
 ghost use Rattle.std.specs.Prelude.{Some, nat_eq};
 ghost use Rattle.art_arena.specs.arena.Visited.{count_of};
 ghost use Rattle.art_arena.specs.arena.Descents.{GoesOn};
 ghost use Rattle.std.specs.List.{starts_with};
 ghost use Rattle.art_lines.specs.Parsed.{command_with};
 ghost use Rattle.art_lines.specs.Reading.{command_of};
-ghost use Rattle.art_engine.specs.Ahead.{way_ahead, most_ahead, GrewAlike, IsStepAhead};
+ghost use Rattle.art_engine.specs.Ahead.{way_ahead, most_ahead, IsStepAhead};
 
-use crate::upcoming::door::Door;
+use crate::upcoming::way_reader::WayReader;
 use crate::upcoming::{Asked, Roots};
 use arrayvec::ArrayVec;
 use art_arena::{InnerRef, NextStep};
@@ -24,7 +24,8 @@ pub(crate) const SHORT: usize = 256;
 pub(crate) const KEY: usize = 132;
 
 /// A line that is read before its turn. Its way has the node that comes next on the path of its key, how many bytes of
-/// the key lead there, how many nodes were read, and how many may be still.
+/// the key lead there, how many nodes were read, and how many may be still. Of a line that has a way the key is that of
+/// its command.
 #[derive(Drop)]
 pub(crate) struct Line {
     text: ArrayVec<u8, SHORT>,
@@ -39,6 +40,7 @@ pub(crate) struct Line {
     ghost spelled: { option_map (λ word. command_with word fields) word ≡ command_of text.items },
     ghost few: { read + left ≤ most_ahead (command_of text.items) },
     ghost small: { read + left ≤ 133 },
+    ghost way: { 0 < read + left → way_ahead (command_of text.items) ≡ Some key.items },
 }
 
 /// The child to which a key goes on from an inner node after so many of its bytes. It goes no further where it doesn't
@@ -126,6 +128,7 @@ impl Line {
     /// Reads a line that is short. Its way begins at the root of a map that is given, if any.
     pub(crate) fn read(&mut self, text: &[u8], roots: &Roots)
         ensures none { self.new.read ≡ 0 }
+        ensures text { length text.now ≤ 256 → self.new.text.items ≡ text.now }
     {
         self.text.clear();
         let _ = self.text.try_extend_from_slice(text);
@@ -146,18 +149,17 @@ impl Line {
         }
     }
 
-    /// Whether this is the line.
-    pub(crate) fn is(&self, line: &[u8]) -> bool
-        ensures { IsTrue result → self.now.text.items ≡ line.now }
-    {
-        self.text.as_slice() == line
-    }
+    /// A law, which does nothing: what it asks for is what its bytes spell, and no more was read ahead than may be.
+    pub(crate) fn is_read(&self)
+        ensures read { option_map (λ word. command_with word self.now.fields) self.now.word
+            ≡ command_of self.now.text.items }
+        ensures few { self.now.read ≤ most_ahead (command_of self.now.text.items) }
+    {}
 
     /// What it asks for.
     pub(crate) fn asked(&self) -> Asked<'_>
-        ensures read { option_map (λ word. command_with word result.fields.now) result.word
-            ≡ command_of self.now.text.items }
-        ensures few { result.ahead ≤ most_ahead (command_of self.now.text.items) }
+        ensures word { result.word ≡ self.now.word }
+        ensures fields { result.fields.now ≡ self.now.fields }
         ensures own { result.ahead ≡ self.now.read }
     {
         Asked {
@@ -177,18 +179,18 @@ impl Line {
     #[inline(always)]
     pub(crate) fn step<'a, K, const PREFIX_LEN: usize>(
         &mut self,
-        door: &mut Door<'a, K, PREFIX_LEN>,
+        reader: &mut WayReader<'a, K, PREFIX_LEN>,
     ) -> Option<&'a LeafNode<K, Vec<u8>>>
-        ensures counted { GrewAlike self.old.read self.new.read (count_of door.old.reader)
-            (count_of door.new.reader) }
+        ensures counted { self.new.read + count_of reader.old.reader ≡ self.old.read + count_of reader.new.reader }
         ensures one { self.new.read ≤ self.old.read + 1 }
-        ensures along { IsStepAhead door.old.arena.now self.old.key.items (self.old.node, self.old.depth)
+        ensures along { IsStepAhead reader.old.arena.now self.old.key.items (self.old.node, self.old.depth)
             (self.new.node, self.new.depth) }
+        ensures text { self.new.text.items ≡ self.old.text.items }
     {
         if self.left == 0 {
             return None;
         }
-        let Some(node) = door.visit(self.node) else {
+        let Some(node) = reader.visit(self.node) else {
             self.left = 0;
             return None;
         };

@@ -5,16 +5,20 @@ ghost use Rattle.std.specs.Iterator.{IsFinite};
 ghost use Rattle.std.specs.List.{AllByRecursion};
 ghost use Rattle.std.specs.Map.Iter.{deref_pair};
 ghost use Rattle.art_arena.specs.arena.Arena.{HasRoom, UsesRoom};
+ghost use Rattle.art_arena.specs.arena.Shapes.{key_of};
 ghost use Rattle.art_operations.specs.Builders.{Builds, HasRoomBeside};
-ghost use Rattle.art_operations.specs.Insertions.{HandsPairBack};
+ghost use Rattle.art_operations.specs.Insertions.{HandsPairBack, IsForConflict, IsPairRefused};
+ghost use Rattle.art_operations.specs.KeyedLists.{HasKey, IsBlocked};
 ghost use Rattle.art_operations.specs.LeafNames.{HasLeavesOf};
 ghost use Rattle.art_operations.specs.Pairs.{with_pair_put};
 ghost use Rattle.art_map.specs.Builders.{GathersWith, HasGathered, HasGatheredInOrder, HasRoomLeft, nodes_of};
+ghost use Rattle.art_map.specs.inner.Pushes.{pair_handed_back};
 
 use crate::map::TreeMap;
 use art_arena::NodeArena;
 use art_bytes::{AsBytes, NoPrefixesBytes};
-use art_operations::{InsertRefused, PushRefused, SpineRoom, TreeBuilder};
+use art_nodes::known;
+use art_operations::{InsertRefused, PairRefused, PushRefused, SpineRoom, TreeBuilder};
 use std::alloc::Global;
 use std::mem;
 
@@ -55,7 +59,7 @@ pub struct TreeMapBuilder<K: AsBytes, V, const PREFIX_LEN: usize> {
     map: TreeMap<K, V, PREFIX_LEN>,
 }
 
-impl<K: NoPrefixesBytes + Drop, V: Drop, const PREFIX_LEN: usize> TreeMapBuilder<K, V, PREFIX_LEN> {
+impl<K: AsBytes + Drop, V: Drop, const PREFIX_LEN: usize> TreeMapBuilder<K, V, PREFIX_LEN> {
     /// Makes a builder that has no pair. It allocates nothing.
     ///
     /// ```
@@ -117,87 +121,63 @@ impl<K: NoPrefixesBytes + Drop, V: Drop, const PREFIX_LEN: usize> TreeMapBuilder
         }
     }
 
-    // Puts in the pairs that an iterator gives, one after another, up to the first that is refused.
-    pub(super) fn put_all<U: IntoIterator<Item = (K, V)>>(
-        &mut self,
-        iter: U,
-    ) -> Result<(), InsertRefused<K, V>>
-        requires fits_in_memory { PREFIX_LEN < 2 ^ 62 }
-        requires taken { (pairs : List (K × V)) × HasGathered K.bytes K.is_key self.old pairs }
-        requires ends { (it : U.IntoIter) → U.into_iter_gives iter it
-            → U.IntoIter.can_next it × IsFinite (U.IntoIter.remaining it) }
-        ensures pairs { GathersWith K.bytes K.is_key (λ pair. pair) U.into_iter_gives U.IntoIter.next_gives iter
-            self.old result self.new }
-        ensures names { HasLeavesOf K.bytes (nodes_of self.new) (nodes_of self.old) }
-    {
-        for (key, value) in iter {
-            self.put(key, value)?;
-        }
-        Ok(())
-    }
-
-    // Puts in copies of the pairs that an iterator lends, as `put_all` does.
-    pub(super) fn put_copies<'a, U: IntoIterator<Item = (&'a K, &'a V)>>(
-        &mut self,
-        iter: U,
-    ) -> Result<(), InsertRefused<K, V>>
-    where
-        K: Copy + 'a,
-        V: Copy + 'a,
-        requires fits_in_memory { PREFIX_LEN < 2 ^ 62 }
-        requires taken { (pairs : List (K × V)) × HasGathered K.bytes K.is_key self.old pairs }
-        requires ends { (it : U.IntoIter) → U.into_iter_gives iter it
-            → U.IntoIter.can_next it × IsFinite (U.IntoIter.remaining it) }
-        ensures pairs { GathersWith K.bytes K.is_key deref_pair U.into_iter_gives U.IntoIter.next_gives iter
-            self.old result self.new }
-        ensures names { HasLeavesOf K.bytes (nodes_of self.new) (nodes_of self.old) }
-    {
-        for (key, value) in iter {
-            self.put(*key, *value)?;
-        }
-        Ok(())
-    }
-
-    /// Takes a pair. It replaces a pair whose key has the same bytes.
+    /// Takes a pair, whatever its type's keys are. It replaces a pair whose key has the same bytes.
     ///
-    /// Fails only if an insertion of the pair would be out of memory. The error returns the pair, and the builder has
-    /// the pairs that it had.
+    /// Fails with `Conflict` if the key is a prefix of one that it has, or one of these is a prefix of it. As long as
+    /// keys ascend, only the last can be. Fails with `Memory` only if an insertion of the pair would be out of memory.
+    /// A key that it has never fails. The error returns the pair, and the builder has the pairs that it had.
     ///
     /// ```
     /// let mut builder: TreeMapBuilder<_, _, 16> = TreeMapBuilder::new(rt.alloc());
-    /// builder.put(*b"cd", 1)?;
-    /// builder.put(*b"ab", 2)?;
-    /// builder.put(*b"cd", 3)?;
-    /// assert!(rt; builder.finish().iter().eq([(b"ab", &2), (b"cd", &3)]));
+    /// builder.try_put(StrKey("ab"), 1)?;
+    /// assert!(rt; matches!(builder.try_put(StrKey("abc"), 2), Err(PairRefused::Conflict { .. })));
+    /// builder.try_put(StrKey("ac"), 3)?;
+    /// assert!(rt; builder.finish().values().eq([&1, &3]));
     /// ```
-    pub fn put(&mut self, key: K, value: V) -> Result<(), InsertRefused<K, V>>
+    pub fn try_put(&mut self, key: K, value: V) -> Result<(), PairRefused<K, V>>
         requires fits_in_memory { PREFIX_LEN < 2 ^ 62 }
         requires taken { (pairs : List (K × V)) × HasGathered K.bytes K.is_key self.old pairs }
         ensures ok { OnOk result ((pairs : List (K × V)) → HasGathered K.bytes K.is_key self.old pairs
             → HasGathered K.bytes K.is_key self.new (with_pair_put K.bytes key value pairs)) }
-        ensures handed_back { HandsPairBack key value result }
+        ensures free { OnOk result ((pairs : List (K × V)) → HasGathered K.bytes K.is_key self.old pairs
+            → IsBlocked (key_of K.bytes) (K.bytes key) pairs → ⊥) }
+        ensures refused { IfErr result (λ e. (pairs : List (K × V)) → HasGathered K.bytes K.is_key self.old pairs
+            → IsPairRefused key value (IsBlocked (key_of K.bytes) (K.bytes key) pairs) e) }
+        ensures stored { (pairs : List (K × V)) → HasGathered K.bytes K.is_key self.old pairs
+            → HasKey (key_of K.bytes) (K.bytes key) pairs → IsOk result }
         ensures kept { OnErr result ((pairs : List (K × V)) → HasGathered K.bytes K.is_key self.old pairs
             → HasGathered K.bytes K.is_key self.new pairs) }
         ensures names { HasLeavesOf K.bytes (nodes_of self.new) (nodes_of self.old) }
-        ensures succeeds { HasRoomLeft self.old 2 → IsOk result }
+        ensures succeeds { IfErr result (λ e. HasRoomLeft self.old 2 → IsForConflict e) }
         ensures room { (n : ℕ) → HasRoomLeft self.old (n + 2) → HasRoomLeft self.new n }
+        ensures keys { (pairs : List (K × V)) → HasGathered K.bytes K.is_key self.old pairs
+            → AllByRecursion (λ p. K.is_key p.0) pairs }
+        ensures key { K.is_key key }
     {
         self.resume(key.as_bytes());
         self.put_on(key, value)
     }
 
     // Takes a pair behind the last one, where keys go there and there is memory for that, or inserts it.
-    fn put_on(&mut self, key: K, value: V) -> Result<(), InsertRefused<K, V>>
+    fn put_on(&mut self, key: K, value: V) -> Result<(), PairRefused<K, V>>
         requires fits_in_memory { PREFIX_LEN < 2 ^ 62 }
         requires taken { (pairs : List (K × V)) × HasGathered K.bytes K.is_key self.old pairs }
         ensures ok { OnOk result ((pairs : List (K × V)) → HasGathered K.bytes K.is_key self.old pairs
             → HasGathered K.bytes K.is_key self.new (with_pair_put K.bytes key value pairs)) }
-        ensures handed_back { HandsPairBack key value result }
+        ensures free { OnOk result ((pairs : List (K × V)) → HasGathered K.bytes K.is_key self.old pairs
+            → IsBlocked (key_of K.bytes) (K.bytes key) pairs → ⊥) }
+        ensures refused { IfErr result (λ e. (pairs : List (K × V)) → HasGathered K.bytes K.is_key self.old pairs
+            → IsPairRefused key value (IsBlocked (key_of K.bytes) (K.bytes key) pairs) e) }
+        ensures stored { (pairs : List (K × V)) → HasGathered K.bytes K.is_key self.old pairs
+            → HasKey (key_of K.bytes) (K.bytes key) pairs → IsOk result }
         ensures kept { OnErr result ((pairs : List (K × V)) → HasGathered K.bytes K.is_key self.old pairs
             → HasGathered K.bytes K.is_key self.new pairs) }
         ensures names { HasLeavesOf K.bytes (nodes_of self.new) (nodes_of self.old) }
-        ensures succeeds { HasRoomLeft self.old 2 → IsOk result }
+        ensures succeeds { IfErr result (λ e. HasRoomLeft self.old 2 → IsForConflict e) }
         ensures room { (n : ℕ) → HasRoomLeft self.old (n + 2) → HasRoomLeft self.new n }
+        ensures keys { (pairs : List (K × V)) → HasGathered K.bytes K.is_key self.old pairs
+            → AllByRecursion (λ p. K.is_key p.0) pairs }
+        ensures key { K.is_key key }
     {
         // Its bytes tell that it is a key.
         let _known = key.as_bytes();
@@ -206,7 +186,8 @@ impl<K: NoPrefixesBytes + Drop, V: Drop, const PREFIX_LEN: usize> TreeMapBuilder
         }
         match self.builder.push(&mut self.arena, key, value) {
             Ok(()) => Ok(()),
-            Err(PushRefused::NotBehind { key, value } | PushRefused::Memory { key, value }) => {
+            Err(refused) => {
+                let (key, value) = handed_back(refused);
                 self.settle();
                 self.insert(key, value)
             }
@@ -258,18 +239,25 @@ impl<K: NoPrefixesBytes + Drop, V: Drop, const PREFIX_LEN: usize> TreeMapBuilder
     }
 
     // Inserts a pair into the map that has the others.
-    fn insert(&mut self, key: K, value: V) -> Result<(), InsertRefused<K, V>>
+    fn insert(&mut self, key: K, value: V) -> Result<(), PairRefused<K, V>>
         requires settled { self.old.in_order ≡ false }
         ensures settled { self.new.in_order ≡ false }
         ensures pairs { OnOk result (self.new.map.pairs ≡ with_pair_put K.bytes key value self.old.map.pairs) }
-        ensures handed_back { HandsPairBack key value result }
+        ensures free { OnOk result (IsBlocked (key_of K.bytes) (K.bytes key) self.old.map.pairs → ⊥) }
+        ensures refused { IfErr result
+            (IsPairRefused key value (IsBlocked (key_of K.bytes) (K.bytes key) self.old.map.pairs)) }
+        ensures stored { HasKey (key_of K.bytes) (K.bytes key) self.old.map.pairs → IsOk result }
         ensures kept { OnErr result (self.new.map.pairs ≡ self.old.map.pairs) }
         ensures names { HasLeavesOf K.bytes self.new.map.nodes self.old.map.nodes }
-        ensures succeeds { HasRoom self.old.map.nodes 2 → IsOk result }
+        ensures succeeds { IfErr result (λ e. HasRoom self.old.map.nodes 2 → IsForConflict e) }
         ensures room { UsesRoom 2 self.old.map.nodes self.new.map.nodes }
+        ensures keys { AllByRecursion (λ p. K.is_key p.0) self.old.map.pairs }
+        ensures key { K.is_key key }
     {
-        self.map.insert(key, value)?;
-        Ok(())
+        match self.map.put(key, value) {
+            Ok(_old) => Ok(()),
+            Err(refused) => Err(refused),
+        }
     }
 
     // Makes the map of the pairs that came in order.
@@ -310,6 +298,94 @@ impl<K: NoPrefixesBytes + Drop, V: Drop, const PREFIX_LEN: usize> TreeMapBuilder
     }
 }
 
+impl<K: NoPrefixesBytes + Drop, V: Drop, const PREFIX_LEN: usize> TreeMapBuilder<K, V, PREFIX_LEN> {
+    // Puts in the pairs that an iterator gives, one after another, up to the first that is refused.
+    pub(super) fn put_all<U: IntoIterator<Item = (K, V)>>(
+        &mut self,
+        iter: U,
+    ) -> Result<(), InsertRefused<K, V>>
+        requires fits_in_memory { PREFIX_LEN < 2 ^ 62 }
+        requires taken { (pairs : List (K × V)) × HasGathered K.bytes K.is_key self.old pairs }
+        requires ends { (it : U.IntoIter) → U.into_iter_gives iter it
+            → U.IntoIter.can_next it × IsFinite (U.IntoIter.remaining it) }
+        ensures pairs { GathersWith K.bytes K.is_key (λ pair. pair) U.into_iter_gives U.IntoIter.next_gives iter
+            self.old result self.new }
+        ensures names { HasLeavesOf K.bytes (nodes_of self.new) (nodes_of self.old) }
+    {
+        for (key, value) in iter {
+            self.put(key, value)?;
+        }
+        Ok(())
+    }
+
+    // Puts in copies of the pairs that an iterator lends, as `put_all` does.
+    pub(super) fn put_copies<'a, U: IntoIterator<Item = (&'a K, &'a V)>>(
+        &mut self,
+        iter: U,
+    ) -> Result<(), InsertRefused<K, V>>
+    where
+        K: Copy + 'a,
+        V: Copy + 'a,
+        requires fits_in_memory { PREFIX_LEN < 2 ^ 62 }
+        requires taken { (pairs : List (K × V)) × HasGathered K.bytes K.is_key self.old pairs }
+        requires ends { (it : U.IntoIter) → U.into_iter_gives iter it
+            → U.IntoIter.can_next it × IsFinite (U.IntoIter.remaining it) }
+        ensures pairs { GathersWith K.bytes K.is_key deref_pair U.into_iter_gives U.IntoIter.next_gives iter
+            self.old result self.new }
+        ensures names { HasLeavesOf K.bytes (nodes_of self.new) (nodes_of self.old) }
+    {
+        for (key, value) in iter {
+            self.put(*key, *value)?;
+        }
+        Ok(())
+    }
+
+    /// Takes a pair. It replaces a pair whose key has the same bytes.
+    ///
+    /// Fails only if an insertion of the pair would be out of memory, and never if it has the key. The error returns
+    /// the pair, and the builder has the pairs that it had.
+    ///
+    /// ```
+    /// let mut builder: TreeMapBuilder<_, _, 16> = TreeMapBuilder::new(rt.alloc());
+    /// builder.put(*b"cd", 1)?;
+    /// builder.put(*b"ab", 2)?;
+    /// builder.put(*b"cd", 3)?;
+    /// assert!(rt; builder.finish().iter().eq([(b"ab", &2), (b"cd", &3)]));
+    /// ```
+    pub fn put(&mut self, key: K, value: V) -> Result<(), InsertRefused<K, V>>
+        requires fits_in_memory { PREFIX_LEN < 2 ^ 62 }
+        requires taken { (pairs : List (K × V)) × HasGathered K.bytes K.is_key self.old pairs }
+        ensures ok { OnOk result ((pairs : List (K × V)) → HasGathered K.bytes K.is_key self.old pairs
+            → HasGathered K.bytes K.is_key self.new (with_pair_put K.bytes key value pairs)) }
+        ensures handed_back { HandsPairBack key value result }
+        ensures stored { (pairs : List (K × V)) → HasGathered K.bytes K.is_key self.old pairs
+            → HasKey (key_of K.bytes) (K.bytes key) pairs → IsOk result }
+        ensures kept { OnErr result ((pairs : List (K × V)) → HasGathered K.bytes K.is_key self.old pairs
+            → HasGathered K.bytes K.is_key self.new pairs) }
+        ensures names { HasLeavesOf K.bytes (nodes_of self.new) (nodes_of self.old) }
+        ensures succeeds { HasRoomLeft self.old 2 → IsOk result }
+        ensures room { (n : ℕ) → HasRoomLeft self.old (n + 2) → HasRoomLeft self.new n }
+    {
+        match self.try_put(key, value) {
+            Ok(()) => Ok(()),
+            Err(PairRefused::Memory { key, value }) => Err(InsertRefused { key, value }),
+            Err(PairRefused::Conflict { .. }) => {
+                known(false);
+                unreachable!()
+            }
+        }
+    }
+}
+
+// The pair that was not taken.
+fn handed_back<K, V>(refused: PushRefused<K, V>) -> (K, V)
+    ensures { result ≡ pair_handed_back refused }
+{
+    match refused {
+        PushRefused::NotBehind { key, value } | PushRefused::Memory { key, value } => (key, value),
+    }
+}
+
 // The pause after the next look.
 fn next_pause(pause: usize) -> usize {
     if pause < LONGEST_PAUSE {
@@ -318,7 +394,7 @@ fn next_pause(pause: usize) -> usize {
     pause
 }
 
-impl<K: NoPrefixesBytes + Drop, V: Drop, const PREFIX_LEN: usize> TreeMap<K, V, PREFIX_LEN> {
+impl<K: AsBytes + Drop, V: Drop, const PREFIX_LEN: usize> TreeMap<K, V, PREFIX_LEN> {
     // Whether there is a last key, which comes before these bytes.
     fn ends_before(&self, key: &[u8]) -> bool {
         match self.last_key_value() {

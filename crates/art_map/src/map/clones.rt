@@ -3,6 +3,7 @@ ghost use Rattle.std.specs.Prelude.{◌≡◌, IfOk};
 ghost use Rattle.art_arena.specs.arena.ArenaClones.{IsArenaClone};
 ghost use Rattle.art_operations.specs.Runs.{AreClones};
 
+use crate::clone_key::CloneKey;
 use crate::map::TreeMap;
 use art_bytes::CloneBytes;
 use std::alloc::AllocError;
@@ -35,5 +36,28 @@ impl<K: CloneBytes, V: Clone, const PREFIX_LEN: usize> TreeMap<K, V, PREFIX_LEN>
             arena: self.arena.try_clone(self.alloc)?,
             root: self.root,
         })
+    }
+}
+
+/// A map of clones, as the method `clone` of the map makes it.
+///
+/// ```
+/// #[derive(Clone, Drop)]
+/// struct Shelf {
+///     books: TreeMap<[u8; 2], u32, 16>,
+/// }
+/// let mut shelf = Shelf { books: TreeMap::new(rt.alloc()) };
+/// shelf.books.insert(*b"ab", 1)?;
+/// assert_eq!(rt; shelf.clone()?.books.get(b"ab"), Some(&1));
+/// ```
+impl<K: CloneKey, V: Clone, const PREFIX_LEN: usize> Clone for TreeMap<K, V, PREFIX_LEN> {
+    ghost is_clone = { λ old copy. AreClones K.is_clone V.is_clone old.pairs copy.pairs
+        × IsArenaClone K.is_clone V.is_clone old.nodes copy.nodes × (copy.root ≡ old.root) };
+
+    fn clone(&self) -> Result<Self, AllocError> {
+        match TreeMap::clone(self) {
+            Ok(copy) => Ok(copy),
+            Err(refused) => Err(refused),
+        }
     }
 }

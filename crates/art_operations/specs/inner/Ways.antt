@@ -4,6 +4,8 @@ use Rattle.std.specs.declared.result.Result.{Result}
 use Rattle.art_bytes.specs.Keys.{BeginsWith, IsProperFront}
 use Rattle.art_nodes.specs.Name.{Name}
 use Rattle.art_arena.specs.arena.Shapes.{Shape, leaves}
+use Rattle.art_arena.specs.tree.Landing.{ends, pass}
+use Rattle.art_arena.specs.tree.Trees.{Tree, leaf, inner}
 use Rattle.art_operations.specs.Meetings.{PartAt}
 use Rattle.art_operations.specs.Points.{AllConflict, MeetsAt, NoConflict}
 use Rattle.art_operations.specs.declared.insert.point.InsertKind.{InsertKind}
@@ -46,6 +48,11 @@ IsWayAtInner prefix rest (way.NoChild byte) = (more : List ℕ) × (rest ≡ pre
 IsWayAtInner prefix rest way.Conflict = BeginsWith rest prefix
 IsWayAtInner prefix rest way.Same = ⊥
 IsWayAtInner prefix rest (way.PartsFromLeaf parted) = ⊥
+
+-- a key that goes no further from an inner node ends within its prefix, or with it
+abbrev pub EndsInside : {X : Type 0} → Tree X → List ℕ → Type 0
+EndsInside (leaf x) k = Unit {0}
+EndsInside (inner prefix children) k = pass prefix k ≡ ends
 
 module _ {K V : Type 0} (bytes : K → List ℕ) (key : List ℕ) where
   -- the key meets this in the part behind this path, where its place is

@@ -1,7 +1,7 @@
 //! A leaf is removed from a tree.
 ghost use Rattle.std.specs.Prelude.{◌≡◌, List, None, IfOk, IsOk, OnErr};
 ghost use Rattle.art_nodes.specs.Name.{Name};
-ghost use Rattle.art_arena.specs.arena.Arena.{HasRoom, KeepsNodes, SameNodes, UsesRoom};
+ghost use Rattle.art_arena.specs.arena.Arena.{HasRoom, KeepsNodes, KeepsRoomOf, SameNodes, UsesRoom};
 ghost use Rattle.art_arena.specs.arena.Cells.{Cell};
 ghost use Rattle.art_arena.specs.arena.Shapes.{Shape, leaves};
 ghost use Rattle.art_arena.specs.tree.Shrinks.{Shrinks};
@@ -48,6 +48,7 @@ impl DeletePoint {
             → Shrinks (λ l. K.bytes l.key) (leaves s) (K.bytes place.key)) }
         ensures succeeds { HasRoom arena.old 1 → IsOk result }
         ensures room { UsesRoom 1 arena.old arena.new }
+        ensures kept_room { OnErr result (KeepsRoomOf arena.old arena.new) }
     {
         let DeletePoint {
             path,

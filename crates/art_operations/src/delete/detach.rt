@@ -5,6 +5,7 @@ ghost use Rattle.art_nodes.specs.InnerNode as node;
 ghost use Rattle.art_nodes.specs.InnerNode.{child_at, with_child, without_child, with_children};
 ghost use Rattle.art_nodes.specs.Kind.{row_of, shrunk_kind, CanShrink};
 ghost use Rattle.art_arena.specs.arena.Arena.{inner_held, HasRoom, HasRoomOf, SameNodes, KeepsRoom, UsesRoom};
+ghost use Rattle.art_arena.specs.arena.Arena.{KeepsRoomOf};
 ghost use Rattle.art_arena.specs.arena.Cells.{Cell};
 ghost use Rattle.art_arena.specs.tree.Kinds.{IsKindOf, ChangesKind};
 ghost use Rattle.art_arena.specs.arena.Shapes.{Shape, width};
@@ -46,6 +47,7 @@ fn take_child<K, V, const PREFIX_LEN: usize>(
         → CanShrink parent.kind (length (without_child n.children byte))
         → HasRoomOf arena.old (shrunk_kind parent.kind) 1) → IsOk result }
     ensures room { UsesRoom 1 arena.old arena.new }
+    ensures kept_room { OnErr result (KeepsRoomOf arena.old arena.new) }
 {
     arena.edit_inner(parent, &NodeEdit::Remove { byte });
     let left = arena.inner(parent).num_children();
@@ -85,6 +87,7 @@ fn take_out<K: AsBytes, V, const PREFIX_LEN: usize>(
     ensures succeeds { HasRoom arena.old 1 → IsOk result }
     ensures has_room { CanLoseChild arena.old parent → IsOk result }
     ensures room { UsesRoom 1 arena.old arena.new }
+    ensures kept_room { OnErr result (KeepsRoomOf arena.old arena.new) }
 {
     if arena.inner(parent).num_children() == 2 {
         return Ok(merge(arena, parent, byte));
@@ -138,6 +141,7 @@ pub(crate) fn detach<K: AsBytes, V, const PREFIX_LEN: usize>(
     ensures succeeds { HasRoom arena.old 1 → IsOk result }
     ensures has_room { HasRoomAbove arena.old (steps_of path) → IsOk result }
     ensures room { UsesRoom 1 arena.old arena.new }
+    ensures kept_room { OnErr result (KeepsRoomOf arena.old arena.new) }
 {
     match path {
         TreePath::Root => Ok(None),

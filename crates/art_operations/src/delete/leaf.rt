@@ -1,7 +1,7 @@
 //! A leaf that is known by its name is removed from a tree.
 ghost use Rattle.std.specs.Prelude.{◌≡◌, List, None, IfOk, IsOk, OnErr, OnOk};
 ghost use Rattle.art_nodes.specs.Name.{Name};
-ghost use Rattle.art_arena.specs.arena.Arena.{HasRoom, KeepsNodes, SameNodes, UsesRoom};
+ghost use Rattle.art_arena.specs.arena.Arena.{HasRoom, KeepsNodes, KeepsRoomOf, SameNodes, UsesRoom};
 ghost use Rattle.art_arena.specs.arena.Cells.{Cell};
 ghost use Rattle.art_arena.specs.arena.Shapes.{Shape, leaves};
 ghost use Rattle.art_arena.specs.arena.Steps.{steps_of};
@@ -45,6 +45,7 @@ pub fn take_leaf<K: AsBytes, V, const PREFIX_LEN: usize>(
         → (there : IsAmong leaf (leaves s)) → Shrinks (λ l. K.bytes l.key) (leaves s) (K.bytes there.leaf.key)) }
     ensures succeeds { HasRoom arena.old 1 → IsOk result }
     ensures room { UsesRoom 1 arena.old arena.new }
+    ensures kept_room { OnErr result (KeepsRoomOf arena.old arena.new) }
 {
     let point = point_of(arena, root, leaf);
     point.apply(arena, root)

@@ -6,11 +6,12 @@ ghost use Rattle.art_nodes.specs.Name.{Name};
 ghost use Rattle.art_nodes.specs.InnerNode as node;
 ghost use Rattle.art_nodes.specs.Kind.{CanShrink};
 ghost use Rattle.art_arena.specs.arena.Arena.{HasRoom, KeepsNodes, KeepsRoom, SameNodes, UsesRoom};
-ghost use Rattle.art_arena.specs.arena.Shapes.{leaves};
+ghost use Rattle.art_arena.specs.arena.Shapes.{erase, key_of, leaves};
 ghost use Rattle.art_arena.specs.arena.Steps.{steps_of};
 ghost use Rattle.art_operations.specs.Held.{HasInner};
 ghost use Rattle.art_operations.specs.LeafNames.{HasLeavesOf};
-ghost use Rattle.art_operations.specs.Openings.{ForLongest, OpeningReads, ReadsAtLeast, SpanReads};
+ghost use Rattle.art_operations.specs.Openings.{ForLongest, OpeningReads, ReadsAtLeast, ReadsExactly};
+ghost use Rattle.art_operations.specs.Openings.{SpanReads, part_reads};
 ghost use Rattle.art_operations.specs.Subtrees.{CanLoseChild, HasRoomAbove, IsCutBeside, IsSubtreeAnswer};
 ghost use Rattle.art_operations.specs.Subtrees.{IsSubtreePoint, ShrinksWithout};
 ghost use Rattle.art_operations.specs.declared.insert.point.InsertKind.TheVariants as kind;
@@ -94,6 +95,8 @@ pub fn search_for_subtree_delete_point<K: AsBytes, V, const PREFIX_LEN: usize>(
         (λ s. IsSubtreeAnswer K.bytes prefix.now s result) }
     ensures root { IfSome result (λ point. point.root ≡ root) }
     ensures kept { reader.new.arena.now ≡ reader.old.arena.now }
+    ensures counts { OfTree K.bytes PREFIX_LEN reader.old.arena.now root (λ s. ReadsExactly
+        (part_reads (key_of K.bytes) PREFIX_LEN (erase s) prefix.now) reader.old.count reader.new.count) }
     ensures least { ReadsAtLeast 1 reader.old.count reader.new.count }
     ensures few { OfTree K.bytes PREFIX_LEN reader.old.arena.now root (λ s. ForLongest K.bytes s
         (λ longest. OpeningReads longest (length prefix.now) reader.old.count reader.new.count)) }

@@ -1,6 +1,6 @@
 //! The change of a tree that inserts a new key.
 ghost use Rattle.std.specs.Prelude.{◌≡◌, ℕ, IfOk, OnErr, IsOk};
-ghost use Rattle.art_arena.specs.arena.Arena.{HasRoom, KeepsNodes, SameNodes, UsesRoom};
+ghost use Rattle.art_arena.specs.arena.Arena.{HasRoom, KeepsNodes, KeepsRoomOf, SameNodes, UsesRoom};
 ghost use Rattle.art_arena.specs.arena.Steps.{steps_of};
 ghost use Rattle.art_operations.specs.Insertions.{HandsPairBack, IsInsertedBeside};
 ghost use Rattle.art_operations.specs.Points.{IsPoint};
@@ -40,6 +40,8 @@ impl InsertPoint {
         ensures exact { (leaf : ℕ) → self.insert_kind ≡ kind.Exact leaf → IsOk result }
         ensures succeeds { HasRoom arena.old 2 → IsOk result }
         ensures room { UsesRoom 2 arena.old arena.new }
+        ensures kept_room { OnErr result (KeepsRoomOf arena.old arena.new) }
+        ensures exact_room { (leaf : ℕ) → self.insert_kind ≡ kind.Exact leaf → KeepsRoomOf arena.old arena.new }
     {
         let kind = self.insert_kind;
         match kind {

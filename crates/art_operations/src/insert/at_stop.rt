@@ -1,7 +1,7 @@
 //! An insertion where the search for the key's place has just ended. Each end leads to its change at once, so that the
 //! built code names no place in between.
 ghost use Rattle.std.specs.Prelude.{◌≡◌, ℕ, Some, IsOk, IfOk, OnErr};
-ghost use Rattle.art_arena.specs.arena.Arena.{HasRoom, KeepsNodes, SameNodes, UsesRoom};
+ghost use Rattle.art_arena.specs.arena.Arena.{HasRoom, KeepsNodes, KeepsRoomOf, SameNodes, UsesRoom};
 ghost use Rattle.art_arena.specs.arena.Steps.{steps_of};
 ghost use Rattle.art_operations.specs.Insertions.{HandsPairBack, IsInsertedBeside};
 ghost use Rattle.art_operations.specs.Points.{IsPoint};
@@ -43,6 +43,8 @@ pub(crate) fn insert_at_stop<K: AsBytes, V, const PREFIX_LEN: usize>(
     ensures exact { (leaf : ℕ) → met_by stop.node way ≡ Some (kind.Exact leaf) → IsOk result }
     ensures succeeds { HasRoom arena.old 2 → IsOk result }
     ensures room { UsesRoom 2 arena.old arena.new }
+    ensures kept_room { OnErr result (KeepsRoomOf arena.old arena.new) }
+    ensures exact_room { (leaf : ℕ) → met_by stop.node way ≡ Some (kind.Exact leaf) → KeepsRoomOf arena.old arena.new }
 {
     match way {
         Way::Same => {

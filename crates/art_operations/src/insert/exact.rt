@@ -4,7 +4,7 @@ ghost use Rattle.art_arena.specs.arena.Steps.{steps_of};
 ghost use Rattle.art_operations.specs.Insertions.{IsInsertedBeside};
 ghost use Rattle.art_operations.specs.Points.{IsPoint};
 ghost use Rattle.art_operations.specs.declared.insert.point.InsertKind.TheVariants as kind;
-ghost use Rattle.art_arena.specs.arena.Arena.{KeepsNodes, KeepsRoom};
+ghost use Rattle.art_arena.specs.arena.Arena.{KeepsNodes, KeepsRoom, KeepsRoomOf};
 ghost use Rattle.art_operations.specs.Whichever.{HasTreeWhere, OfTreeWhere};
 
 use crate::insert::point::InsertPoint;
@@ -29,6 +29,7 @@ pub(crate) fn replace_pair<K: AsBytes, V, const PREFIX_LEN: usize>(
     ensures others { OfTreeWhere K.bytes PREFIX_LEN arena.old point.root (λ s. IsPoint K.bytes (K.bytes key) s point)
         (λ s rest. KeepsNodes rest arena.old arena.new) }
     ensures room { KeepsRoom arena.old arena.new }
+    ensures room_of { KeepsRoomOf arena.old arena.new }
 {
     let mut node = LeafNode::with_no_siblings(key, value);
     let old = arena.as_ref::<LeafNode<K, V>>(leaf);

@@ -3,6 +3,7 @@ ghost use Rattle.std.specs.Prelude.{◌≡◌, ◌<◌, ◌+◌, ℕ, suc, List,
 ghost use Rattle.art_nodes.specs.Name.{Name};
 ghost use Rattle.art_nodes.specs.InnerNode as node;
 ghost use Rattle.art_arena.specs.arena.Arena.{KeepsNodes, SameCells, SameNodes, HasRoom, KeepsRoom, UsesRoom, links_at};
+ghost use Rattle.art_arena.specs.arena.Arena.{KeepsRoomOf};
 ghost use Rattle.art_arena.specs.arena.Cells.{Cell};
 ghost use Rattle.art_arena.specs.arena.Linked.{AreLinked, IsBeside, KeepsLinksOutside};
 ghost use Rattle.art_arena.specs.arena.Context.{Frame, plug, leaves_before, leaves_after};
@@ -74,6 +75,7 @@ fn grow_at<K: AsBytes, V, const PREFIX_LEN: usize>(
     ensures err { OnErr result (SameNodes arena.old arena.new) }
     ensures succeeds { HasRoom arena.old 1 → IsOk result }
     ensures room { UsesRoom 1 arena.old arena.new }
+    ensures kept_room { OnErr result (KeepsRoomOf arena.old arena.new) }
 {
     let node = arena.grow(inner)?;
     let root = put_below(arena, root, above, node);
@@ -105,6 +107,7 @@ fn make_room<K: AsBytes, V, const PREFIX_LEN: usize>(
     ensures err { OnErr result (SameNodes arena.old arena.new) }
     ensures succeeds { HasRoom arena.old 1 → IsOk result }
     ensures room { UsesRoom 1 arena.old arena.new }
+    ensures kept_room { OnErr result (KeepsRoomOf arena.old arena.new) }
 {
     if arena.inner(inner).may_write(byte) {
         return Ok(Place {
@@ -260,6 +263,7 @@ pub(crate) fn put_into_existing<K: AsBytes, V, const PREFIX_LEN: usize>(
     ensures handed_back { HandsPairBack key value result }
     ensures succeeds { HasRoom arena.old 2 → IsOk result }
     ensures room { UsesRoom 2 arena.old arena.new }
+    ensures kept_room { OnErr result (KeepsRoomOf arena.old arena.new) }
 {
     let leaf = store_leaf(arena, key, value)?;
     let place = match make_room(arena, point, inner, byte) {

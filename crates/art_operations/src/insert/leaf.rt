@@ -1,6 +1,9 @@
 //! A new leaf, before it is linked and stands under an inner node.
 ghost use Rattle.std.specs.Prelude.{◌≡◌, None, IsSome, IsOk, IfOk, OnErr};
-ghost use Rattle.art_arena.specs.arena.Arena.{held_at, Allocates, SameNodes, HasRoom, KeepsRoom, UsesRoom};
+ghost use Rattle.art_arena.specs.arena.Arena.{held_at, Allocates, SameNodes, HasRoom, HasRoomOf};
+ghost use Rattle.art_arena.specs.arena.Arena.{KeepsRoom, KeepsRoomOf, UsesRoom};
+ghost use Rattle.art_arena.specs.arena.Rooms.{FreesRoomOf, UsesRoomOf};
+ghost use Rattle.art_nodes.specs.declared.kind.NodeType.{NodeType};
 ghost use Rattle.art_arena.specs.arena.Cells.{UpdatesAt, leaf_name};
 ghost use Rattle.art_nodes.specs.declared.leaf.LeafNode as node;
 ghost use Rattle.art_operations.specs.inner.Edits.{lone_leaf};
@@ -22,6 +25,8 @@ pub(crate) fn store_leaf<K, V, const PREFIX_LEN: usize>(
     ensures handed_back { HandsPairBack key value result }
     ensures succeeds { HasRoom arena.old 1 → IsOk result }
     ensures room { UsesRoom 1 arena.old arena.new }
+    ensures room_of { UsesRoomOf NodeType.Leaf arena.old arena.new }
+    ensures kept_room { OnErr result (KeepsRoomOf arena.old arena.new) }
 {
     match arena.allocate_node_ptr(LeafNode::with_no_siblings(key, value)) {
         Ok(leaf) => Ok(leaf),
@@ -42,6 +47,9 @@ pub(crate) fn take_back<K, V, const PREFIX_LEN: usize>(
         × (result.value ≡ l.value) }
     ensures updates { UpdatesAt (held_at arena.old) (held_at arena.new) (leaf_name leaf) None }
     ensures room { KeepsRoom arena.old arena.new }
+    ensures room_of { KeepsRoomOf arena.old arena.new }
+    ensures frees { FreesRoomOf NodeType.Leaf arena.old arena.new }
+    ensures room_for_it { HasRoomOf arena.new NodeType.Leaf 1 }
 {
     let node: LeafNode<K, V> = arena.deallocate_node_ptr(leaf);
     let (key, value) = node.into_entry();

@@ -1,15 +1,19 @@
 //! The place of a new key.
 ghost use Rattle.std.specs.Prelude.{◌≡◌, ◌↔◌, ◌+◌, ◌≤◌, ℕ, List, length, drop, IfOk, IfErr, IsTrue, MatchOption};
 ghost use Rattle.art_bytes.specs.Keys.{BeginsWith};
-ghost use Rattle.art_arena.specs.arena.Shapes.{Shape};
-ghost use Rattle.art_operations.specs.Openings.{DescentReads, ForLongest, PlaceReads, ReadsAtLeast};
+ghost use Rattle.art_arena.specs.arena.Context.{path_to};
+ghost use Rattle.art_arena.specs.arena.Shapes.{Shape, erase};
+ghost use Rattle.art_arena.specs.tree.Ways.{descent_reads, prefix_reads};
+ghost use Rattle.art_operations.specs.Openings.{DescentReads, ForLongest, PlaceReads, ReadsAtLeast, ReadsExactly};
+ghost use Rattle.art_operations.specs.Openings.{place_reads};
 ghost use Rattle.art_operations.specs.Points.{IsInTheWay, IsPlaceOrConflict, Refuses};
 ghost use Rattle.art_operations.specs.declared.insert.point.InsertKind.TheVariants as kind;
 ghost use Rattle.art_operations.specs.declared.insert.point.Way.TheVariants as way;
 ghost use Rattle.art_arena.specs.arena.Arena.{node_at};
 ghost use Rattle.art_arena.specs.arena.Steps.{steps_of};
 ghost use Rattle.art_arena.specs.arena.Descents.{OnWayTo, Stops};
-ghost use Rattle.art_operations.specs.inner.Ways.{IsWayAtInner, IsWayAtLeaf, IsWay, answer_at, met_by, point_at};
+ghost use Rattle.art_operations.specs.inner.Ways.{EndsInside, IsWayAtInner, IsWayAtLeaf, IsWay, answer_at, met_by};
+ghost use Rattle.art_operations.specs.inner.Ways.{point_at};
 ghost use Rattle.art_arena.specs.arena.Stores.{StoresAt};
 ghost use Rattle.art_operations.specs.Whichever.{HasTree, OfTree};
 
@@ -285,6 +289,12 @@ fn way_with<K: AsBytes, V, const PREFIX_LEN: usize>(
         → StoresAt K.bytes PREFIX_LEN reader.old.arena.now node depth path s
         → BeginsWith path key.now → IsWay K.bytes key.now path s node result }
     ensures kept { reader.new.arena.now ≡ reader.old.arena.now }
+    ensures counts { (path : List ℕ) (s : Shape K V)
+        → StoresAt K.bytes PREFIX_LEN reader.old.arena.now node depth path s
+        → ReadsExactly (prefix_reads PREFIX_LEN (erase s)) reader.old.count reader.new.count }
+    ensures inside { result ≡ way.Conflict → (path : List ℕ) (s : Shape K V)
+        → StoresAt K.bytes PREFIX_LEN reader.old.arena.now node depth path s
+        → EndsInside (erase s) (drop depth key.now) }
     ensures least { ReadsAtLeast 1 reader.old.count reader.new.count }
     ensures few { (path : List ℕ) (s : Shape K V)
         → StoresAt K.bytes PREFIX_LEN reader.old.arena.now node depth path s
@@ -352,6 +362,8 @@ fn stop_with<K: AsBytes, V, const PREFIX_LEN: usize>(
         → StoresAt K.bytes PREFIX_LEN reader.old.arena.now result.node result.depth path s
         → BeginsWith path key.now → Stops K.bytes key.now path s }
     ensures kept { reader.new.arena.now ≡ reader.old.arena.now }
+    ensures counts { OfTree K.bytes PREFIX_LEN reader.old.arena.now root
+        (λ s. ReadsExactly (descent_reads PREFIX_LEN (erase s) key.now) reader.old.count reader.new.count) }
     ensures least { ReadsAtLeast 1 reader.old.count reader.new.count }
     ensures few { OfTree K.bytes PREFIX_LEN reader.old.arena.now root (λ s. ForLongest K.bytes s
         (λ longest. DescentReads longest result.depth reader.old.count reader.new.count)) }
@@ -398,6 +410,11 @@ pub(crate) fn find_insert_point_with<K: AsBytes, V, const PREFIX_LEN: usize>(
     ensures part { IfErr result (λ e. OfTree K.bytes PREFIX_LEN reader.old.arena.now root
         (λ s. IsInTheWay K.bytes key.now s e.root e.part (steps_of e.path))) }
     ensures kept { reader.new.arena.now ≡ reader.old.arena.now }
+    ensures counts { OfTree K.bytes PREFIX_LEN reader.old.arena.now root
+        (λ s. ReadsExactly (place_reads PREFIX_LEN (erase s) key.now) reader.old.count reader.new.count) }
+    ensures inside { IfErr result (λ e. OfTree K.bytes PREFIX_LEN reader.old.arena.now root
+        (λ s. (there : IsInTheWay K.bytes key.now s e.root e.part (steps_of e.path))
+        × EndsInside (erase there.part) (drop (length (path_to there.ctx)) key.now))) }
     ensures least { ReadsAtLeast 1 reader.old.count reader.new.count }
     ensures few { OfTree K.bytes PREFIX_LEN reader.old.arena.now root (λ s. ForLongest K.bytes s
         (λ longest. PlaceReads longest reader.old.count reader.new.count)) }

@@ -5,6 +5,7 @@ ghost use Rattle.std.specs.Prelude.{IsSome, IsOk, IfOk, OnErr};
 ghost use Rattle.art_nodes.specs.declared.kind.NodeType.TheVariants.{Node4};
 ghost use Rattle.art_nodes.specs.declared.leaf.LeafNode as node;
 ghost use Rattle.art_arena.specs.arena.Arena.{held_at, node_at, links_at, Allocates, SameNodes, HasRoom, KeepsRoom};
+ghost use Rattle.art_arena.specs.arena.Arena.{KeepsRoomOf};
 ghost use Rattle.art_arena.specs.arena.Arena.{KeepsNodes, SameCells, UsesRoom};
 ghost use Rattle.art_arena.specs.arena.Cells.{Cell, UpdatesAt, leaf_name};
 ghost use Rattle.art_arena.specs.arena.Linked.{AreLinked, IsBeside, KeepsLinksOutside};
@@ -79,6 +80,7 @@ fn store_split<K: AsBytes, V, const PREFIX_LEN: usize>(
     ensures err { OnErr result (SameNodes arena.old arena.new) }
     ensures succeeds { HasRoom arena.old 1 → IsOk result }
     ensures room { UsesRoom 1 arena.old arena.new }
+    ensures kept_room { OnErr result (KeepsRoomOf arena.old arena.new) }
 {
     let key = arena.as_key_ref(leaf).as_bytes();
     let node: InnerNode4<K, V, PREFIX_LEN> = split_of(
@@ -113,6 +115,7 @@ fn store_nodes<K: AsBytes, V, const PREFIX_LEN: usize>(
     ensures handed_back { HandsPairBack key value result }
     ensures succeeds { HasRoom arena.old 2 → IsOk result }
     ensures room { UsesRoom 2 arena.old arena.new }
+    ensures kept_room { OnErr result (KeepsRoomOf arena.old arena.new) }
 {
     let leaf = store_leaf(arena, key, value)?;
     match store_split(arena, old, depth, parted, leaf) {
@@ -231,6 +234,7 @@ pub(crate) fn split<K: AsBytes, V, const PREFIX_LEN: usize>(
     ensures handed_back { HandsPairBack key value result }
     ensures succeeds { HasRoom arena.old 2 → IsOk result }
     ensures room { UsesRoom 2 arena.old arena.new }
+    ensures kept_room { OnErr result (KeepsRoomOf arena.old arena.new) }
 {
     if !arena.fits_in_memory() {
         return Err(InsertRefused { key, value });

@@ -2,6 +2,7 @@
 ghost use Rattle.std.specs.Prelude.{ℕ, List, IfOk, OnErr, IsOk};
 ghost use Rattle.art_nodes.specs.Name.{Name};
 ghost use Rattle.art_arena.specs.arena.Arena.{node_at, HasRoom, KeepsNodes, KeepsRoom, SameNodes, UsesRoom};
+ghost use Rattle.art_arena.specs.arena.Arena.{KeepsRoomOf};
 ghost use Rattle.art_arena.specs.arena.Cells.{Cell, Holds};
 ghost use Rattle.art_arena.specs.arena.Shapes.{Shape, IsUnder, cells, leaves, pairs_of};
 ghost use Rattle.art_arena.specs.arena.Steps.{steps_of};
@@ -88,6 +89,7 @@ impl OverwritePoint {
         ensures handed_back { HandsPairBack key value result }
         ensures succeeds { HasRoom arena.old 1 → IsOk result }
         ensures room { UsesRoom 1 arena.old arena.new }
+        ensures kept_room { OnErr result (KeepsRoomOf arena.old arena.new) }
     {
         let part = self.overwrite_point;
         let first = first_leaf(arena, part);
@@ -138,6 +140,8 @@ impl PrefixInsertPoint {
         ensures exact { IsExact self → IsOk result }
         ensures succeeds { HasRoom arena.old 2 → IsOk result }
         ensures room { UsesRoom 2 arena.old arena.new }
+        ensures kept_room { OnErr result (KeepsRoomOf arena.old arena.new) }
+        ensures exact_room { IsExact self → KeepsRoomOf arena.old arena.new }
     {
         match self {
             PrefixInsertPoint::InsertPoint(point) => Ok(PrefixInsertResult {

@@ -104,15 +104,15 @@ impl<K: AsBytes, const PREFIX_LEN: usize> TreeSet<K, PREFIX_LEN> {
         end: Bound<&Q>,
         pred: F,
     ) -> ExtractIf<'_, K, F, PREFIX_LEN>
-        requires valid { (self.old ≡ []) ⊎ AreValidKeyBounds (bound_map (λ key. Q.bytes key.now) start)
+        requires valid { (self.old.keys ≡ []) ⊎ AreValidKeyBounds (bound_map (λ key. Q.bytes key.now) start)
             (bound_map (λ key. Q.bytes key.now) end) }
         requires callable { CallableOnEachKey (CalledAt F.FnMut) (TakesAt F.FnMut) pred (keys_between K.bytes
-            (bound_map (λ key. Q.bytes key.now) start) (bound_map (λ key. Q.bytes key.now) end) self.old) }
+            (bound_map (λ key. Q.bytes key.now) start) (bound_map (λ key. Q.bytes key.now) end) self.old.keys) }
         ensures* writes_back { sem 𝓛 (lends_keys K.row PREFIX_LEN.row K.AsBytes self.entry
             (extract_set result).ghost_name) }
-        ensures keys { (asking_keys result).keys ≡ self.old }
+        ensures keys { (asking_keys result).keys ≡ self.old.keys }
         ensures left { (asking_keys result).left ≡ keys_between K.bytes (bound_map (λ key. Q.bytes key.now) start.entry)
-            (bound_map (λ key. Q.bytes key.now) end.entry) self.old }
+            (bound_map (λ key. Q.bytes key.now) end.entry) self.old.keys }
         ensures asks { (asking_keys result).asks ≡ pred }
         ensures callable { CanExtractKeys F.FnMut result }
     {
@@ -126,7 +126,7 @@ impl<K: AsBytes, const PREFIX_LEN: usize> TreeSet<K, PREFIX_LEN> {
     // The set's map, for changes.
     fn map_mut(&mut self) -> &mut TreeMap<K, (), PREFIX_LEN>
         ensures* writes_back { sem 𝓛 (lends_keys K.row PREFIX_LEN.row K.AsBytes self.entry result.ghost_name) }
-        ensures keys { keys_of result.now.pairs ≡ self.old }
+        ensures keys { keys_of result.now.pairs ≡ self.old.keys }
     {
         &mut self.map
     }
@@ -146,10 +146,10 @@ impl<K: AsBytes, const PREFIX_LEN: usize> TreeSet<K, PREFIX_LEN> {
     pub fn retain<F: FnMut(&K) -> bool>(&mut self, mut keep: F) -> Result<(), AllocError>
     where
         K: Drop,
-        requires { CallableOnEachKey (CalledAt F.FnMut) (TakesAt F.FnMut) keep self.old }
-        ensures retained { OnOk result (IsFiltered (CalledAt F.FnMut) keep self.old self.new) }
-        ensures refused { OnErr result ((key : K) × StopsAtKey (CalledAt F.FnMut) keep self.old key self.new
-            × Shrinks K.bytes self.new (K.bytes key)) }
+        requires { CallableOnEachKey (CalledAt F.FnMut) (TakesAt F.FnMut) keep self.old.keys }
+        ensures retained { OnOk result (IsFiltered (CalledAt F.FnMut) keep self.old.keys self.new.keys) }
+        ensures refused { OnErr result ((key : K) × StopsAtKey (CalledAt F.FnMut) keep self.old.keys key self.new.keys
+            × Shrinks K.bytes self.new.keys (K.bytes key)) }
     {
         let _keys = self.iter();
         let mut keys = all_of(&mut self.map);

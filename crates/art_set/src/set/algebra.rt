@@ -14,8 +14,8 @@ impl<K: OrderedBytes, const PREFIX_LEN: usize> TreeSet<K, PREFIX_LEN> {
         &'a self,
         other: &'a TreeSet<K, PREFIX_LEN>,
     ) -> Sides<'a, K, PREFIX_LEN>
-        ensures first { result.first ≡ self.now }
-        ensures second { result.second ≡ other.now }
+        ensures first { result.first ≡ self.now.keys }
+        ensures second { result.second ≡ other.now.keys }
         ensures comparisons { result.comparisons ≡ 0 }
         ensures ordered { AscendsInBytes K.bytes result.first × AscendsInBytes K.bytes result.second }
     {
@@ -35,10 +35,10 @@ impl<K: OrderedBytes, const PREFIX_LEN: usize> TreeSet<K, PREFIX_LEN> {
         &'a self,
         other: &'a TreeSet<K, PREFIX_LEN>,
     ) -> Difference<'a, K, PREFIX_LEN>
-        ensures rest { result.rest ≡ difference_of K.bytes self.now other.now }
+        ensures rest { result.rest ≡ difference_of K.bytes self.now.keys other.now.keys }
         ensures comparisons { result.comparisons ≡ 0 }
-        ensures to_compare { result.to_compare ≡ comparisons_of K.bytes self.now other.now }
-        ensures unmet { result.unmet ≡ length self.now + length other.now }
+        ensures to_compare { result.to_compare ≡ comparisons_of K.bytes self.now.keys other.now.keys }
+        ensures unmet { result.unmet ≡ length self.now.keys + length other.now.keys }
     {
         Merged::new(self.beside(other))
     }
@@ -56,10 +56,10 @@ impl<K: OrderedBytes, const PREFIX_LEN: usize> TreeSet<K, PREFIX_LEN> {
         &'a self,
         other: &'a TreeSet<K, PREFIX_LEN>,
     ) -> SymmetricDifference<'a, K, PREFIX_LEN>
-        ensures rest { result.rest ≡ symmetric_difference_of K.bytes self.now other.now }
+        ensures rest { result.rest ≡ symmetric_difference_of K.bytes self.now.keys other.now.keys }
         ensures comparisons { result.comparisons ≡ 0 }
-        ensures to_compare { result.to_compare ≡ comparisons_of K.bytes self.now other.now }
-        ensures unmet { result.unmet ≡ length self.now + length other.now }
+        ensures to_compare { result.to_compare ≡ comparisons_of K.bytes self.now.keys other.now.keys }
+        ensures unmet { result.unmet ≡ length self.now.keys + length other.now.keys }
     {
         Merged::new(self.beside(other))
     }
@@ -77,10 +77,10 @@ impl<K: OrderedBytes, const PREFIX_LEN: usize> TreeSet<K, PREFIX_LEN> {
         &'a self,
         other: &'a TreeSet<K, PREFIX_LEN>,
     ) -> Intersection<'a, K, PREFIX_LEN>
-        ensures rest { result.rest ≡ intersection_of K.bytes self.now other.now }
+        ensures rest { result.rest ≡ intersection_of K.bytes self.now.keys other.now.keys }
         ensures comparisons { result.comparisons ≡ 0 }
-        ensures to_compare { result.to_compare ≡ comparisons_of K.bytes self.now other.now }
-        ensures unmet { result.unmet ≡ length self.now + length other.now }
+        ensures to_compare { result.to_compare ≡ comparisons_of K.bytes self.now.keys other.now.keys }
+        ensures unmet { result.unmet ≡ length self.now.keys + length other.now.keys }
     {
         Merged::new(self.beside(other))
     }
@@ -95,10 +95,10 @@ impl<K: OrderedBytes, const PREFIX_LEN: usize> TreeSet<K, PREFIX_LEN> {
     /// assert!(rt; first.union(&second).eq([b"ab", b"cd", b"ef"]));
     /// ```
     pub fn union<'a>(&'a self, other: &'a TreeSet<K, PREFIX_LEN>) -> Union<'a, K, PREFIX_LEN>
-        ensures rest { result.rest ≡ union_of K.bytes self.now other.now }
+        ensures rest { result.rest ≡ union_of K.bytes self.now.keys other.now.keys }
         ensures comparisons { result.comparisons ≡ 0 }
-        ensures to_compare { result.to_compare ≡ comparisons_of K.bytes self.now other.now }
-        ensures unmet { result.unmet ≡ length self.now + length other.now }
+        ensures to_compare { result.to_compare ≡ comparisons_of K.bytes self.now.keys other.now.keys }
+        ensures unmet { result.unmet ≡ length self.now.keys + length other.now.keys }
     {
         Merged::new(self.beside(other))
     }
@@ -113,7 +113,7 @@ impl<K: OrderedBytes, const PREFIX_LEN: usize> TreeSet<K, PREFIX_LEN> {
     /// assert!(rt; first.is_disjoint(&second));
     /// ```
     pub fn is_disjoint(&self, other: &TreeSet<K, PREFIX_LEN>) -> bool
-        ensures { result ≡ are_disjoint K.bytes self.now other.now }
+        ensures { result ≡ are_disjoint K.bytes self.now.keys other.now.keys }
     {
         self.intersection(other).next().is_none()
     }
@@ -128,7 +128,7 @@ impl<K: OrderedBytes, const PREFIX_LEN: usize> TreeSet<K, PREFIX_LEN> {
     /// assert!(rt; first.is_subset(&second));
     /// ```
     pub fn is_subset(&self, other: &TreeSet<K, PREFIX_LEN>) -> bool
-        ensures { result ≡ is_subset_of K.bytes self.now other.now }
+        ensures { result ≡ is_subset_of K.bytes self.now.keys other.now.keys }
     {
         self.difference(other).next().is_none()
     }
@@ -143,7 +143,7 @@ impl<K: OrderedBytes, const PREFIX_LEN: usize> TreeSet<K, PREFIX_LEN> {
     /// assert!(rt; first.is_superset(&second));
     /// ```
     pub fn is_superset(&self, other: &TreeSet<K, PREFIX_LEN>) -> bool
-        ensures { result ≡ is_subset_of K.bytes other.now self.now }
+        ensures { result ≡ is_subset_of K.bytes other.now.keys self.now.keys }
     {
         other.is_subset(self)
     }

@@ -2,6 +2,8 @@
 ghost use Rattle.std.specs.Prelude.{◌≡◌, [], IfErr, IfOk};
 ghost use Rattle.std.specs.Iterator.{IsFinite};
 ghost use Rattle.std.specs.Map.Iter.{deref};
+ghost use Rattle.art_arena.specs.arena.Arena.{HasRoom};
+ghost use Rattle.art_set.specs.LeafNames.{KeepsAllNames};
 ghost use Rattle.art_set.specs.Bulk.{ExtendsWithKeys, IsMadeOfKeys, IsKeyOfList};
 ghost use Rattle.art_set.specs.Members.{with_keys_put};
 
@@ -17,8 +19,8 @@ impl<K: NoPrefixesBytes + Drop, const PREFIX_LEN: usize> TreeSet<K, PREFIX_LEN> 
     /// iterator has to end. As long as keys go behind the last one of the set, no place is looked for: from the ninth
     /// key on, or from the first one if the set is empty. See `TreeMapBuilder`.
     ///
-    /// Fails only if an insertion of a key would be out of memory. The error returns that key. The keys before it stay
-    /// in the set, and the iterator is dropped.
+    /// Fails only if an insertion of a key would be out of memory, and so never with as many keys as `reserve` made
+    /// room for. The error returns that key. The keys before it stay in the set, and the iterator is dropped.
     ///
     /// ```
     /// let mut set = TreeSet::new(rt.alloc());
@@ -28,10 +30,11 @@ impl<K: NoPrefixesBytes + Drop, const PREFIX_LEN: usize> TreeSet<K, PREFIX_LEN> 
     pub fn extend<U: IntoIterator<Item = K>>(&mut self, iter: U) -> Result<(), RefusedKey<K>>
         requires { (it : U.IntoIter) → U.into_iter_gives iter it
             → U.IntoIter.can_next it × IsFinite (U.IntoIter.remaining it) }
-        ensures { ExtendsWithKeys K.bytes (λ key. key) U.into_iter_gives U.IntoIter.next_gives iter self.old result
-            self.new }
+        ensures names { KeepsAllNames K.bytes self.old self.new }
+        ensures keys { ExtendsWithKeys K.bytes (λ key. key) U.into_iter_gives U.IntoIter.next_gives iter
+            (HasRoom self.old.nodes) self.old.keys result self.new.keys }
     {
-        if !nodes_fit::<PREFIX_LEN>() {
+        if !self.fits_in_memory() {
             let mut keys = iter.into_iter();
             let Some(key) = keys.next() else {
                 return Ok(());
@@ -61,9 +64,11 @@ impl<K: NoPrefixesBytes + Drop, const PREFIX_LEN: usize> TreeSet<K, PREFIX_LEN> 
         K: Copy + 'a,
         requires { (it : U.IntoIter) → U.into_iter_gives iter it
             → U.IntoIter.can_next it × IsFinite (U.IntoIter.remaining it) }
-        ensures { ExtendsWithKeys K.bytes deref U.into_iter_gives U.IntoIter.next_gives iter self.old result self.new }
+        ensures names { KeepsAllNames K.bytes self.old self.new }
+        ensures keys { ExtendsWithKeys K.bytes deref U.into_iter_gives U.IntoIter.next_gives iter
+            (HasRoom self.old.nodes) self.old.keys result self.new.keys }
     {
-        if !nodes_fit::<PREFIX_LEN>() {
+        if !self.fits_in_memory() {
             let mut keys = iter.into_iter();
             let Some(key) = keys.next() else {
                 return Ok(());
@@ -116,7 +121,7 @@ impl<K: NoPrefixesBytes + Drop, const PREFIX_LEN: usize> TreeSet<K, PREFIX_LEN> 
     /// assert!(rt; set.iter().eq([b"ab", b"cd"]));
     /// ```
     pub fn from_vec(alloc: Global, keys: Vec<K>) -> Result<Self, RefusedKey<K>>
-        ensures ok { IfOk result (λ made. made ≡ with_keys_put K.bytes keys.items []) }
+        ensures ok { IfOk result (λ made. made.keys ≡ with_keys_put K.bytes keys.items []) }
         ensures err { IfErr result (IsKeyOfList keys.items) }
     {
         TreeSet::from_iter(alloc, keys)

@@ -4,7 +4,9 @@ ghost use Rattle.art_operations.specs.KeyedLists.{HasKey, IsBlocked};
 ghost use Rattle.std.specs.Map.{keys_of};
 ghost use Rattle.art_map.specs.Contents.{has_bytes};
 ghost use Rattle.art_map.specs.Changes.{IsTryRefused as IsPairRefused};
+ghost use Rattle.art_arena.specs.arena.Arena.{HasRoom, UsesRoom};
 ghost use Rattle.art_set.specs.Changes.{IsKeyTurnedAway};
+ghost use Rattle.art_set.specs.LeafNames.{IsSetUntouched, KeepsAllNames};
 ghost use Rattle.art_set.specs.Members.{is_member, with_key_put};
 
 use crate::set::TreeSet;
@@ -40,12 +42,16 @@ impl<K: AsBytes, const PREFIX_LEN: usize> TreeSet<K, PREFIX_LEN> {
     pub fn try_insert(&mut self, key: K) -> Result<bool, TryKeyError<K>>
     where
         K: Drop,
-        ensures added { IfOk result (λ added. added ≡ not (is_member K.bytes (K.bytes key) self.old)) }
-        ensures keys { OnOk result (self.new ≡ with_key_put K.bytes key self.old) }
-        ensures free { OnOk result (IsBlocked K.bytes (K.bytes key) self.old → ⊥) }
-        ensures stored { HasKey K.bytes (K.bytes key) self.old → IsOk result }
-        ensures err { OnErr result (self.new ≡ self.old) }
-        ensures refused { IfErr result (IsKeyTurnedAway K.bytes self.old key) }
+        ensures added { IfOk result (λ added. added ≡ not (is_member K.bytes (K.bytes key) self.old.keys)) }
+        ensures keys { OnOk result (self.new.keys ≡ with_key_put K.bytes key self.old.keys) }
+        ensures free { OnOk result (IsBlocked K.bytes (K.bytes key) self.old.keys → ⊥) }
+        ensures stored { HasKey K.bytes (K.bytes key) self.old.keys → IsOk result }
+        ensures names { OnOk result (KeepsAllNames K.bytes self.old self.new) }
+        ensures err { OnErr result (self.new.keys ≡ self.old.keys) }
+        ensures kept { OnErr result (IsSetUntouched self.old self.new) }
+        ensures refused { IfErr result (IsKeyTurnedAway K.bytes self.old.keys key) }
+        ensures succeeds { OnErr result (HasRoom self.old.nodes 2 → IsBlocked K.bytes (K.bytes key) self.old.keys) }
+        ensures room { UsesRoom 2 self.old.nodes self.new.nodes }
     {
         let old = match self.map.try_insert(key, ()) {
             Ok(old) => old,
@@ -69,11 +75,15 @@ impl<K: NoPrefixesBytes, const PREFIX_LEN: usize> TreeSet<K, PREFIX_LEN> {
     pub fn insert(&mut self, key: K) -> Result<bool, RefusedKey<K>>
     where
         K: Drop,
-        ensures added { IfOk result (λ added. added ≡ not (is_member K.bytes (K.bytes key) self.old)) }
-        ensures keys { OnOk result (self.new ≡ with_key_put K.bytes key self.old) }
-        ensures stored { HasKey K.bytes (K.bytes key) self.old → IsOk result }
-        ensures err { OnErr result (self.new ≡ self.old) }
+        ensures added { IfOk result (λ added. added ≡ not (is_member K.bytes (K.bytes key) self.old.keys)) }
+        ensures keys { OnOk result (self.new.keys ≡ with_key_put K.bytes key self.old.keys) }
+        ensures stored { HasKey K.bytes (K.bytes key) self.old.keys → IsOk result }
+        ensures names { OnOk result (KeepsAllNames K.bytes self.old self.new) }
+        ensures err { OnErr result (self.new.keys ≡ self.old.keys) }
+        ensures kept { OnErr result (IsSetUntouched self.old self.new) }
         ensures handed_back { IfErr result (λ refused. refused.key ≡ key) }
+        ensures succeeds { HasRoom self.old.nodes 2 → IsOk result }
+        ensures room { UsesRoom 2 self.old.nodes self.new.nodes }
     {
         let old = match self.map.insert(key, ()) {
             Ok(old) => old,
@@ -93,11 +103,15 @@ impl<K: NoPrefixesBytes, const PREFIX_LEN: usize> TreeSet<K, PREFIX_LEN> {
     /// assert_eq!(rt; set.replace(*b"ab")?, Some(*b"ab"));
     /// ```
     pub fn replace(&mut self, key: K) -> Result<Option<K>, RefusedKey<K>>
-        ensures old { IfOk result (λ old. old ≡ find (has_bytes K.bytes (K.bytes key)) self.old) }
-        ensures keys { OnOk result (self.new ≡ with_key_put K.bytes key self.old) }
-        ensures stored { HasKey K.bytes (K.bytes key) self.old → IsOk result }
-        ensures err { OnErr result (self.new ≡ self.old) }
+        ensures old { IfOk result (λ old. old ≡ find (has_bytes K.bytes (K.bytes key)) self.old.keys) }
+        ensures keys { OnOk result (self.new.keys ≡ with_key_put K.bytes key self.old.keys) }
+        ensures stored { HasKey K.bytes (K.bytes key) self.old.keys → IsOk result }
+        ensures names { OnOk result (KeepsAllNames K.bytes self.old self.new) }
+        ensures err { OnErr result (self.new.keys ≡ self.old.keys) }
+        ensures kept { OnErr result (IsSetUntouched self.old self.new) }
         ensures handed_back { IfErr result (λ refused. refused.key ≡ key) }
+        ensures succeeds { HasRoom self.old.nodes 2 → IsOk result }
+        ensures room { UsesRoom 2 self.old.nodes self.new.nodes }
     {
         let old = match self.map.replace_entry(key, ()) {
             Ok(old) => old,

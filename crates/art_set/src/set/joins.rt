@@ -2,6 +2,7 @@
 ghost use Rattle.std.specs.Prelude.{◌≡◌, ◌⊎◌, [], IfOk, IsOk, OnErr, OnOk};
 ghost use Rattle.std.specs.List.{AllZip};
 ghost use Rattle.std.specs.declared.ops.Bound.TheVariants.{Included, Excluded, Unbounded};
+ghost use Rattle.art_set.specs.LeafNames.{IsSetUntouched, KeepsAllNames, KeepsNames};
 ghost use Rattle.art_set.specs.Members.{keys_between, with_keys_put};
 
 use crate::set::TreeSet;
@@ -24,11 +25,13 @@ impl<K: AsBytes, const PREFIX_LEN: usize> TreeSet<K, PREFIX_LEN> {
     pub fn split_off<Q: AsBytes>(&mut self, key: &Q) -> Result<Self, AllocError>
     where
         K: Drop,
-        ensures off { IfOk result (λ off. off
-            ≡ keys_between K.bytes (Included (Q.bytes key.now)) Unbounded self.old) }
-        ensures keys { OnOk result (self.new
-            ≡ keys_between K.bytes Unbounded (Excluded (Q.bytes key.now)) self.old) }
-        ensures err { OnErr result (self.new ≡ self.old) }
+        ensures off { IfOk result (λ off. off.keys
+            ≡ keys_between K.bytes (Included (Q.bytes key.now)) Unbounded self.old.keys) }
+        ensures keys { OnOk result (self.new.keys
+            ≡ keys_between K.bytes Unbounded (Excluded (Q.bytes key.now)) self.old.keys) }
+        ensures names { OnOk result (KeepsNames K.bytes self.old self.new) }
+        ensures err { OnErr result (self.new.keys ≡ self.old.keys) }
+        ensures kept { OnErr result (IsSetUntouched self.old self.new) }
     {
         let alloc = self.alloc;
         let map = self.map.split_off(key)?;
@@ -52,8 +55,8 @@ impl<K: AsBytes, const PREFIX_LEN: usize> TreeSet<K, PREFIX_LEN> {
     where
         K: CloneBytes,
         requires { (k c : K) → K.is_key k → K.is_clone k c → K.is_key c }
-        ensures clones { IfOk result (λ copy. AllZip K.is_clone self.now copy) }
-        ensures keys { ((k c : K) → K.is_clone k c → c ≡ k) → IfOk result (λ copy. copy ≡ self.now) }
+        ensures clones { IfOk result (λ copy. AllZip K.is_clone self.now.keys copy.keys) }
+        ensures keys { ((k c : K) → K.is_clone k c → c ≡ k) → IfOk result (λ copy. copy.keys ≡ self.now.keys) }
     {
         let map = self.map.clone()?;
         Ok(TreeSet {
@@ -79,10 +82,12 @@ impl<K: NoPrefixesBytes + Drop, const PREFIX_LEN: usize> TreeSet<K, PREFIX_LEN> 
     /// assert!(rt; set.iter().eq([b"ab", b"cd", b"ef"]));
     /// ```
     pub fn append(&mut self, other: &mut Self) -> Result<(), AllocError>
-        ensures keys { OnOk result (self.new ≡ with_keys_put K.bytes other.old self.old) }
-        ensures emptied { OnOk result (other.new ≡ []) }
-        ensures err { OnErr result ((self.new ≡ self.old) × (other.new ≡ other.old)) }
-        ensures free { (self.old ≡ []) ⊎ (other.old ≡ []) → IsOk result }
+        ensures keys { OnOk result (self.new.keys ≡ with_keys_put K.bytes other.old.keys self.old.keys) }
+        ensures emptied { OnOk result (other.new.keys ≡ []) }
+        ensures names { OnOk result (KeepsAllNames K.bytes self.old self.new) }
+        ensures err { OnErr result ((self.new.keys ≡ self.old.keys) × (other.new.keys ≡ other.old.keys)) }
+        ensures kept { OnErr result (IsSetUntouched self.old self.new × IsSetUntouched other.old other.new) }
+        ensures free { (self.old.keys ≡ []) ⊎ (other.old.keys ≡ []) → IsOk result }
     {
         self.map.append(&mut other.map)
     }

@@ -17,7 +17,7 @@ impl<K: AsBytes, const PREFIX_LEN: usize> TreeSet<K, PREFIX_LEN> {
     /// assert!(rt; !set.contains(b"a"));
     /// ```
     pub fn contains<Q: AsBytes>(&self, key: &Q) -> bool
-        ensures { result ≡ is_member K.bytes (Q.bytes key.now) self.now }
+        ensures { result ≡ is_member K.bytes (Q.bytes key.now) self.now.keys }
     {
         self.map.contains_key(key)
     }
@@ -30,7 +30,7 @@ impl<K: AsBytes, const PREFIX_LEN: usize> TreeSet<K, PREFIX_LEN> {
     /// assert_eq!(rt; set.get(&StrKey("ab")), Some(b"ab"));
     /// ```
     pub fn get<Q: AsBytes>(&self, key: &Q) -> Option<&K>
-        ensures { option_copied result ≡ find (has_bytes K.bytes (Q.bytes key.now)) self.now }
+        ensures { option_copied result ≡ find (has_bytes K.bytes (Q.bytes key.now)) self.now.keys }
     {
         match self.map.get_key_value(key) {
             Some((key, _)) => Some(key),
@@ -46,7 +46,7 @@ impl<K: AsBytes, const PREFIX_LEN: usize> TreeSet<K, PREFIX_LEN> {
     /// assert_eq!(rt; set.first(), Some(b"ab"));
     /// ```
     pub fn first(&self) -> Option<&K>
-        ensures { option_copied result ≡ first_item self.now }
+        ensures { option_copied result ≡ first_item self.now.keys }
     {
         match self.map.first_key_value() {
             Some((key, _)) => Some(key),
@@ -62,7 +62,7 @@ impl<K: AsBytes, const PREFIX_LEN: usize> TreeSet<K, PREFIX_LEN> {
     /// assert_eq!(rt; set.last(), Some(b"cd"));
     /// ```
     pub fn last(&self) -> Option<&K>
-        ensures { option_copied result ≡ last_item self.now }
+        ensures { option_copied result ≡ last_item self.now.keys }
     {
         match self.map.last_key_value() {
             Some((key, _)) => Some(key),

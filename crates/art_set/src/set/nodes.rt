@@ -26,8 +26,8 @@ impl<K: AsBytes, const PREFIX_LEN: usize> TreeSet<K, PREFIX_LEN> {
     /// assert!(rt; root.is_some());
     /// ```
     pub fn nodes(&self) -> (&NodeArena<K, (), PREFIX_LEN>, Option<OpaqueNodePtr>)
-        ensures tree { HoldsTreeOf K.bytes PREFIX_LEN result.0.now result.1 (pairs_of_keys self.now) }
-        ensures ordered { AscendsByKey K.bytes self.now }
+        ensures tree { HoldsTreeOf K.bytes PREFIX_LEN result.0.now result.1 (pairs_of_keys self.now.keys) }
+        ensures ordered { AscendsByKey K.bytes self.now.keys }
     {
         self.map.nodes()
     }
@@ -45,7 +45,7 @@ impl<K: AsBytes, const PREFIX_LEN: usize> TreeSet<K, PREFIX_LEN> {
     /// ```
     pub fn reader(&self) -> MapReader<'_, K, (), PREFIX_LEN>
         ensures count { result.count ≡ 0 }
-        ensures keys { ReadsPairs K.bytes PREFIX_LEN result.nodes result.root (pairs_of_keys self.now) }
+        ensures keys { ReadsPairs K.bytes PREFIX_LEN result.nodes result.root (pairs_of_keys self.now.keys) }
     {
         self.map.reader()
     }
@@ -64,7 +64,7 @@ impl<K: AsBytes, const PREFIX_LEN: usize> TreeSet<K, PREFIX_LEN> {
     /// assert_eq!(rt; set.audit()?.total_nodes(), 5);
     /// ```
     pub fn audit(&self) -> Result<WellFormedTreeStats, AllocError>
-        ensures { IfOk result (λ stats. stats ≡ audit_of (key_of K.bytes) (pairs_of_keys self.now)) }
+        ensures { IfOk result (λ stats. stats ≡ audit_of (key_of K.bytes) (pairs_of_keys self.now.keys)) }
     {
         self.map.audit()
     }

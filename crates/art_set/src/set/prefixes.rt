@@ -7,6 +7,7 @@ ghost use Rattle.art_operations.specs.Openings.{OpeningReads};
 ghost use Rattle.art_walks.specs.Bounds.{AreValidKeyBounds};
 ghost use Rattle.art_walks.specs.MapReads.{PairsWithin};
 ghost use Rattle.art_map.specs.PrefixBlocks.{AreCutVisits, ShrinksAtCut};
+ghost use Rattle.art_set.specs.LeafNames.{IsSetUntouched, KeepsNames};
 ghost use Rattle.art_set.specs.Members.{keys_between};
 ghost use Rattle.art_set.specs.Pairs.{pairs_of_keys};
 
@@ -27,8 +28,8 @@ impl<K: AsBytes, const PREFIX_LEN: usize> TreeSet<K, PREFIX_LEN> {
     /// assert!(rt; set.prefix(b"a").eq([b"ab", b"ac"]));
     /// ```
     pub fn prefix<Q: AsBytes>(&self, prefix: &Q) -> Prefix<'_, K, PREFIX_LEN>
-        ensures rest { result ≡ with_front K.bytes (Q.bytes prefix.now) self.now }
-        ensures ordered { AscendsByKey K.bytes self.now }
+        ensures rest { result ≡ with_front K.bytes (Q.bytes prefix.now) self.now.keys }
+        ensures ordered { AscendsByKey K.bytes self.now.keys }
     {
         Prefix::new(self.map.prefix(prefix))
     }
@@ -47,11 +48,11 @@ impl<K: AsBytes, const PREFIX_LEN: usize> TreeSet<K, PREFIX_LEN> {
     /// ```
     pub fn range_in<Q: AsBytes, R: RangeBounds<Q>>(&self, range: R) -> Range<'_, K, PREFIX_LEN>
         requires known { R.has_bounds range }
-        requires valid { (self.now ≡ []) ⊎ AreValidKeyBounds (bound_map Q.bytes (R.start_bound range))
+        requires valid { (self.now.keys ≡ []) ⊎ AreValidKeyBounds (bound_map Q.bytes (R.start_bound range))
             (bound_map Q.bytes (R.end_bound range)) }
         ensures rest { result ≡ keys_between K.bytes (bound_map Q.bytes (R.start_bound range))
-            (bound_map Q.bytes (R.end_bound range)) self.now }
-        ensures ordered { AscendsByKey K.bytes self.now }
+            (bound_map Q.bytes (R.end_bound range)) self.now.keys }
+        ensures ordered { AscendsByKey K.bytes self.now.keys }
     {
         Range::new(self.map.range_in(range))
     }
@@ -71,15 +72,17 @@ impl<K: AsBytes, const PREFIX_LEN: usize> TreeSet<K, PREFIX_LEN> {
     pub fn remove_prefix(&mut self, prefix: &[u8]) -> Result<Removed, AllocError>
     where
         K: Drop,
-        ensures keys { OnOk result (self.new ≡ without_front K.bytes prefix.now self.old) }
-        ensures count { IfOk result (λ done. done.pairs ≡ length (with_front K.bytes prefix.now self.old)) }
+        ensures keys { OnOk result (self.new.keys ≡ without_front K.bytes prefix.now self.old.keys) }
+        ensures count { IfOk result (λ done. done.pairs ≡ length (with_front K.bytes prefix.now self.old.keys)) }
         ensures visits { IfOk result (λ done.
-            AreCutVisits K.bytes prefix.now (pairs_of_keys self.old) done.visits) }
+            AreCutVisits K.bytes prefix.now (pairs_of_keys self.old.keys) done.visits) }
         ensures all_counted { IfOk result (λ done. done.pairs ≤ done.visits) }
-        ensures few { IfOk result (λ done. (longest : ℕ) → PairsWithin K.bytes longest (pairs_of_keys self.old)
+        ensures few { IfOk result (λ done. (longest : ℕ) → PairsWithin K.bytes longest (pairs_of_keys self.old.keys)
             → OpeningReads longest (length prefix.now) (2 * done.pairs) done.visits) }
-        ensures err { OnErr result (self.new ≡ self.old) }
-        ensures shrinks { OnErr result (ShrinksAtCut K.bytes prefix.now (pairs_of_keys self.old)) }
+        ensures names { OnOk result (KeepsNames K.bytes self.old self.new) }
+        ensures err { OnErr result (self.new.keys ≡ self.old.keys) }
+        ensures kept { OnErr result (IsSetUntouched self.old self.new) }
+        ensures shrinks { OnErr result (ShrinksAtCut K.bytes prefix.now (pairs_of_keys self.old.keys)) }
     {
         self.map.remove_prefix(prefix)
     }

@@ -4,6 +4,7 @@ ghost use Rattle.art_arena.specs.declared.ends.End.TheVariants.{First, Last};
 ghost use Rattle.art_arena.specs.tree.Shrinks.{Shrinks};
 ghost use Rattle.art_map.specs.Contents.{has_bytes};
 ghost use Rattle.art_operations.specs.KeyedLists.{HasKey, without_key};
+ghost use Rattle.art_set.specs.LeafNames.{IsSetUntouched, KeepsNames};
 ghost use Rattle.art_set.specs.Members.{is_member, key_if_some, KeyShrinksAtEnd};
 
 use crate::set::TreeSet;
@@ -33,11 +34,13 @@ impl<K: AsBytes, const PREFIX_LEN: usize> TreeSet<K, PREFIX_LEN> {
     /// assert_eq!(rt; set.take(b"ab")?, None);
     /// ```
     pub fn take<Q: AsBytes>(&mut self, key: &Q) -> Result<Option<K>, AllocError>
-        ensures key { IfOk result (λ old. old ≡ find (has_bytes K.bytes (Q.bytes key.now)) self.old) }
-        ensures keys { OnOk result (self.new ≡ without_key K.bytes (Q.bytes key.now) self.old) }
-        ensures err { OnErr result (self.new ≡ self.old) }
-        ensures shrinks { OnErr result (HasKey K.bytes (Q.bytes key.now) self.old
-            × Shrinks K.bytes self.old (Q.bytes key.now)) }
+        ensures key { IfOk result (λ old. old ≡ find (has_bytes K.bytes (Q.bytes key.now)) self.old.keys) }
+        ensures keys { OnOk result (self.new.keys ≡ without_key K.bytes (Q.bytes key.now) self.old.keys) }
+        ensures names { OnOk result (KeepsNames K.bytes self.old self.new) }
+        ensures err { OnErr result (self.new.keys ≡ self.old.keys) }
+        ensures kept { OnErr result (IsSetUntouched self.old self.new) }
+        ensures shrinks { OnErr result (HasKey K.bytes (Q.bytes key.now) self.old.keys
+            × Shrinks K.bytes self.old.keys (Q.bytes key.now)) }
     {
         let pair = self.map.remove_entry(key)?;
         Ok(key_of(pair))
@@ -54,11 +57,13 @@ impl<K: AsBytes, const PREFIX_LEN: usize> TreeSet<K, PREFIX_LEN> {
     pub fn remove<Q: AsBytes>(&mut self, key: &Q) -> Result<bool, AllocError>
     where
         K: Drop,
-        ensures found { IfOk result (λ found. found ≡ is_member K.bytes (Q.bytes key.now) self.old) }
-        ensures keys { OnOk result (self.new ≡ without_key K.bytes (Q.bytes key.now) self.old) }
-        ensures err { OnErr result (self.new ≡ self.old) }
-        ensures shrinks { OnErr result (HasKey K.bytes (Q.bytes key.now) self.old
-            × Shrinks K.bytes self.old (Q.bytes key.now)) }
+        ensures found { IfOk result (λ found. found ≡ is_member K.bytes (Q.bytes key.now) self.old.keys) }
+        ensures keys { OnOk result (self.new.keys ≡ without_key K.bytes (Q.bytes key.now) self.old.keys) }
+        ensures names { OnOk result (KeepsNames K.bytes self.old self.new) }
+        ensures err { OnErr result (self.new.keys ≡ self.old.keys) }
+        ensures kept { OnErr result (IsSetUntouched self.old self.new) }
+        ensures shrinks { OnErr result (HasKey K.bytes (Q.bytes key.now) self.old.keys
+            × Shrinks K.bytes self.old.keys (Q.bytes key.now)) }
     {
         let found = self.map.remove(key)?;
         Ok(found.is_some())
@@ -72,10 +77,13 @@ impl<K: AsBytes, const PREFIX_LEN: usize> TreeSet<K, PREFIX_LEN> {
     /// assert_eq!(rt; set.pop_first()?, Some(*b"ab"));
     /// ```
     pub fn pop_first(&mut self) -> Result<Option<K>, AllocError>
-        ensures key { IfOk result (λ taken. MatchOption taken (self.old ≡ []) (λ k. self.old ≡ k ∷ self.new)) }
-        ensures none { IfOk result (λ taken. IfNone taken (self.new ≡ [])) }
-        ensures err { OnErr result (self.new ≡ self.old) }
-        ensures shrinks { OnErr result (KeyShrinksAtEnd K.bytes First self.old) }
+        ensures key { IfOk result
+            (λ taken. MatchOption taken (self.old.keys ≡ []) (λ k. self.old.keys ≡ k ∷ self.new.keys)) }
+        ensures none { IfOk result (λ taken. IfNone taken (self.new.keys ≡ [])) }
+        ensures names { OnOk result (KeepsNames K.bytes self.old self.new) }
+        ensures err { OnErr result (self.new.keys ≡ self.old.keys) }
+        ensures kept { OnErr result (IsSetUntouched self.old self.new) }
+        ensures shrinks { OnErr result (KeyShrinksAtEnd K.bytes First self.old.keys) }
     {
         let pair = self.map.pop_first()?;
         Ok(key_of(pair))
@@ -89,10 +97,13 @@ impl<K: AsBytes, const PREFIX_LEN: usize> TreeSet<K, PREFIX_LEN> {
     /// assert_eq!(rt; set.pop_last()?, Some(*b"cd"));
     /// ```
     pub fn pop_last(&mut self) -> Result<Option<K>, AllocError>
-        ensures key { IfOk result (λ taken. MatchOption taken (self.old ≡ []) (λ k. self.old ≡ self.new ++ k ∷ [])) }
-        ensures none { IfOk result (λ taken. IfNone taken (self.new ≡ [])) }
-        ensures err { OnErr result (self.new ≡ self.old) }
-        ensures shrinks { OnErr result (KeyShrinksAtEnd K.bytes Last self.old) }
+        ensures key { IfOk result
+            (λ taken. MatchOption taken (self.old.keys ≡ []) (λ k. self.old.keys ≡ self.new.keys ++ k ∷ [])) }
+        ensures none { IfOk result (λ taken. IfNone taken (self.new.keys ≡ [])) }
+        ensures names { OnOk result (KeepsNames K.bytes self.old self.new) }
+        ensures err { OnErr result (self.new.keys ≡ self.old.keys) }
+        ensures kept { OnErr result (IsSetUntouched self.old self.new) }
+        ensures shrinks { OnErr result (KeyShrinksAtEnd K.bytes Last self.old.keys) }
     {
         let pair = self.map.pop_last()?;
         Ok(key_of(pair))

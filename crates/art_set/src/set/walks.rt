@@ -22,8 +22,8 @@ impl<K: AsBytes, const PREFIX_LEN: usize> TreeSet<K, PREFIX_LEN> {
     /// assert_eq!(rt; keys.len(), 1);
     /// ```
     pub fn iter(&self) -> Iter<'_, K, PREFIX_LEN>
-        ensures rest { result ≡ self.now }
-        ensures ordered { AscendsByKey K.bytes self.now }
+        ensures rest { result ≡ self.now.keys }
+        ensures ordered { AscendsByKey K.bytes self.now.keys }
     {
         Iter::new(self.map.iter())
     }
@@ -40,11 +40,11 @@ impl<K: AsBytes, const PREFIX_LEN: usize> TreeSet<K, PREFIX_LEN> {
     /// assert!(rt; set.range(Bound::Excluded(b"ab"), Bound::Included(b"ef")).eq([b"cd", b"ef"]));
     /// ```
     pub fn range<Q: AsBytes>(&self, start: Bound<&Q>, end: Bound<&Q>) -> Range<'_, K, PREFIX_LEN>
-        requires { (self.now ≡ []) ⊎ AreValidKeyBounds (bound_map (λ key. Q.bytes key.now) start)
+        requires { (self.now.keys ≡ []) ⊎ AreValidKeyBounds (bound_map (λ key. Q.bytes key.now) start)
             (bound_map (λ key. Q.bytes key.now) end) }
         ensures rest { result ≡ keys_between K.bytes (bound_map (λ key. Q.bytes key.now) start.entry)
-            (bound_map (λ key. Q.bytes key.now) end.entry) self.now }
-        ensures ordered { AscendsByKey K.bytes self.now }
+            (bound_map (λ key. Q.bytes key.now) end.entry) self.now.keys }
+        ensures ordered { AscendsByKey K.bytes self.now.keys }
     {
         Range::new(self.map.range(start, end))
     }
@@ -66,7 +66,7 @@ impl<'a, K: AsBytes, const PREFIX_LEN: usize> IntoIterator for &'a TreeSet<K, PR
 
     type IntoIter = Iter<'a, K, PREFIX_LEN>;
 
-    ghost into_iter_gives = { λ s r. r ≡ s.now };
+    ghost into_iter_gives = { λ s r. r ≡ s.now.keys };
 
     fn into_iter(self) -> Iter<'a, K, PREFIX_LEN> {
         self.iter()
@@ -86,7 +86,7 @@ impl<K: AsBytes + Drop, const PREFIX_LEN: usize> IntoIterator for TreeSet<K, PRE
 
     type IntoIter = IntoIter<K, PREFIX_LEN>;
 
-    ghost into_iter_gives = { λ s r. r ≡ s };
+    ghost into_iter_gives = { λ s r. r ≡ s.keys };
 
     fn into_iter(self) -> IntoIter<K, PREFIX_LEN> {
         let TreeSet { alloc: _, map } = self;

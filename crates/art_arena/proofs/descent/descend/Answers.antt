@@ -1,10 +1,13 @@
-use Rattle.std.proofs.Common.{◌+◌, ◌-◌, ◌^◌, [], ℕ, Some, min, sym, ap, subst, ◌∙◌, refl, arith, lit<}
-use Rattle.art_arena.proofs.Terms.{held_at, node_at, path_to, IsAtDepth, IsSubtree, IsReadAt, Shape, held_of}
+use Rattle.std.proofs.Common.{◌≡◌, ◌+◌, ◌-◌, ◌^◌, [], ℕ, List, IfSome, drop, Some, min, sym, ap, subst, ◌∙◌, refl, arith, lit<}
+use Rattle.art_bytes.proofs.Common.{BeginsWith}
+use Rattle.art_arena.proofs.Terms.{held_at, node_at, path_to, IsAtDepth, IsGuide, IsSubtree, IsReadAt, Shape, held_of}
 use Rattle.art_arena.proofs.shapes.Guides.{guide_any}
 use Rattle.art_arena.proofs.shapes.Passing.{leaf-stops}
 use Rattle.art_arena.proofs.shapes.Reads.{part_within, some_weaker}
 use Rattle.art_arena.proofs.shapes.Walking.{IsOnWay, way-starts, way-there, way-subtree, on-way-to, way-steps, way-ends, way-lands, reads-leaf, lent-leaf, lent-inner, node-there}
 use Rattle.art_arena.proofs.descent.descend.Goals as goal
+use Rattle.art_arena.specs.declared.descent.Passing.TheVariants.{ByBytes}
+use Rattle.art_arena.proofs.shapes.WayEnds.{leaf_cost, way-begins, way-ended, way-on}
 use Rattle.art_arena.proofs.descent.descend.Goals.{In-Err}
 
 pub down-init : goal.down-init
@@ -12,6 +15,7 @@ down-init g c = record {
   room = omega arith;
   kept = refl;
   way = λ s tree. (_, rw c.requires.fresh (way-starts g.K.AsBytes.bytes c.args.key.now s c.args.reader.now.count g.row.PREFIX_LEN (node_at c.args.reader.now.arena.now) c.args.root tree _), λ mode. refl);
+  left = λ mode s tree. way-begins g.K.AsBytes.bytes g.row.PREFIX_LEN (node_at c.args.reader.now.arena.now) c.args.key.now s c.args.reader.now.count c.args.root tree;
   least = omega arith;
   reads = λ s tree longest short. omega arith;
 }
@@ -101,6 +105,41 @@ returns-in-None-clause-stops g c = λ mode path s at begins.
     }) (some_weaker c.down.guide _ _ (λ leaf. guide_any g.K.AsBytes.bytes g.row.PREFIX_LEN (node_at c.args.reader.now.arena.now) c.args.key.now c.down.current c.down.depth (path_to way.1.0.ctx) path way.1.0.part s
     (record { subtree = sub; behind = way.1.0.depth_is }) at (way.1.1 mode) begins (g.K.AsBytes.bytes leaf.now.key)) (way.1.2 mode)) begins
 
+-- what was found stands for this part too
+guided : (g : _) (c : In-Err g) (mode : c.args.passing ≡ ByBytes) (path : List ℕ) (part : Shape g.row.K.Denot g.row.V.Denot) → IsAtDepth g.K.AsBytes.bytes g.row.PREFIX_LEN (node_at c.args.reader.now.arena.now) c.down.current c.down.depth path part
+    → BeginsWith path c.args.key.now → IfSome c.down.guide (λ leaf. IsGuide c.args.key.now (g.K.AsBytes.bytes leaf.now.key) path part)
+guided g c mode path part at begins =
+    let way = c.down.invariant.way c.requires.tree.0 c.requires.tree.1 in
+    let sub = way-subtree g.K.AsBytes.bytes c.args.key.now c.requires.tree.0 c.args.reader.now.count g.row.PREFIX_LEN (node_at c.args.reader.now.arena.now) c.args.root c.requires.tree.1 c.down.current c.down.search c.down.depth way.0 way.1.0 in
+    some_weaker c.down.guide _ _ (λ leaf. guide_any g.K.AsBytes.bytes g.row.PREFIX_LEN (node_at c.args.reader.now.arena.now) c.args.key.now c.down.current c.down.depth (path_to way.1.0.ctx) path way.1.0.part part
+    (record { subtree = sub; behind = way.1.0.depth_is }) at (way.1.1 mode) begins (g.K.AsBytes.bytes leaf.now.key)) (way.1.2 mode)
+
+-- the inner node that was read, in a part that stands there
+read_along : (g : _) (c : In-Err g) (path : List ℕ) (part : Shape g.row.K.Denot g.row.V.Denot) → IsAtDepth g.K.AsBytes.bytes g.row.PREFIX_LEN (node_at c.args.reader.now.arena.now) c.down.current c.down.depth path part
+    → IsReadAt g.K.AsBytes.bytes g.row.PREFIX_LEN c.visit.new.self.arena.now c.in-Err.inner.node c.down.current c.down.depth path part
+read_along g c path part at = record {
+  stands = subst (λ a. IsAtDepth g.K.AsBytes.bytes g.row.PREFIX_LEN (node_at a) c.down.current c.down.depth path part) (sym (c.visit.ensures.kept ∙ c.down.invariant.kept)) at;
+  held = ap (λ a. held_at a c.down.current) c.visit.ensures.kept ∙ c.visit.ensures.value ∙ ap Some c.in-Err.ensures.0;
+}
+
+pub returns-in-None-clause-reads : goal.returns-in-None-clause-reads
+returns-in-None-clause-reads g c = λ mode s tree.
+    let d = (goal.at.returns-in-None-clause-reads g c).In-Err in
+    let left = c.down.invariant.left mode s tree in
+    let read = read_along g d left.path left.part left.stands in
+    (way-ended g.K.AsBytes.bytes g.row.PREFIX_LEN (node_at c.args.reader.now.arena.now) c.args.key.now s c.args.reader.now.count c.down.guide c.down.current c.down.depth c.down.reader.count left
+    c.visit.new.self.count c.step_at.new.reader.count c.visit.ensures.counts (c.in-None.ensures.counts mode c.down.current left.path left.part read (omega arith))
+    (c.in-None.ensures.by_bytes mode c.down.current left.path left.part read (guided g d mode left.path left.part left.stands left.begins) left.begins))
+
+pub returns-in-Ok-clause-reads : goal.returns-in-Ok-clause-reads
+returns-in-Ok-clause-reads g c = λ mode s tree.
+    let left = c.down.invariant.left mode s tree in
+    let there = lent-leaf c.args.reader.now.arena.now c.down.reader.arena.now c.down.current (held_of c.visit.result) c.in-Ok.leaf.now c.down.invariant.kept c.visit.ensures.value c.in-Ok.ensures in
+    way-ended g.K.AsBytes.bytes g.row.PREFIX_LEN (node_at c.args.reader.now.arena.now) c.args.key.now s c.args.reader.now.count c.down.guide c.down.current c.down.depth c.down.reader.count left
+    c.visit.new.self.count c.visit.new.self.count c.visit.ensures.counts
+    (leaf_cost g.K.AsBytes.bytes g.row.PREFIX_LEN (node_at c.args.reader.now.arena.now) c.down.guide c.down.current left.path left.part left.stands.subtree c.in-Ok.leaf.now.key c.in-Ok.leaf.now.value there (drop c.down.depth c.args.key.now) c.visit.new.self.count (omega arith))
+    (leaf-stops g.K.AsBytes.bytes g.row.PREFIX_LEN (node_at c.args.reader.now.arena.now) c.down.current c.args.key.now left.path left.part c.in-Ok.leaf.now.key c.in-Ok.leaf.now.value there left.stands.subtree)
+
 pub returns-in-None-clause-few : goal.returns-in-None-clause-few
 returns-in-None-clause-few g c = λ s tree longest short.
     let d = (goal.at.returns-in-None-clause-few g c).In-Err in
@@ -128,6 +167,13 @@ down-preserved g c =
                 (λ mode. c.in-Some.ensures.keeps mode c.down.current (path_to way.1.0.ctx) way.1.0.part read (way.1.2 mode))),
             λ mode. c.in-Some.ensures.by_length mode ∙ c.visit.ensures.counts ∙ ap (λ m. min (m + 1) (2 ^ 64 - 1)) (way.2 mode),
           );
+      left = λ mode s tree.
+          let left = c.down.invariant.left mode s tree in
+          let read = read_along g d left.path left.part left.stands in
+          way-on g.K.AsBytes.bytes g.row.PREFIX_LEN (node_at c.args.reader.now.arena.now) c.args.key.now s c.args.reader.now.count c.down.guide c.down.current c.down.depth c.down.reader.count left
+          c.visit.new.self.count c.step_at.new.reader.count c.visit.ensures.counts (c.in-Some.ensures.counts mode c.down.current left.path left.part read (omega arith)) c.step_at.new.guide c.in-Err.inner.node there c.in-Some.step.byte c.in-Some.step.child c.in-Some.step.depth goes
+          (c.in-Some.ensures.by_bytes mode c.down.current left.path left.part read (guided g d mode left.path left.part left.stands left.begins) left.begins)
+          (c.in-Some.ensures.found mode c.down.current left.path left.part read);
       least = omega (arith, c.in-Some.ensures.least, c.visit.ensures.counts, c.down.invariant.least);
       reads = λ s tree longest short.
           let way = c.down.invariant.way s tree in

@@ -44,6 +44,9 @@ returns-in-Ok-clause-place g c = λ s tree.
 pub returns-in-Ok-clause-counts : goal.returns-in-Ok-clause-counts
 returns-in-Ok-clause-counts g c = λ path s tree. c.visit.ensures.counts ∙ (at_end g c path s tree).reads
 
+pub returns-in-Ok-clause-exact : goal.returns-in-Ok-clause-exact
+returns-in-Ok-clause-exact g c = λ path s tree. c.visit.ensures.counts ∙ (at_end g c path s tree).exact
+
 pub returns-in-Ok-clause-least : goal.returns-in-Ok-clause-least
 returns-in-Ok-clause-least g c =
     let r = c.requires in

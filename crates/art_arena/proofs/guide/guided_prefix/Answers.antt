@@ -1,9 +1,9 @@
-use Rattle.std.proofs.Common.{◌≡◌, ◌+◌, ◌≤◌, ◌-◌, length, ap, ◌∙◌, arith, List, ℕ, IfSome}
+use Rattle.std.proofs.Common.{◌≡◌, ◌+◌, ◌≤◌, ◌-◌, drop, length, true, ap, ◌∙◌, arith, List, ℕ, IfSome}
 use Rattle.art_nodes.proofs.Common.{Name}
-use Rattle.art_arena.proofs.Terms.{IsGuide, Shape, prefix_of, IsReadAt}
+use Rattle.art_arena.proofs.Terms.{IsGuide, Shape, erase, is_cut, prefix_of, IsReadAt}
 use Rattle.art_arena.proofs.shapes.Guides.{read_begins}
 use Rattle.art_arena.proofs.shapes.Prefixes.{read, Read}
-use Rattle.art_arena.proofs.shapes.Reads.{read_len}
+use Rattle.art_arena.proofs.shapes.Reads.{cost_none, cost_once, cut_if, cut_not, found_if, found_not, read_len}
 use Rattle.art_arena.proofs.guide.guided_prefix.Goals as goal
 use Rattle.art_arena.proofs.guide.guided_prefix.Goals.{After-as_bytes-bytes}
 
@@ -38,3 +38,30 @@ returns-clause-prefix g c = λ root path s at guided.
     let known = is_read g d root path s at guided in
     let n : c.args.depth + c.prefix_len-len.result - c.args.depth ≡ c.prefix_len-len.result = omega arith in
     rw n known.part
+
+-- the prefix isn't wholly stored
+cut : (g : _) (c : After-as_bytes-bytes g) (root : Name) (path : List ℕ) (s : Shape g.row.K.Denot g.row.V.Denot)
+    → IsReadAt g.K.AsBytes.bytes g.row.PREFIX_LEN c.args.reader.now.arena.now c.args.inner.now.node root c.args.depth path s → is_cut g.row.PREFIX_LEN (erase s) ≡ true
+cut g c root path s at =
+    cut_if g.row.PREFIX_LEN s (omega (arith, c.prefix_len-len.ensures, read_len g.K.AsBytes.bytes g.row.PREFIX_LEN c.args.reader.now.arena.now c.args.inner.now.node root c.args.depth path s at, c.if-len.false))
+
+pub returns-clause-found : goal.returns-clause-found
+returns-clause-found g c = λ root path s at.
+    let d = (goal.at.returns-clause-found g c).After-as_bytes-bytes in
+    found_if c.args.guide.now c.guide_at-leaf.new.guide (is_cut g.row.PREFIX_LEN (erase s)) (cut g d root path s at) c.guide_at-leaf.ensures.found
+
+pub returns-clause-counts : goal.returns-clause-counts
+returns-clause-counts g c = λ root path s at.
+    let d = (goal.at.returns-clause-counts g c).After-as_bytes-bytes in
+    cost_once c.args.guide.now g.row.PREFIX_LEN (erase s) (drop c.args.depth c.args.key.now) _ _ (cut g d root path s at) (omega arith) (c.guide_at-leaf.ensures.counts root path s at)
+
+pub returns-then-len-clause-found : goal.returns-then-len-clause-found
+returns-then-len-clause-found g c = λ root path s at.
+    let len = read_len g.K.AsBytes.bytes g.row.PREFIX_LEN c.args.reader.now.arena.now c.args.inner.now.node root c.args.depth path s at in
+    found_not c.args.guide.now (is_cut g.row.PREFIX_LEN (erase s)) (cut_not g.row.PREFIX_LEN s (omega (arith, len, c.prefix_len-len.ensures, c.if-len.true)))
+
+pub returns-then-len-clause-counts : goal.returns-then-len-clause-counts
+returns-then-len-clause-counts g c = λ root path s at.
+    let len = read_len g.K.AsBytes.bytes g.row.PREFIX_LEN c.args.reader.now.arena.now c.args.inner.now.node root c.args.depth path s at in
+    let none = cost_none c.args.guide.now g.row.PREFIX_LEN (erase s) (drop c.args.depth c.args.key.now) (cut_not g.row.PREFIX_LEN s (omega (arith, len, c.prefix_len-len.ensures, c.if-len.true))) in
+    omega (arith, none)

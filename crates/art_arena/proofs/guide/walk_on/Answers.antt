@@ -1,5 +1,6 @@
-use Rattle.std.proofs.Common.{lit<, arith}
-use Rattle.art_arena.proofs.shapes.Guides.{read_along, read_ends}
+use Rattle.std.proofs.Common.{drop, length, ap, lit<, arith}
+use Rattle.art_arena.proofs.Terms.{erase, path_to_guide}
+use Rattle.art_arena.proofs.shapes.Guides.{read_along, read_ends, read_led, read_one}
 use Rattle.art_arena.proofs.guide.walk_on.Goals as goal
 
 pub walk_along-requires : goal.walk_along-requires
@@ -19,6 +20,18 @@ returns-in-Some-clause-few g c = λ root path s at longest short.
     let along = read_along g.K.AsBytes.bytes g.row.PREFIX_LEN c.args.reader.now.arena.now c.args.inner.now.node root c.args.depth path s at c.args.key.now c.in-Some.step.byte c.in-Some.step.child c.in-Some.step.depth c.in-Some.ensures in
     let few = c.walk_along.ensures.few along.below along.part along.stands longest (along.within longest short) in
     omega (arith, few, c.in-Some.ensures.next_is)
+
+pub returns-in-Some-clause-counts : goal.returns-in-Some-clause-counts
+returns-in-Some-clause-counts g c = λ root path s at.
+    let along = read_along g.K.AsBytes.bytes g.row.PREFIX_LEN c.args.reader.now.arena.now c.args.inner.now.node root c.args.depth path s at c.args.key.now c.in-Some.step.byte c.in-Some.step.child c.in-Some.step.depth c.in-Some.ensures in
+    let counts = c.walk_along.ensures.counts along.below along.part along.stands in
+    omega (arith, counts, along.led, read_one g.K.AsBytes.bytes g.row.PREFIX_LEN c.args.reader.now.arena.now c.args.inner.now.node root c.args.depth path s at c.args.key.now c.in-Some.step.byte c.in-Some.step.child c.in-Some.step.depth c.in-Some.ensures, ap (λ d. length (path_to_guide (erase s) (drop d c.args.key.now))) at.stands.behind)
+
+pub returns-in-None-clause-counts : goal.returns-in-None-clause-counts
+returns-in-None-clause-counts g c = λ root path s at.
+    let exact = c.walk_below.ensures.exact root c.args.depth path s at in
+    let ended = read_led g.K.AsBytes.bytes g.row.PREFIX_LEN c.args.reader.now.arena.now c.args.inner.now.node root c.args.depth path s at c.args.key.now c.in-None.ensures in
+    omega (arith, exact, ended)
 
 pub returns-in-None-clause-guide : goal.returns-in-None-clause-guide
 returns-in-None-clause-guide g c = λ root path s at.

@@ -1,5 +1,8 @@
-use Rattle.std.proofs.Common.{◌≡◌, ℕ, List, Some, ap, sym, subst, ◌∙◌, arith}
-use Rattle.art_arena.proofs.Terms.{held_at, leaf_held, leaf_name, IsReadAt, Shape, StoresAt}
+use Rattle.std.proofs.Common.{◌≡◌, ℕ, List, length, Some, refl, ap, sym, subst, ◌∙◌, inl, inr, arith}
+use Rattle.std.proofs.lemmas.Bool.Decides.{leb_tells}
+use Rattle.art_arena.proofs.Terms.{held_at, leaf_held, leaf_name, IsReadAt, Shape, StoresAt, First, end_path, erase, prefix_of, prefix_reads}
+use Rattle.art_arena.proofs.shapes.Guides.{some_end}
+use Rattle.art_arena.proofs.shapes.Reads.{cut_if, cut_not}
 use Rattle.art_arena.proofs.prefix.read_full_prefix_with.Goals as goal
 use Rattle.art_arena.proofs.prefix.read_full_prefix_with.Goals.{After-visit_inner-inner}
 
@@ -32,3 +35,16 @@ returns-clause-lent g c = λ path s at more slot leaf first held.
 
 pub returns-clause-least : goal.returns-clause-least
 returns-clause-least g c = omega (arith, c.full_prefix_of.ensures.least, c.visit_inner-inner.ensures.counts)
+
+pub returns-clause-exact : goal.returns-clause-exact
+returns-clause-exact g c = λ path s at.
+    let d = (goal.at.returns-clause-exact g c).After-visit_inner-inner in
+    let read = is_read g d path s at in
+    elim (leb_tells (length (prefix_of s)) g.row.PREFIX_LEN) [
+      | inl stored ↦
+          let one : prefix_reads g.row.PREFIX_LEN (erase s) ≡ 1 = rw (cut_not g.row.PREFIX_LEN s stored.1) refl in
+          omega (arith, one, c.full_prefix_of.ensures.stored c.args.node path s read stored.1, c.visit_inner-inner.ensures.counts)
+      | inr more ↦
+          let all : prefix_reads g.row.PREFIX_LEN (erase s) ≡ length (end_path First (erase s)) = rw (cut_if g.row.PREFIX_LEN s more.1) refl in
+          omega (arith, all, some_end First (erase s), c.full_prefix_of.ensures.lent_exact c.args.node path s read more.1, c.visit_inner-inner.ensures.counts)
+    ]

@@ -33,5 +33,11 @@ returns-clause-counts g c = λ root depth path s at.
     let first = sym child.same_end ∙ c.end_leaf_with.ensures.value child.below child.part child.subtree in
     read_first g.K.AsBytes.bytes g.row.PREFIX_LEN c.args.reader.now.arena.now c.args.inner.now.node root depth path s at c.in-Some.child child c.end_leaf_with.result.name c.end_leaf_with.result.leaf.now _ _ first c.end_leaf_with.ensures.leaf (c.end_leaf_with.ensures.counts child.below child.part child.subtree)
 
+pub returns-clause-exact : goal.returns-clause-exact
+returns-clause-exact g c = λ root depth path s at.
+    let child = read_child g.K.AsBytes.bytes g.row.PREFIX_LEN c.args.reader.now.arena.now c.args.inner.now.node root depth path s at First c.in-Some.child (sym c.end_child.ensures ∙ c.in-Some.is) in
+    let exact = c.end_leaf_with.ensures.exact child.below child.part child.subtree in
+    omega (arith, exact, child.led)
+
 pub returns-clause-least : goal.returns-clause-least
 returns-clause-least g c = omega (arith, c.end_leaf_with.ensures.least)

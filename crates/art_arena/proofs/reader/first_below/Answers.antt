@@ -23,3 +23,8 @@ returns-clause-counts g c = λ root depth path s at slot leaf first held.
 
 pub returns-clause-least : goal.returns-clause-least
 returns-clause-least g c = omega (arith, c.walk_below-first.ensures.least, c.new-further.ensures.count, c.saturating_add-reader.ensures)
+
+pub returns-clause-exact : goal.returns-clause-exact
+returns-clause-exact g c = λ root depth path s at.
+    let exact = c.walk_below-first.ensures.exact root depth path s (subst (λ a. IsReadAt g.K.AsBytes.bytes g.row.PREFIX_LEN a c.args.inner.now.node root depth path s) (sym c.new-further.ensures.arena) at) in
+    omega (arith, exact, c.new-further.ensures.count, c.saturating_add-reader.ensures)

@@ -1,5 +1,9 @@
 use Rattle.std.proofs.Common.{◌≡◌, ℕ, List, [], ◌∷◌, ◌+◌, ◌-◌, ◌++◌, length, take, drop, ap, sym, ◌∙◌, subst, refl, append_assoc, append-nil}
-use Rattle.art_engine.proofs.Terms.{Carried, NoNewline}
+use Rattle.std.proofs.Common.{inl, inr, arith, rules}
+use Rattle.art_lines.specs.Lines.{whole_lines_of}
+use Rattle.art_engine.specs.declared.upcoming.line.Line.{Line}
+use Rattle.art_engine.proofs.Terms.{AreNext, Carried, NoNewline, to_come, read_of, texts_of}
+use Rattle.art_engine.proofs.LinesAhead.{none_to_come}
 use Rattle.art_engine.proofs.LineLemmas.{none_before, none_at_all, behind_newline}
 use Rattle.art_engine.proofs.Carrying.{carried_part}
 use Rattle.art_lines.proofs.Common.{when_err}
@@ -12,6 +16,12 @@ in_place text done line behind rest piece e all =
     ap (λ t. t ++ behind) (append_assoc (text ++ done) line (10 ∷ [])) ∙ append_assoc (text ++ done) (line ++ 10 ∷ []) behind
     ∙ ap (λ t. (text ++ done) ++ t) (sym e) ∙ append_assoc text done rest ∙ ap (λ t. text ++ t) (sym all)
 
+pub finish-requires : goal.finish-requires
+finish-requires g c =
+    let i = c.lines.invariant in
+    let rest : List ℕ = c.lines.rest.now in let at : ℕ = c.in-Some.at in let found = c.in-Some.ensures in
+    (search rules, (i.fine, ((none_before rest at found.0.before, (take (length rest - (at + 1)) (drop (at + 1) rest), behind_newline rest at _ refl found.0.high found.1)), (i.comes, i.cut))))
+
 pub lines-init : goal.lines-init
 lines-init g c = record {
   carried = (
@@ -20,7 +30,10 @@ lines-init g c = record {
     λ start text before h.
         subst (λ t. Carried start c.args.index.now t c.args.held.now.items before (g.W.Sink.taken c.args.sink.now)) (sym (append-nil text)) h,
   );
-  fine = c.requires;
+  comes = subst (λ (ls : List Line). AreNext (texts_of ls) c.args.piece.now) (sym c.requires.used_up) (whole_lines_of c.args.piece.now, refl);
+  cut = inr c.requires.used_up;
+  told = let none = ap read_of c.requires.used_up in omega arith;
+  fine = c.requires.open;
 }
 
 pub lines-preserved : goal.lines-preserved
@@ -40,6 +53,9 @@ lines-preserved g c =
             subst (λ t. Carried start c.finish.new.index t c.finish.new.held.items before (g.W.Sink.taken c.finish.new.sink)) same
             (e.carried start (text ++ done) before none (i.2 start text before h)),
       );
+      comes = e.comes (take (length rest - (at + 1)) (drop (at + 1) rest)) (behind_newline rest at _ refl found.0.high found.1);
+      cut = inl e.emptied;
+      told = let before = c.lines.invariant.told in let now = e.told in omega arith;
       fine = sym e.failed;
     }
 
@@ -50,6 +66,14 @@ returns-clause-carried g c = λ start text before h.
     subst (λ t. Carried start c.lines.index t c.hold.new.held.items before (g.W.Sink.taken c.lines.sink)) same
     (carried_part start c.lines.index c.lines.index (text ++ done) rest c.lines.held.items c.hold.new.held.items before (g.W.Sink.taken c.lines.sink) (g.W.Sink.taken c.lines.sink)
     (i.2 start text before h) (none_at_all rest c.in_default.ensures) refl c.hold.ensures refl)
+
+pub returns-clause-used_up : goal.returns-clause-used_up
+returns-clause-used_up g c = none_to_come (λ (l : Line). l.text.items) (to_come c.lines.upcoming) c.lines.rest.now (none_at_all c.lines.rest.now c.in_default.ensures) c.lines.invariant.comes
+
+pub returns-clause-told : goal.returns-clause-told
+returns-clause-told g c =
+    let none = none_to_come (λ (l : Line). l.text.items) (to_come c.lines.upcoming) c.lines.rest.now (none_at_all c.lines.rest.now c.in_default.ensures) c.lines.invariant.comes in
+    let left = ap read_of none in let told = c.lines.invariant.told in omega arith
 
 pub returns-in_err-finish-clause-cut : goal.returns-in_err-finish-clause-cut
 returns-in_err-finish-clause-cut g c = when_err c.from_residual.result (λ start text before h.

@@ -1,5 +1,6 @@
-use Rattle.std.proofs.Common.{◌≡◌, ℕ, List, ◌++◌, length, false}
-use Rattle.art_engine.proofs.Terms.{State, Carried}
+use Rattle.std.proofs.Common.{◌≡◌, ℕ, List, [], ◌++◌, length, false}
+use Rattle.std.specs.Prelude.{◌⊎◌}
+use Rattle.art_engine.proofs.Terms.{State, Carried, AreNext, Tells, to_come, read_of, texts_of}
 use Rattle.art_engine.proofs.running.feed.Given as goal
 
 -- the part of the piece before the rest is carried
@@ -8,6 +9,9 @@ invariant-lines g l = record {
   carried : (done : List ℕ) × (l.piece ≡ done ++ l.rest) × ((start : State) (text before : List ℕ)
       → Carried start l.fn.index text l.fn.held.items before (g.W.Sink.taken l.fn.sink)
       → Carried start l.index (text ++ done) l.held.items before (g.W.Sink.taken l.sink));
+  comes : AreNext (texts_of (to_come l.upcoming)) l.rest;
+  cut : (l.held.items ≡ []) ⊎ (to_come l.upcoming ≡ []);
+  told : Tells l.fn.index 0 l.index (read_of (to_come l.upcoming));
   fine : g.W.Sink.has_failed l.sink ≡ false;
 }
 

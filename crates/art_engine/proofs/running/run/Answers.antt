@@ -1,7 +1,8 @@
 use Rattle.std.proofs.Common.{◌≡◌, ℕ, ◌<◌, ◌++◌, [], List, length, take, sym, ◌∙◌, ap, arith, append-nil, append_assoc, subst, true, false, Ok}
 use Rattle.std.proofs.lemmas.Bool.{eqb-false}
 use Rattle.art_lines.proofs.Common.{lines_so_far}
-use Rattle.art_engine.proofs.Terms.{answer, AfterWriteFault, Carried}
+use Rattle.art_engine.proofs.Terms.{answer, AfterWriteFault, Carried, total}
+use Rattle.art_engine.proofs.LinesAhead.{told_more}
 use Rattle.art_engine.proofs.Carrying.{carried_none, outcome_last}
 use Rattle.art_engine.proofs.CutRuns.{cut_run-last}
 use Rattle.art_engine.proofs.running.run.Goals as goal
@@ -13,6 +14,8 @@ given_end start text old new n buf e h none = h ∙ ap (λ k. old ++ take k buf)
 pub reads-init : goal.reads-init
 reads-init g c = record {
   carried = ([], sym (append-nil (g.S.Source.given c.args.source.now)), rw c.new-held.ensures (carried_none c.args.index.now (g.W.Sink.taken c.args.sink.now)));
+  used_up = c.new-upcoming.ensures;
+  told = omega arith;
   source_open = c.requires.source_open;
   source_goes_on = c.requires.source_goes_on;
   sink_open = c.requires.sink_open;
@@ -32,6 +35,12 @@ returns-clause-outcome g c =
       e.told ∙ ap (λ t. t ++ answer memory c.reads.index.records c.as_slice-line.result.now) (c.send.ensures.keeps ∙ carried.told) ∙ append_assoc (g.W.Sink.taken c.args.sink.now) carried.written (answer memory c.reads.index.records c.as_slice-line.result.now),
       last,
     )
+
+pub returns-clause-ahead : goal.returns-clause-ahead
+returns-clause-ahead g c =
+    let told = c.reads.invariant.told in let e = c.in_ok-carry_out.ensures in
+    let more = told_more c.reads.index.ahead 0 c.carry_out.new.self.ahead e.ahead in let met = ap total e.met in
+    omega arith
 
 pub returns-in_err-feed-clause-after_write_fault :
     goal.returns-in_err-feed-clause-after_write_fault

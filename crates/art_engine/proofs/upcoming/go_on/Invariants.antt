@@ -1,7 +1,6 @@
-use Rattle.std.proofs.Common.{◌≡◌, ◌≤◌, length}
-use Rattle.std.specs.List.{sum_by}
+use Rattle.std.proofs.Common.{◌≡◌, ◌+◌, ◌≤◌, length}
 use Rattle.art_arena.proofs.Common.{count_of}
-use Rattle.art_engine.proofs.Terms.{GrewAlike}
+use Rattle.art_engine.proofs.Terms.{read_of, texts_of}
 use Rattle.art_engine.proofs.upcoming.go_on.Given as goal
 
 -- what the lines count is what was counted so far
@@ -9,5 +8,6 @@ abbrev pub invariant-lines : goal.invariant-lines
 invariant-lines g l = record {
   long : length l.lines ≡ length l.fn.lines;
   within : l.at-end ≤ length l.fn.lines;
-  counted : GrewAlike (sum_by (λ line. line.read) l.fn.lines) (sum_by (λ line. line.read) l.lines) (count_of l.fn.door.reader) (count_of l.door.reader);
+  counted : read_of l.lines + count_of l.fn.reader.reader ≡ read_of l.fn.lines + count_of l.reader.reader;
+  texts : texts_of l.lines ≡ texts_of l.fn.lines;
 }

@@ -17,3 +17,6 @@ returns-clause-value g c = λ s stores linked.
 
 pub returns-clause-few : goal.returns-clause-few
 returns-clause-few g c = λ s stores longest short. omega (arith, c.nearest_leaf-nearest.ensures.few s stores longest short, c.visit_leaf-leaf.ensures.counts)
+
+pub returns-clause-counts : goal.returns-clause-counts
+returns-clause-counts g c = λ s stores. omega (arith, c.nearest_leaf-nearest.ensures.counts s stores, c.visit_leaf-leaf.ensures.counts)

@@ -1,7 +1,8 @@
-use Rattle.std.proofs.Common.{ap, subst, sym, arith}
-use Rattle.art_arena.proofs.Common.{node_at, leaf_name, path_to, IsSubtree, name_of, leaves, KeysWithin, part_within}
+use Rattle.std.proofs.Common.{refl, ap, subst, sym, arith}
+use Rattle.art_arena.proofs.Common.{node_at, erase_in, leaf_name, path_to, IsSubtree, name_of, leaves, KeysWithin, part_within}
 use Rattle.art_operations.proofs.Terms.{MeetsAt, IsNearest}
 use Rattle.art_operations.proofs.Nearest.{leaf_held_there, nearest_in, nearest_lone, point_subtree, told_of}
+use Rattle.art_operations.proofs.WayParts.{missing-near, parted-ends, point-near}
 use Rattle.art_operations.proofs.bounds.nearest_at.Goals as goal
 
 pub visit_leaf-requires : goal.visit_leaf-requires
@@ -77,3 +78,31 @@ returns-in-IntoExisting-clause-few g c = λ s stores at longest short.
     let sub = point_subtree g.K.AsBytes.bytes g.row.PREFIX_LEN c.args.reader.now.arena.now c.args.key.now c.args.root c.in-IntoExisting.inner_node_ptr s c.args.point stores at (ap name_of meets.2) in
     c.nearest_child.ensures.few (path_to at.ctx) meets.0 meets.1 (subst (IsSubtree g.K.AsBytes.bytes g.row.PREFIX_LEN (node_at c.args.reader.now.arena.now) c.in-IntoExisting.inner_node_ptr (path_to at.ctx)) meets.2 sub) meets.3
     longest (subst (λ t. KeysWithin g.K.AsBytes.bytes longest (leaves t)) meets.2 (part_within g.K.AsBytes.bytes longest s at.ctx at.part at.toward.place.is short))
+
+pub returns-in-Exact-clause-counts : goal.returns-in-Exact-clause-counts
+returns-in-Exact-clause-counts g c = λ s stores at.
+    let meets = subst (MeetsAt g.K.AsBytes.bytes c.args.key.now (path_to at.ctx) at.part) c.in-Exact.is at.meets in
+    let near = point-near g.K.AsBytes.bytes c.args.key.now s c.args.point at _ 1 meets.2 refl in
+    omega (arith, near, c.visit_leaf.ensures.counts)
+
+pub returns-in-SplitLeaf-clause-counts : goal.returns-in-SplitLeaf-clause-counts
+returns-in-SplitLeaf-clause-counts g c = λ s stores at.
+    let meets = subst (MeetsAt g.K.AsBytes.bytes c.args.key.now (path_to at.ctx) at.part) c.in-SplitLeaf.is at.meets in
+    let near = point-near g.K.AsBytes.bytes c.args.key.now s c.args.point at _ 1 meets.2 refl in
+    omega (arith, near, c.visit_leaf-in-SplitLeaf.ensures.counts)
+
+pub returns-in-MismatchPrefix-clause-counts : goal.returns-in-MismatchPrefix-clause-counts
+returns-in-MismatchPrefix-clause-counts g c = λ s stores at.
+    let meets = subst (MeetsAt g.K.AsBytes.bytes c.args.key.now (path_to at.ctx) at.part) c.in-MismatchPrefix.is at.meets in
+    let sub = point_subtree g.K.AsBytes.bytes g.row.PREFIX_LEN c.args.reader.now.arena.now c.args.key.now c.args.root c.in-MismatchPrefix.inner_node_ptr s c.args.point stores at (ap name_of meets.2) in
+    let counts = c.nearest_parted.ensures.counts (path_to at.ctx) _ (subst (IsSubtree g.K.AsBytes.bytes g.row.PREFIX_LEN (node_at c.args.reader.now.arena.now) c.in-MismatchPrefix.inner_node_ptr (path_to at.ctx)) meets.2 sub) in
+    let near = point-near g.K.AsBytes.bytes c.args.key.now s c.args.point at _ _ meets.2 (parted-ends g.K.AsBytes.bytes c.args.key.now (path_to at.ctx) at.toward.begins meets.0 (erase_in meets.1) c.in-MismatchPrefix.parted meets.3).1 in
+    omega (arith, near, counts)
+
+pub returns-in-IntoExisting-clause-counts : goal.returns-in-IntoExisting-clause-counts
+returns-in-IntoExisting-clause-counts g c = λ s stores at.
+    let meets = subst (MeetsAt g.K.AsBytes.bytes c.args.key.now (path_to at.ctx) at.part) c.in-IntoExisting.is at.meets in
+    let sub = point_subtree g.K.AsBytes.bytes g.row.PREFIX_LEN c.args.reader.now.arena.now c.args.key.now c.args.root c.in-IntoExisting.inner_node_ptr s c.args.point stores at (ap name_of meets.2) in
+    let counts = c.nearest_child.ensures.counts (path_to at.ctx) meets.0 meets.1 (subst (IsSubtree g.K.AsBytes.bytes g.row.PREFIX_LEN (node_at c.args.reader.now.arena.now) c.in-IntoExisting.inner_node_ptr (path_to at.ctx)) meets.2 sub) meets.3 in
+    let near = point-near g.K.AsBytes.bytes c.args.key.now s c.args.point at _ _ meets.2 (missing-near g.K.AsBytes.bytes c.args.key.now (path_to at.ctx) at.toward.begins meets.0 (erase_in meets.1) c.in-IntoExisting.key_byte meets.4) in
+    omega (arith, near, counts)

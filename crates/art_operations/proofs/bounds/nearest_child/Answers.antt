@@ -1,10 +1,11 @@
-use Rattle.std.proofs.Common.{[], ◌∷◌, ◌++◌, sym, subst, ◌∙◌, arith}
+use Rattle.std.proofs.Common.{ap, [], ◌∷◌, ◌++◌, sym, subst, ◌∙◌, arith}
 use Rattle.std.specs.declared.ops.Bound.TheVariants.{Excluded, Unbounded}
 use Rattle.art_nodes.proofs.Common.{first_child, children_between}
-use Rattle.art_arena.proofs.Common.{node_at, IsSubtree, inner_at, root_held, subtree-branch}
+use Rattle.art_arena.proofs.Common.{node_at, IsSubtree, erase, inner_at, root_held, subtree-branch}
 use Rattle.art_arena.proofs.shapes.EndWalks.{within_branch}
 use Rattle.art_operations.proofs.Door.{read_at}
-use Rattle.art_operations.proofs.Nearest.{child_after, no_child_after}
+use Rattle.art_operations.proofs.Nearest.{child_after, no_child_after, none_above}
+use Rattle.art_operations.proofs.Terms.{beside_reads}
 use Rattle.art_operations.proofs.bounds.nearest_child.Goals as goal
 
 pub minimum_with-requires : goal.minimum_with-requires
@@ -44,3 +45,17 @@ pub maximum_with-requires : goal.maximum_with-requires
 maximum_with-requires g c =
     let r = c.requires in
     (omega arith, (r.0, inner_at c.args.node r.1 r.2, subst (λ a. IsSubtree g.K.AsBytes.bytes g.row.PREFIX_LEN (node_at a) c.args.node r.0 (inner_at c.args.node r.1 r.2)) (sym c.visit_inner.ensures.kept) r.3))
+
+pub returns-in-Some-clause-counts : goal.returns-in-Some-clause-counts
+returns-in-Some-clause-counts g c = λ path prefix kids sub missing.
+    let found = sym (read_at (λ m. first_child (children_between (Excluded c.args.byte) Unbounded m.children)) _ _ _ (root_held g.K.AsBytes.bytes g.row.PREFIX_LEN c.args.reader.now.arena.now c.args.node path prefix kids sub) c.visit_inner.ensures.value _ c.child_after.ensures) ∙ c.in-Some.is in
+    let n = child_after g.K.AsBytes.bytes [] path prefix kids c.args.byte sub.under.1 missing c.in-Some.next found in
+    let below = subtree-branch g.K.AsBytes.bytes g.row.PREFIX_LEN (node_at c.args.reader.now.arena.now) c.args.node path prefix kids n.before c.in-Some.next.0 n.here n.after sub n.whole in
+    let exact = c.minimum_with.ensures.exact ((path ++ prefix) ++ c.in-Some.next.0 ∷ []) n.here (subst (λ a. IsSubtree g.K.AsBytes.bytes g.row.PREFIX_LEN (node_at a) c.in-Some.next.1 ((path ++ prefix) ++ c.in-Some.next.0 ∷ []) n.here) (sym c.visit_inner.ensures.kept) (subst (λ m. IsSubtree g.K.AsBytes.bytes g.row.PREFIX_LEN (node_at c.args.reader.now.arena.now) m ((path ++ prefix) ++ c.in-Some.next.0 ∷ []) n.here) n.named below.subtree)) in
+    omega (arith, exact, c.visit_inner.ensures.counts, ap (beside_reads (erase (inner_at c.args.node prefix kids))) n.above)
+
+pub returns-in-None-clause-counts : goal.returns-in-None-clause-counts
+returns-in-None-clause-counts g c = λ path prefix kids sub missing.
+    let missed = sym (read_at (λ m. first_child (children_between (Excluded c.args.byte) Unbounded m.children)) _ _ _ (root_held g.K.AsBytes.bytes g.row.PREFIX_LEN c.args.reader.now.arena.now c.args.node path prefix kids sub) c.visit_inner.ensures.value _ c.child_after.ensures) ∙ c.in-None.is in
+    let exact = c.maximum_with.ensures.exact path _ (subst (λ a. IsSubtree g.K.AsBytes.bytes g.row.PREFIX_LEN (node_at a) c.args.node path (inner_at c.args.node prefix kids)) (sym c.visit_inner.ensures.kept) sub) in
+    omega (arith, exact, c.visit_inner.ensures.counts, ap (beside_reads (erase (inner_at c.args.node prefix kids))) (none_above g.K.AsBytes.bytes [] path prefix kids c.args.byte sub.under.1 missing missed))

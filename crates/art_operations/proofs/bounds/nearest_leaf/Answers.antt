@@ -1,8 +1,9 @@
-use Rattle.std.proofs.Common.{subst, sym, arith}
-use Rattle.art_arena.proofs.Common.{path_to, leaves, Stores, part_within}
-use Rattle.art_operations.proofs.Terms.{IsNearest}
+use Rattle.std.proofs.Common.{ap, ◌∙◌, drop, length, subst, sym, arith}
+use Rattle.art_arena.proofs.Common.{erase, path_to, leaves, Stores, part_within}
+use Rattle.art_operations.proofs.Terms.{IsNearest, near_reads}
 use Rattle.art_operations.proofs.Nearest.{nearest_in, nearest_of_conflicts, told_of}
 use Rattle.art_operations.proofs.Stops.{way_part}
+use Rattle.art_operations.proofs.WayParts.{inside-end, inside_near}
 use Rattle.art_operations.proofs.bounds.nearest_leaf.Goals as goal
 
 pub end_leaf_with-first-requires : goal.end_leaf_with-first-requires
@@ -41,3 +42,16 @@ returns-in-Ok-clause-few g c = λ s stores longest short.
     let few = c.nearest_at.ensures.few s (subst (λ a. Stores g.K.AsBytes.bytes g.row.PREFIX_LEN a c.args.root s) (sym c.in-Ok.ensures.kept) stores) (c.in-Ok.ensures.answer s stores).0 longest short in
     let place = c.in-Ok.ensures.few s stores longest short in
     omega (arith, few, place)
+
+pub returns-in-Err-clause-counts : goal.returns-in-Err-clause-counts
+returns-in-Err-clause-counts g c = λ s stores.
+    let w = c.in-Err.ensures.inside s stores in
+    let rest = drop (length (path_to w.0.ctx)) c.args.key.now in
+    let exact = c.end_leaf_with-first.ensures.exact (path_to w.0.ctx) w.0.part (way_part g.K.AsBytes.bytes g.row.PREFIX_LEN c.args.key.now c.args.reader.now.arena.now _ c.in-Err.ensures.kept c.args.root c.in-Err.conflict.part s stores w.0) in
+    let near = ap near_reads (inside-end g.K.AsBytes.bytes c.args.key.now s w.0.ctx w.0.part w.0.toward.place w.0.toward.begins w.1) ∙ inside_near (erase w.0.part) rest w.1 in
+    omega (arith, exact, near, c.in-Err.ensures.counts s stores)
+
+pub returns-in-Ok-clause-counts : goal.returns-in-Ok-clause-counts
+returns-in-Ok-clause-counts g c = λ s stores.
+    let near = c.nearest_at.ensures.counts s (subst (λ a. Stores g.K.AsBytes.bytes g.row.PREFIX_LEN a c.args.root s) (sym c.in-Ok.ensures.kept) stores) (c.in-Ok.ensures.answer s stores).0 in
+    omega (arith, near, c.in-Ok.ensures.counts s stores)

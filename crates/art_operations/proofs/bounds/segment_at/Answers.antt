@@ -45,3 +45,12 @@ returns-then-starts_with-clause-all g c = λ path s sub conflicts.
     let begins = begins_of c.starts_with.result _ (g.K.AsBytes.bytes first.first.key) _ c.args.prefix.now stored refl c.starts_with.ensures.value c.if-starts_with.true in
     let all = begin_all g.K.AsBytes.bytes c.args.prefix.now first.first first.others (subst (AllConflict g.K.AsBytes.bytes c.args.prefix.now) first.are conflicts) first.before begins in
     ap (passing g.K.AsBytes.bytes (λ k. begins_with c.args.prefix.now k)) first.are ∙ all ∙ sym first.are
+
+pub returns-then-starts_with-clause-counts : goal.returns-then-starts_with-clause-counts
+returns-then-starts_with-clause-counts g c = λ path s sub.
+    let first = c.end_leaf_with-first.ensures.exact path s sub in
+    let last = c.maximum_with.ensures.exact path s (subst (λ a. IsSubtree g.K.AsBytes.bytes g.row.PREFIX_LEN (node_at a) c.args.part path s) (sym c.end_leaf_with-first.ensures.kept) sub) in
+    omega (arith, first, last)
+
+pub returns-clause-counts : goal.returns-clause-counts
+returns-clause-counts g c = λ path s sub. c.end_leaf_with-first.ensures.exact path s sub

@@ -82,3 +82,10 @@ returns-in-Ok-insert_at_stop-clause-names g c =
     let f = met-at g.K.AsBytes.bytes g.row.PREFIX_LEN c.args.arena.now c.args.root c.in-Some.top c.in-Some.is (g.K.AsBytes.bytes c.args.key) c.stop_of-stop.result c.way_at-way.result (on g (goal.at.returns-in-Ok-insert_at_stop-clause-names g c).After-way_at-way) (ends g (goal.at.returns-in-Ok-insert_at_stop-clause-names g c).After-way_at-way) c.requires.0 rest c.requires.2 m.0 m.1 in
     inserted-names g.K.AsBytes.bytes g.row.PREFIX_LEN c.args.arena.now c.insert_at_stop.new.arena c.in-Some.top rest f.0.shape f.0.is_tree (c.in-Ok-insert_at_stop.ensures.others m.0 m.1 f.0.shape rest f.0.is_tree f.0.place)
     (steps_of c.stop_of-stop.result.path) c.args.key c.args.value c.in-Ok-insert_at_stop.put (c.in-Ok-insert_at_stop.ensures.ok m.0 m.1 f.0.shape rest f.0.is_tree f.0.place)
+
+pub returns-in-Ok-insert_at_stop-clause-stored_room : goal.returns-in-Ok-insert_at_stop-clause-stored_room
+returns-in-Ok-insert_at_stop-clause-stored_room g c = λ pairs rest has stored.
+    let m = something-met c.stop_of-stop.result.node c.way_at-way.result (λ e. let t = c.is_conflict.ensures.1 e in let f = c.if-is_conflict.false in absurd (cc)) in
+    let f = met-at g.K.AsBytes.bytes g.row.PREFIX_LEN c.args.arena.now c.args.root c.in-Some.top c.in-Some.is (g.K.AsBytes.bytes c.args.key) c.stop_of-stop.result c.way_at-way.result (on g (goal.at.returns-in-Ok-insert_at_stop-clause-stored_room g c).After-way_at-way) (ends g (goal.at.returns-in-Ok-insert_at_stop-clause-stored_room g c).After-way_at-way) pairs rest has m.0 m.1 in
+    let exact = stored-exact g.K.AsBytes.bytes g.row.PREFIX_LEN c.args.arena.now (point_at c.in-Some.top c.stop_of-stop.result m.0) (g.K.AsBytes.bytes c.args.key) pairs f.0 stored in
+    c.in-Ok-insert_at_stop.ensures.exact_room exact.0 (m.1 ∙ ap Some exact.1)

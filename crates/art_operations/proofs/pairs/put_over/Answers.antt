@@ -38,3 +38,8 @@ pub returns-in-Some-clause-names : goal.returns-in-Some-clause-names
 returns-in-Some-clause-names g c = map_ok c.apply.result _ _ c.apply.ensures.names (λ put keeps. λ pairs rest can.
     let has = rw c.in-Some.is at can in
     subst (λ ps. KeepsLeavesOf g.K.AsBytes.bytes (with_pair_over g.K.AsBytes.bytes c.args.key c.args.value ps) c.args.arena.now c.apply.new.arena) has.pairs_are (keeps has.shape rest has.is_tree has.place))
+
+pub returns-in-Some-clause-stored_room : goal.returns-in-Some-clause-stored_room
+returns-in-Some-clause-stored_room g c = λ pairs rest can stored.
+    let has = rw c.in-Some.is at can in
+    c.apply.ensures.exact_room (stored-over g.K.AsBytes.bytes g.row.PREFIX_LEN c.args.arena.now c.in-Some.over (g.K.AsBytes.bytes c.args.key) pairs has stored)

@@ -42,3 +42,9 @@ returns-in-Some-clause-names g c =
     let has = rw c.in-Some.is at c.requires.2 in
     both_ok c.apply.result _ _ _ c.apply.ensures.ok c.apply.ensures.others (λ put inserted kept.
     inserted-names g.K.AsBytes.bytes g.row.PREFIX_LEN c.args.arena.now c.apply.new.arena c.in-Some.point.root c.requires.1 has.shape has.is_tree (kept has.shape c.requires.1 has.is_tree has.place) (steps_of c.in-Some.point.path) c.args.key c.args.value put (inserted has.shape c.requires.1 has.is_tree has.place))
+
+pub returns-in-Some-clause-stored_room : goal.returns-in-Some-clause-stored_room
+returns-in-Some-clause-stored_room g c = λ pairs rest can stored.
+    let has = rw c.in-Some.is at can in
+    let exact = stored-exact g.K.AsBytes.bytes g.row.PREFIX_LEN c.args.arena.now c.in-Some.point (g.K.AsBytes.bytes c.args.key) pairs has stored in
+    c.apply.ensures.exact_room exact.0 exact.1

@@ -1,17 +1,27 @@
--- The invariant is what was taken so far, as `Taken` has it.
-use Rattle.std.proofs.Common.{◌≡◌, ℕ, ◌+◌, suc, List, ◌∷◌, drop, get_or, subst, arith}
-use Rattle.std.proofs.Math.Seq.{drop-cons}
-use Rattle.art_c.specs.declared.many.ArtLens.{ArtLens}
-use Rattle.art_c.proofs.Loads.{one-more}
+use Rattle.std.proofs.Common.{subst, sym, arith}
+use Rattle.art_bytes.specs.Keys.{AreBytes}
+use Rattle.art_map.specs.Builders.{HasGathered}
+use Rattle.art_c.specs.Calls.{IsPutRefused, whole}
+use Rattle.art_c.specs.Loads.{IsLoaded}
 use Rattle.art_c.proofs.calls.loads.load.Goals as goal
 
-pub loop-at-preserved : goal.loop-at-preserved
-loop-at-preserved c =
-    let lens : List ArtLens = c.args.lens.now in
-    let at : ℕ = c.loop-at.at in
-    let none : ArtLens = record { key = 0; value = 0 } in
-    let one : suc at ≡ at + 1 = omega arith in
-    let next : drop at lens ≡ get_or lens at none ∷ drop (at + 1) lens =
-    subst (λ (n : ℕ). drop at lens ≡ get_or lens at none ∷ drop n lens) one (drop-cons lens at none c.loop-at-test.true) in
-    one-more c.args.bytes.now lens c.args.map.now.pairs c.loop-at.invariant (get_or lens at none) (drop (at + 1) lens)
-    c.in-Some.key.now c.in-Some.value.now c.in-Some.behind.now c.put_above.new.map.pairs next c.in-Some.ensures c.in-Done.ensures.0 c.in-Done.ensures.1
+pub finish-requires : goal.finish-requires
+finish-requires g c =
+    let had = subst (λ m. HasGathered whole AreBytes c.from_map-builder.result m.pairs) c.replace.ensures.value c.from_map-builder.ensures.pairs in
+    let r = c.put_rising-ended.ensures c.args.map.now.pairs had in
+    (omega arith, (omega arith, (omega arith, (r.0, r.1))))
+
+pub returns-in-Ok : goal.returns-in-Ok
+returns-in-Ok g c =
+    let had = subst (λ m. HasGathered whole AreBytes c.from_map-builder.result m.pairs) c.replace.ensures.value c.from_map-builder.ensures.pairs in
+    let r = c.in-Ok.ensures c.args.map.now.pairs had in
+    subst (λ ps. IsLoaded g.V.Value.text_of g.V.Value.item_of g.V.Value.key_len_of g.V.Value.text_len_of c.args.bytes.now c.args.items.now c.args.map.now.pairs c.args.taken.now c.in-Ok.code ps c.put_rising-ended.new.taken)
+    (sym (c.finish.ensures.pairs r.0 r.1)) r.2
+
+pub returns-in-Err : goal.returns-in-Err
+returns-in-Err g c =
+    let had = subst (λ m. HasGathered whole AreBytes c.from_map-builder.result m.pairs) c.replace.ensures.value c.from_map-builder.ensures.pairs in
+    let r = c.in-Err.ensures c.args.map.now.pairs had in
+    let same = c.finish.ensures.pairs r.0 r.1 in
+    subst (λ ps. IsLoaded g.V.Value.text_of g.V.Value.item_of g.V.Value.key_len_of g.V.Value.text_len_of c.args.bytes.now c.args.items.now c.args.map.now.pairs c.args.taken.now c.refusal.result ps c.put_rising-ended.new.taken)
+    (sym same) (r.2 c.refusal.result (subst (λ ps. IsPutRefused c.in-Err.key.now ps c.refusal.result ps) same c.refusal.ensures))

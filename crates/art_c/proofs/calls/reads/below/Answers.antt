@@ -5,6 +5,6 @@ use Rattle.art_c.proofs.Ends.{last-taken}
 use Rattle.art_c.proofs.calls.reads.below.Goals as goal
 
 pub returns : goal.returns
-returns c =
+returns g c =
     last-taken deref_pair c.range.result c.next_back.result c.next_back.new.self c.next_back.ensures.steps
     ∙ ap last_item c.range.ensures.rest

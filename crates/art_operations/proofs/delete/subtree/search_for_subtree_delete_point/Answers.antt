@@ -5,6 +5,7 @@ use Rattle.art_operations.proofs.FoundParts.{conflict_point, found_leaf, leaf_ro
 use Rattle.art_operations.proofs.Openings.{opening_of}
 use Rattle.art_operations.proofs.Segments.{begin_in, ends_same}
 use Rattle.art_operations.proofs.Stops.{way_part}
+use Rattle.art_operations.proofs.WayParts.{part-both, part-first, point-free}
 use Rattle.art_operations.proofs.delete.subtree.search_for_subtree_delete_point.Goals as goal
 use Rattle.art_operations.proofs.delete.subtree.search_for_subtree_delete_point.Goals.{After-segment_at}
 
@@ -64,3 +65,22 @@ returns-clause-linear g c = reads g (goal.at.returns-clause-linear g c).After-se
 
 pub returns-clause-few : goal.returns-clause-few
 returns-clause-few g c = λ s stores longest short. opening_of longest (length c.args.prefix.now) _ _ (reads g (goal.at.returns-clause-few g c).After-segment_at s stores longest short)
+
+pub returns-in-Ok-clause-counts : goal.returns-in-Ok-clause-counts
+returns-in-Ok-clause-counts g c = λ s stores.
+    let answer = c.in-Ok.ensures.answer s stores in
+    omega (arith, c.in-Ok.ensures.counts s stores, point-free g.K.AsBytes.bytes c.args.prefix.now s c.in-Ok.point answer.0 answer.1)
+
+pub returns-in_default-clause-counts : goal.returns-in_default-clause-counts
+returns-in_default-clause-counts g c = λ s stores.
+    let w = c.in-Err.ensures.inside s stores in
+    let there = way_part g.K.AsBytes.bytes g.row.PREFIX_LEN c.args.prefix.now c.args.reader.now.arena.now _ c.in-Err.ensures.kept c.args.root c.in-Err.conflict.part s stores w.0 in
+    let counts = c.in_default.ensures.counts (path_to w.0.ctx) w.0.part there in
+    omega (arith, counts, c.in-Err.ensures.counts s stores, part-first g.K.AsBytes.bytes c.args.prefix.now s w.0.ctx w.0.part w.0.toward.place w.0.toward.begins w.1 w.0.conflicts (c.in_default.ensures.value (path_to w.0.ctx) w.0.part there w.0.conflicts))
+
+pub returns-clause-counts : goal.returns-clause-counts
+returns-clause-counts g c = λ s stores.
+    let w = c.in-Err.ensures.inside s stores in
+    let there = way_part g.K.AsBytes.bytes g.row.PREFIX_LEN c.args.prefix.now c.args.reader.now.arena.now _ c.in-Err.ensures.kept c.args.root c.in-Err.conflict.part s stores w.0 in
+    let counts = c.in-Some.ensures.counts (path_to w.0.ctx) w.0.part there in
+    omega (arith, counts, c.in-Err.ensures.counts s stores, part-both g.K.AsBytes.bytes c.args.prefix.now s w.0.ctx w.0.part w.0.toward.place w.0.toward.begins w.1 w.0.conflicts (c.in-Some.ensures.all (path_to w.0.ctx) w.0.part there w.0.conflicts))

@@ -4,7 +4,7 @@ use Rattle.art_arena.proofs.Common.{HasRoom, leaf_name, links-update}
 use Rattle.art_operations.proofs.Inserted.{put_keeps}
 use Rattle.art_operations.proofs.Waiting.{node-inner}
 use Rattle.art_operations.proofs.IntoExisting.{starts, inserted}
-use Rattle.art_operations.proofs.NewNodes.{undone}
+use Rattle.art_operations.proofs.NewNodes.{undone, undone_room}
 use Rattle.art_operations.proofs.insert.into_existing.put_into_existing.Goals as goal
 
 pub make_room-requires : goal.make_room-requires
@@ -59,3 +59,7 @@ returns-clause-others g c = λ s rest tree at.
     put_keeps g.K.AsBytes.bytes g.row.PREFIX_LEN c.args.arena.now c.make_room.new.arena c.put_leaf.new.arena c.put_leaf.new.arena c.args.point.root _ s _ c.in_ok-leaf.leaf c.args.key c.args.value _ _ _ tree (returns-clause-ok g c s rest tree at) st.was
     (λ n other. c.in-Ok.ensures.links n ∙ (links-update c.args.arena.now c.store_leaf.new.arena c.in_ok-leaf.leaf _ c.in_ok-leaf.ensures.ok.updates).others n other)
     (c.put_leaf.ensures.others _ _ _ _ _ made.0) (λ n. refl)
+
+pub returns-in-Err-clause-kept_room : goal.returns-in-Err-clause-kept_room
+returns-in-Err-clause-kept_room g c =
+    undone_room c.args.arena.now c.store_leaf.new.arena c.make_room.new.arena c.take_back.new.arena c.store_leaf.ensures.room_of c.in-Err.ensures.kept_room c.take_back.ensures.room_of c.take_back.ensures.frees c.take_back.ensures.room_for_it

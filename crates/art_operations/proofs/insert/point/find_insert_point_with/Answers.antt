@@ -1,8 +1,11 @@
-use Rattle.std.proofs.Common.{arith, sym, subst}
+use Rattle.std.proofs.Common.{arith, ap, sym, subst, ◌∙◌}
 use Rattle.art_arena.proofs.Common.{node_at, path_to, steps_of, StoresAt, part_within}
 use Rattle.art_operations.proofs.Terms.{met_by}
 use Rattle.art_operations.proofs.Points.{way_at_depth}
-use Rattle.art_operations.proofs.Stops.{answered, EndsThere}
+use Rattle.art_operations.proofs.Stops.{answered, EndsThere, inside, refused}
+use Rattle.art_arena.proofs.Terms.{prefix_reads}
+use Rattle.art_operations.proofs.StopPairs.{conflicts}
+use Rattle.art_operations.proofs.WayParts.{way-at, way-stop}
 use Rattle.art_operations.proofs.insert.point.find_insert_point_with.Goals as goal
 use Rattle.art_operations.proofs.insert.point.find_insert_point_with.Goals.{After-way_with-way}
 
@@ -35,3 +38,24 @@ returns-clause-few g c = λ s tree longest short.
     let few = c.way_with-way.ensures.few (path_to way.ctx) way.part (subst (λ a. StoresAt g.K.AsBytes.bytes g.row.PREFIX_LEN a stop.node stop.depth (path_to way.ctx) way.part) (sym c.stop_with-stop.ensures.kept) at) longest
     (part_within g.K.AsBytes.bytes longest s way.ctx way.part way.toward.place.is short) in
     omega (arith, few, c.stop_with-stop.ensures.few s tree longest short)
+
+pub returns-clause-counts : goal.returns-clause-counts
+returns-clause-counts g c = λ s tree.
+    let stop = c.stop_with-stop.result in
+    let way = c.stop_with-stop.ensures.way s tree in
+    let at = way_at_depth g.K.AsBytes.bytes g.row.PREFIX_LEN (node_at c.args.reader.now.arena.now) c.args.key.now s stop.node (steps_of stop.path) stop.depth way in
+    let counts = c.way_with-way.ensures.counts (path_to way.ctx) way.part (subst (λ a. StoresAt g.K.AsBytes.bytes g.row.PREFIX_LEN a stop.node stop.depth (path_to way.ctx) way.part) (sym c.stop_with-stop.ensures.kept) at) in
+    let e = way-at g.K.AsBytes.bytes c.args.key.now s way.ctx way.part way.toward.place way.toward.begins ∙ way-stop g.K.AsBytes.bytes c.args.key.now (path_to way.ctx) way.part way.toward.begins (c.stop_with-stop.ensures.stops (path_to way.ctx) way.part at way.toward.begins) in
+    omega (arith, counts, c.stop_with-stop.ensures.counts s tree, ap (λ p. prefix_reads g.row.PREFIX_LEN p.0) e)
+
+pub returns-clause-inside : goal.returns-clause-inside
+returns-clause-inside g c =
+    let d = (goal.at.returns-clause-inside g c).After-way_with-way in
+    let stop = c.stop_with-stop.result in
+    rw c.answer.ensures (inside g.K.AsBytes.bytes g.row.PREFIX_LEN c.args.reader.now.arena.now c.args.root c.args.key.now stop c.stop_with-stop.ensures.way (met_by stop.node c.way_with-way.result) (ends g d)
+    (λ none path part at. c.way_with-way.ensures.inside (conflicts stop.node c.way_with-way.result none) path part (subst (λ a. StoresAt g.K.AsBytes.bytes g.row.PREFIX_LEN a stop.node stop.depth path part) (sym c.stop_with-stop.ensures.kept) at)))
+
+pub returns-clause-part : goal.returns-clause-part
+returns-clause-part g c =
+    let d = (goal.at.returns-clause-part g c).After-way_with-way in
+    rw c.answer.ensures (refused g.K.AsBytes.bytes g.row.PREFIX_LEN c.args.reader.now.arena.now c.args.root c.args.key.now c.stop_with-stop.result c.stop_with-stop.ensures.way (met_by c.stop_with-stop.result.node c.way_with-way.result) (ends g d))

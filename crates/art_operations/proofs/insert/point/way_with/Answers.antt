@@ -5,6 +5,9 @@ use Rattle.art_arena.proofs.Common.{prefix_of, tail}
 use Rattle.art_arena.proofs.shapes.Guides.{deep_within}
 use Rattle.art_operations.proofs.Terms.{IsWayAtLeaf, IsWay}
 use Rattle.art_operations.proofs.Points.{leaf_named, seen_leaf, leaf_end, inner_there, inner_end}
+use Rattle.art_arena.proofs.Terms.{erase, prefix_reads}
+use Rattle.art_operations.proofs.Terms.{EndsInside, IsWayAtInner}
+use Rattle.art_operations.proofs.WayParts.{pass_ends}
 use Rattle.art_operations.proofs.insert.point.way_with.Goals as goal
 
 pub visit_leaf-requires : goal.visit_leaf-requires
@@ -43,3 +46,25 @@ returns-in-None-clause-way g c = λ path s at begins.
 pub returns-in-Some-clause-few : goal.returns-in-Some-clause-few
 returns-in-Some-clause-few g c = λ path s at longest short.
     omega (arith, deep_within g.K.AsBytes.bytes path s at.subtree.under longest short, at.behind, c.visit_leaf.ensures.counts)
+
+pub returns-in-Some-clause-counts : goal.returns-in-Some-clause-counts
+returns-in-Some-clause-counts g c = λ path s at.
+    let l = seen_leaf g.K.AsBytes.bytes g.row.PREFIX_LEN c.args.reader.now.arena.now c.args.node c.in-Some.leaf path s (c.in-Some.ensures.variant.0 refl) c.in-Some.ensures.slot at.subtree in
+    omega (arith, c.visit_leaf.ensures.counts, ap (λ t. prefix_reads g.row.PREFIX_LEN (erase t)) l.is)
+
+pub returns-in-None-clause-counts : goal.returns-in-None-clause-counts
+returns-in-None-clause-counts g c = λ path s at. c.read_full_prefix_with.ensures.exact path s at
+
+pub returns-in-Some-clause-inside : goal.returns-in-Some-clause-inside
+returns-in-Some-clause-inside g c = λ conflict path s at.
+    let l = seen_leaf g.K.AsBytes.bytes g.row.PREFIX_LEN c.args.reader.now.arena.now c.args.node c.in-Some.leaf path s (c.in-Some.ensures.variant.0 refl) c.in-Some.ensures.slot at.subtree in
+    subst (λ t. EndsInside (erase t) (drop c.args.depth c.args.key.now)) (sym l.is) tt
+
+pub returns-in-None-clause-inside : goal.returns-in-None-clause-inside
+returns-in-None-clause-inside g c = λ conflict path s at.
+    let inner : c.args.node.kind ≢ Leaf = λ leaf. let some = c.in-None.ensures.variant.1 leaf in cc in
+    let i = inner_there g.K.AsBytes.bytes g.row.PREFIX_LEN c.args.reader.now.arena.now c.args.node path s at.subtree inner in
+    let is = c.read_full_prefix_with.ensures.prefix path s at ∙ ap prefix_of i.is in
+    let met = rw (is, tail c.args.depth c.args.key.now) at c.way_at_inner.ensures in
+    subst (λ t. EndsInside (erase t) (drop c.args.depth c.args.key.now)) (sym i.is)
+    (pass_ends i.prefix (drop c.args.depth c.args.key.now) (subst (IsWayAtInner i.prefix (drop c.args.depth c.args.key.now)) conflict met))

@@ -1,7 +1,7 @@
 use Rattle.std.proofs.Common.{◌≡◌, ◌+◌, Some, IsSome, refl, sym, subst, ◌∙◌, arith}
 use Rattle.art_arena.proofs.Common.{held_at, leaf_name}
 use Rattle.art_operations.proofs.Terms.{lone_leaf}
-use Rattle.art_operations.proofs.NewNodes.{fewer, undone}
+use Rattle.art_operations.proofs.NewNodes.{fewer, undone, undone_room}
 use Rattle.art_operations.proofs.insert.split.store_nodes.Goals as goal
 
 pub take_back-requires : goal.take_back-requires
@@ -29,3 +29,7 @@ returns-in-Err-clause-succeeds g c = λ room. c.in-Err.ensures.succeeds (c.in_ok
 pub returns-in-Err-clause-room : goal.returns-in-Err-clause-room
 returns-in-Err-clause-room g c = λ n room.
     c.take_back.ensures.room n (c.in-Err.ensures.room n (c.in_ok-leaf.ensures.room (n + 1) (fewer c.args.arena.now (n + 1 + 1) _ (omega arith) room)))
+
+pub returns-in-Err-clause-kept_room : goal.returns-in-Err-clause-kept_room
+returns-in-Err-clause-kept_room g c =
+    undone_room c.args.arena.now c.store_leaf.new.arena c.store_split.new.arena c.take_back.new.arena c.store_leaf.ensures.room_of c.in-Err.ensures.kept_room c.take_back.ensures.room_of c.take_back.ensures.frees c.take_back.ensures.room_for_it

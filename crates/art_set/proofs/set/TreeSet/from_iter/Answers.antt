@@ -18,16 +18,16 @@ put_all-requires g c = (omega arith, (c.if-not-nodes_fit.ensures.0 refl, (([], c
 
 pub returns-in_err-put_all : goal.returns-in_err-put_all
 returns-in_err-put_all g c =
-    let (it, given, gives, put, back) = c.in_err-put_all.ensures in
-    made-refused g.K.AsBytes.bytes (λ key. key) g.U.IntoIterator.into_iter_gives g.U.IntoIter.Iterator.next_gives c.args.iter it given _ c.from_residual.result gives back c.from_residual.ensures.1
+    let (it, given, gives, put, back) = c.in_err-put_all.ensures.keys in
+    made-refused g.K.AsBytes.bytes (λ key. key) g.U.IntoIterator.into_iter_gives g.U.IntoIter.Iterator.next_gives c.args.iter it given _ c.from_residual.result gives back.0 c.from_residual.ensures.1
 
 pub finish-map-requires : goal.finish-map-requires
 finish-map-requires g c =
-    let (it, given, gives, put, drains) = c.in_ok-put_all.ensures in
+    let (it, given, gives, put, drains) = c.in_ok-put_all.ensures.keys in
     (omega arith, (omega arith, (c.if-not-nodes_fit.ensures.0 refl, (with_pairs_put g.K.AsBytes.bytes (map (λ k. (k, tt)) given) [], put [] c.new-builder.ensures))))
 
 pub returns : goal.returns
 returns g c =
-    let (it, given, gives, put, drains) = c.in_ok-put_all.ensures in
+    let (it, given, gives, put, drains) = c.in_ok-put_all.ensures.keys in
     keys-made g.K.AsBytes.bytes (λ key. key) g.U.IntoIterator.into_iter_gives g.U.IntoIter.Iterator.next_gives c.args.iter (Ok c.finish-map.result)
     (it, given, gives, (drains, c.finish-map.ensures.pairs _ (put [] c.new-builder.ensures)))

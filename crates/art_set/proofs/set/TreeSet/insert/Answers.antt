@@ -10,3 +10,9 @@ returns-clause-added g c = rw (← c.self.view_is) (was-added (has_bytes g.K.AsB
 
 pub returns-clause-keys : goal.returns-clause-keys
 returns-clause-keys g c = rw (← c.self.view_is, c.in-Ok.ensures.pairs) (keys-put g.K.AsBytes.bytes c.args.key tt c.self.inside.map.pairs)
+
+pub returns-in-Err-clause-room : goal.returns-in-Err-clause-room
+returns-in-Err-clause-room g c = rw (← c.self.view_is) c.in-Err.ensures.room
+
+pub returns-clause-room : goal.returns-clause-room
+returns-clause-room g c = rw (← c.self.view_is) c.in-Ok.ensures.room

@@ -5,5 +5,5 @@ use Rattle.art_set.proofs.set.TreeSet.is_subset.Goals as goal
 
 pub returns : goal.returns
 returns g c =
-    let p = λ (x : g.row.K.Denot). is_member g.K.AsBytes.bytes (g.K.AsBytes.bytes x) c.args.other.now in
-    none-came (λ x. not (p x)) p (λ x. not-twice (p x)) c.args.self.now c.difference.result.rest c.next.new.self.rest c.next.result c.is_none.result c.difference.ensures.rest c.next.ensures.steps.first c.is_none.ensures
+    let p = λ (x : g.row.K.Denot). is_member g.K.AsBytes.bytes (g.K.AsBytes.bytes x) c.args.other.now.keys in
+    none-came (λ x. not (p x)) p (λ x. not-twice (p x)) c.args.self.now.keys c.difference.result.rest c.next.new.self.rest c.next.result c.is_none.result c.difference.ensures.rest c.next.ensures.steps.first c.is_none.ensures

@@ -2,7 +2,7 @@ use Rattle.std.proofs.Common.{ap, ◌∙◌}
 use Rattle.std.specs.Prelude.{is_some}
 use Rattle.std.proofs.lemmas.Map.Made.{is_some-lookup}
 use Rattle.art_map.proofs.Common.{on-err}
-use Rattle.art_set.proofs.Seen.{has-key, keys-without, shrinking}
+use Rattle.art_set.proofs.Seen.{has-key, kept-names, keys-without, shrinking}
 use Rattle.art_set.proofs.set.TreeSet.remove.Goals as goal
 
 pub returns-in_err-found-clause-shrinks : goal.returns-in_err-found-clause-shrinks
@@ -15,3 +15,6 @@ returns-clause-found g c = rw (← c.self.view_is) (c.is_some.ensures ∙ ap is_
 
 pub returns-clause-keys : goal.returns-clause-keys
 returns-clause-keys g c = rw (← c.self.view_is, c.in_ok-found.ensures.pairs) (keys-without g.K.AsBytes.bytes _ c.self.inside.map.pairs)
+
+pub returns-clause-names : goal.returns-clause-names
+returns-clause-names g c = rw (← c.self.view_is) (kept-names g.K.AsBytes.bytes c.remove.new.self.pairs c.self.inside.map.nodes c.remove.new.self.nodes c.in_ok-found.ensures.names)

@@ -5,7 +5,7 @@ use Rattle.art_operations.proofs.Common.{OpeningReads}
 use Rattle.art_walks.proofs.Common.{PairsWithin}
 use Rattle.art_map.proofs.Common.{AreCutVisits, ShrinksAtCut}
 use Rattle.art_set.proofs.KeyPairs.{keys-beside, many-behind, with-units}
-use Rattle.art_set.proofs.Seen.{if-ok, on-ok}
+use Rattle.art_set.proofs.Seen.{if-ok, names-if-ok, on-ok}
 use Rattle.art_set.proofs.set.TreeSet.remove_prefix.Goals as goal
 
 pub returns-clause-keys : goal.returns-clause-keys
@@ -32,3 +32,8 @@ pub returns-clause-shrinks : goal.returns-clause-shrinks
 returns-clause-shrinks g c =
     rw (← c.self.view_is)
     (subst (λ ps. OnErr c.remove_prefix.result (ShrinksAtCut g.K.AsBytes.bytes c.args.prefix.now ps)) (with-units c.self.inside.map.pairs) c.remove_prefix.ensures.shrinks)
+
+pub returns-clause-names : goal.returns-clause-names
+returns-clause-names g c =
+    rw (← c.self.view_is)
+    (names-if-ok g.K.AsBytes.bytes c.remove_prefix.new.self.pairs c.self.inside.map.nodes c.remove_prefix.new.self.nodes c.remove_prefix.result c.remove_prefix.ensures.names)

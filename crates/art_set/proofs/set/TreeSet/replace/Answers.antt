@@ -11,3 +11,9 @@ returns-clause-old g c = rw (← c.self.view_is) (c.key_of.ensures ∙ ap key_if
 
 pub returns-clause-keys : goal.returns-clause-keys
 returns-clause-keys g c = rw (← c.self.view_is, c.in-Ok.ensures.pairs) (keys-put g.K.AsBytes.bytes c.args.key tt c.self.inside.map.pairs)
+
+pub returns-in-Err-clause-room : goal.returns-in-Err-clause-room
+returns-in-Err-clause-room g c = rw (← c.self.view_is) c.in-Err.ensures.room
+
+pub returns-clause-room : goal.returns-clause-room
+returns-clause-room g c = rw (← c.self.view_is) c.in-Ok.ensures.room

@@ -13,7 +13,7 @@ loop-key-init g c =
     let all = c.all_of-keys.ensures in
     record {
       same_map = refl;
-      retaining = retaining-all (CalledAt g.F.FnMut) g.K.AsBytes.bytes (TakesAt g.F.FnMut) c.args.keep c.args.self.now (asking_by c.all_of-keys.result c.args.keep) (ap (λ m. keys_of m.pairs) all.same_map.1 ∙ c.self.view_is) (ap keys_of all.left ∙ c.self.view_is) refl c.iter-keys.ensures.ordered c.requires;
+      retaining = retaining-all (CalledAt g.F.FnMut) g.K.AsBytes.bytes (TakesAt g.F.FnMut) c.args.keep c.args.self.now.keys (asking_by c.all_of-keys.result c.args.keep) (ap (λ m. keys_of m.pairs) all.same_map.1 ∙ ap (λ m. m.keys) c.self.view_is) (ap keys_of all.left ∙ ap (λ m. m.keys) c.self.view_is) refl c.iter-keys.ensures.ordered c.requires;
     }
 
 pub keep-requires : goal.keep-requires
@@ -29,7 +29,7 @@ loop-key-preserved-then-keep g c =
     let call : CalledAt g.F.FnMut c.loop-key.keep k true c.keep.new.self = record { shown = c.in-Some.key; shows = refl; called = c.if-keep.ensures } in
     record {
       same_map = ap (λ r. r.ghost_name) c.pass_front.ensures.same ∙ c.loop-key.invariant.same_map;
-      retaining = retaining-kept (CalledAt g.F.FnMut) g.K.AsBytes.bytes (TakesAt g.F.FnMut) c.args.keep c.args.self.now s c.loop-key.invariant.retaining k (asking_by c.pass_front.new.self c.keep.new.self)
+      retaining = retaining-kept (CalledAt g.F.FnMut) g.K.AsBytes.bytes (TakesAt g.F.FnMut) c.args.keep c.args.self.now.keys s c.loop-key.invariant.retaining k (asking_by c.pass_front.new.self c.keep.new.self)
           (first-passed k (left_of c.loop-key.keys) (left_of c.pass_front.new.self) first c.pass_front.ensures.left) call (ap (λ r. keys_of r.now.pairs) c.pass_front.ensures.same);
     }
 
@@ -46,8 +46,8 @@ returns-in_err-_pair-clause-refused g c =
     let refused = refused-key g.K.AsBytes.bytes {E = Unit {0}} k old new ps qs first (Err tt) (Err tt) refl c.in_err-_pair.ensures.err c.in_err-_pair.ensures.shrinks in
     on-err c.from_residual.result (
       k,
-      subst (λ ks. StopsAtKey (CalledAt g.F.FnMut) c.args.keep c.args.self.now k ks) (sym refused.0)
-          (retaining-stopped (CalledAt g.F.FnMut) g.K.AsBytes.bytes (TakesAt g.F.FnMut) c.args.keep c.args.self.now s c.loop-key.invariant.retaining k _ c.keep.new.self first call),
+      subst (λ ks. StopsAtKey (CalledAt g.F.FnMut) c.args.keep c.args.self.now.keys k ks) (sym refused.0)
+          (retaining-stopped (CalledAt g.F.FnMut) g.K.AsBytes.bytes (TakesAt g.F.FnMut) c.args.keep c.args.self.now.keys s c.loop-key.invariant.retaining k _ c.keep.new.self first call),
       subst (λ ks. Shrinks g.K.AsBytes.bytes ks (g.K.AsBytes.bytes k)) (sym refused.0) refused.2,
     )
 
@@ -66,11 +66,11 @@ loop-key-preserved g c =
     let taken = taken-key g.K.AsBytes.bytes {E = Unit {0}} k old new ps qs first (Ok p) (Ok p.0) refl refl kept.left kept.pairs in
     record {
       same_map = kept.same_map ∙ c.loop-key.invariant.same_map;
-      retaining = retaining-taken (CalledAt g.F.FnMut) g.K.AsBytes.bytes (TakesAt g.F.FnMut) c.args.keep c.args.self.now s c.loop-key.invariant.retaining k (asking_by c.take_front.new.self c.keep.new.self)
+      retaining = retaining-taken (CalledAt g.F.FnMut) g.K.AsBytes.bytes (TakesAt g.F.FnMut) c.args.keep c.args.self.now.keys s c.loop-key.invariant.retaining k (asking_by c.take_front.new.self c.keep.new.self)
           (first-passed k old new first (p, kept.left)) call taken.1;
     }
 
 pub returns-clause-retained : goal.returns-clause-retained
 returns-clause-retained g c =
-    retained-all (CalledAt g.F.FnMut) g.K.AsBytes.bytes (TakesAt g.F.FnMut) c.args.keep c.args.self.now (asking_by c.loop-key.keys c.loop-key.keep) c.loop-key.invariant.retaining
+    retained-all (CalledAt g.F.FnMut) g.K.AsBytes.bytes (TakesAt g.F.FnMut) c.args.keep c.args.self.now.keys (asking_by c.loop-key.keys c.loop-key.keep) c.loop-key.invariant.retaining
     (none-first (left_of c.loop-key.keys) c.in_default.ensures)

@@ -8,7 +8,7 @@ use Rattle.art_set.proofs.set.TreeSet.retain.Given as goal
 abbrev pub invariant-loop-key : goal.invariant-loop-key
 invariant-loop-key g l = record {
   same_map : (map_of l.keys).ghost_name ≡ (map_of l.initial.keys).ghost_name;
-  retaining : RetainingKeys (CalledAt g.F.FnMut) g.K.AsBytes.bytes (TakesAt g.F.FnMut) l.fn.keep l.fn.self (asking_by l.keys l.keep);
+  retaining : RetainingKeys (CalledAt g.F.FnMut) g.K.AsBytes.bytes (TakesAt g.F.FnMut) l.fn.keep l.fn.self.keys (asking_by l.keys l.keep);
 }
 
 abbrev pub decreases-loop-key : goal.decreases-loop-key

@@ -1,7 +1,7 @@
 use Rattle.std.proofs.Common.{ap, ◌∙◌}
 use Rattle.std.specs.Map.{keys_of}
 use Rattle.std.specs.declared.ops.Bound.TheVariants.{Included, Excluded, Unbounded}
-use Rattle.art_set.proofs.Seen.{between}
+use Rattle.art_set.proofs.Seen.{between, kept-names}
 use Rattle.art_set.proofs.set.TreeSet.split_off.Goals as goal
 
 pub returns-clause-off : goal.returns-clause-off
@@ -9,3 +9,6 @@ returns-clause-off g c = rw (← c.self.view_is) (ap keys_of c.in_ok-map.ensures
 
 pub returns-clause-keys : goal.returns-clause-keys
 returns-clause-keys g c = rw (← c.self.view_is) (ap keys_of c.in_ok-map.ensures.pairs ∙ between g.K.AsBytes.bytes Unbounded (Excluded (g.Q.AsBytes.bytes c.args.key.now)) c.self.inside.map.pairs)
+
+pub returns-clause-names : goal.returns-clause-names
+returns-clause-names g c = rw (← c.self.view_is) (kept-names g.K.AsBytes.bytes c.split_off.new.self.pairs c.self.inside.map.nodes c.split_off.new.self.nodes c.in_ok-map.ensures.names)

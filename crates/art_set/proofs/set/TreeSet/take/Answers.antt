@@ -1,7 +1,7 @@
 use Rattle.std.proofs.Common.{ap, ◌∙◌}
 use Rattle.art_map.proofs.Common.{on-err}
 use Rattle.art_set.proofs.Terms.{key_if_some}
-use Rattle.art_set.proofs.Seen.{found, has-key, keys-without, shrinking}
+use Rattle.art_set.proofs.Seen.{found, has-key, kept-names, keys-without, shrinking}
 use Rattle.art_set.proofs.set.TreeSet.take.Goals as goal
 
 pub returns-in_err-pair-clause-shrinks : goal.returns-in_err-pair-clause-shrinks
@@ -14,3 +14,6 @@ returns-clause-key g c = rw (← c.self.view_is) (c.key_of.ensures ∙ ap key_if
 
 pub returns-clause-keys : goal.returns-clause-keys
 returns-clause-keys g c = rw (← c.self.view_is, c.in_ok-pair.ensures.pairs) (keys-without g.K.AsBytes.bytes _ c.self.inside.map.pairs)
+
+pub returns-clause-names : goal.returns-clause-names
+returns-clause-names g c = rw (← c.self.view_is) (kept-names g.K.AsBytes.bytes c.remove_entry.new.self.pairs c.self.inside.map.nodes c.remove_entry.new.self.nodes c.in_ok-pair.ensures.names)

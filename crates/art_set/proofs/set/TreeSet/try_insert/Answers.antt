@@ -1,5 +1,5 @@
 use Rattle.art_map.proofs.Common.{has_bytes}
-use Rattle.art_set.proofs.Seen.{blocking, has-pair, keys-put, was-added}
+use Rattle.art_set.proofs.Seen.{blocking, blocks, has-pair, keys-put, was-added}
 use Rattle.art_set.proofs.set.TreeSet.try_insert.Goals as goal
 
 pub returns-in-Err-clause-stored : goal.returns-in-Err-clause-stored
@@ -16,3 +16,12 @@ returns-clause-keys g c = rw (← c.self.view_is, c.in-Ok.ensures.pairs) (keys-p
 
 pub returns-clause-free : goal.returns-clause-free
 returns-clause-free g c = rw (← c.self.view_is) (λ h. c.in-Ok.ensures.free (blocking g.K.AsBytes.bytes (g.K.AsBytes.bytes c.args.key) c.self.inside.map.pairs h))
+
+pub returns-in-Err-clause-succeeds : goal.returns-in-Err-clause-succeeds
+returns-in-Err-clause-succeeds g c = rw (← c.self.view_is) (λ room. blocks g.K.AsBytes.bytes (g.K.AsBytes.bytes c.args.key) c.self.inside.map.pairs (c.in-Err.ensures.succeeds room))
+
+pub returns-in-Err-clause-room : goal.returns-in-Err-clause-room
+returns-in-Err-clause-room g c = rw (← c.self.view_is) c.in-Err.ensures.room
+
+pub returns-clause-room : goal.returns-clause-room
+returns-clause-room g c = rw (← c.self.view_is) c.in-Ok.ensures.room

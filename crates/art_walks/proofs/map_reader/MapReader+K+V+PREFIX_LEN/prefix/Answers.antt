@@ -1,9 +1,10 @@
 use Rattle.std.proofs.Common.{ℕ, List, length, arith, filter, subst, sym, refl}
-use Rattle.art_arena.proofs.Common.{begins_with}
+use Rattle.art_arena.proofs.Common.{begins_with, key_of}
 use Rattle.art_operations.proofs.Common.{front_convex, SpanReads}
 use Rattle.art_operations.proofs.Openings.{opening_of}
 use Rattle.art_walks.proofs.Terms.{IsSpanOf, PairsWithin, ReadsPairs}
-use Rattle.art_walks.proofs.MapReads.{keys-within, no-span, span-of, the-shape, the-stores, where_none, where_some}
+use Rattle.art_walks.proofs.MapReads.{keys-within, no-span, span-of, the-shape, the-stores, tree-read, where_none, where_some}
+use Rattle.art_operations.specs.Openings.{part_reads}
 use Rattle.art_walks.proofs.map_reader.MapReader+K+V+PREFIX_LEN.prefix.Goals as goal
 use Rattle.art_walks.proofs.map_reader.MapReader+K+V+PREFIX_LEN.prefix.Goals.{After-find_prefix_segment_with}
 
@@ -48,3 +49,14 @@ returns-in-Some-clause-least g c = rw (← c.self.view_is) (where_some _ c.in-So
 
 pub returns-in-None-clause-least : goal.returns-in-None-clause-least
 returns-in-None-clause-least g c = rw (← c.self.view_is) (where_none _ c.in-None.is refl)
+
+pub returns-in-Some-clause-counts : goal.returns-in-Some-clause-counts
+returns-in-Some-clause-counts g c = rw (← c.self.view_is, ← c.as_bytes.ensures.value) (λ pairs has.
+    tree-read g.K.AsBytes.bytes g.row.PREFIX_LEN c.self.inside.reader.arena.now c.in-Some.root pairs (subst (λ r. ReadsPairs g.K.AsBytes.bytes g.row.PREFIX_LEN c.self.inside.reader.arena.now r pairs) c.in-Some.is has)
+    (λ t. part_reads (key_of g.K.AsBytes.bytes) g.row.PREFIX_LEN t c.as_bytes.result.now) _ _
+    (c.find_prefix_segment_with.ensures.counts (the-shape g.K.AsBytes.bytes g.row.PREFIX_LEN c.self.inside.reader.arena.now c.in-Some.root pairs (subst (λ r. ReadsPairs g.K.AsBytes.bytes g.row.PREFIX_LEN c.self.inside.reader.arena.now r pairs) c.in-Some.is has)) (the-stores g.K.AsBytes.bytes g.row.PREFIX_LEN c.self.inside.reader.arena.now c.in-Some.root pairs (subst (λ r. ReadsPairs g.K.AsBytes.bytes g.row.PREFIX_LEN c.self.inside.reader.arena.now r pairs) c.in-Some.is has))))
+
+pub returns-in-None-clause-counts : goal.returns-in-None-clause-counts
+returns-in-None-clause-counts g c = rw (← c.self.view_is) (λ pairs has.
+    let none = (subst (λ r. ReadsPairs g.K.AsBytes.bytes g.row.PREFIX_LEN c.self.inside.reader.arena.now r pairs) c.in-None.is has).1.0 in
+    rw none (omega arith))

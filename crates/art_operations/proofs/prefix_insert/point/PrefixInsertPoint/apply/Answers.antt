@@ -32,3 +32,6 @@ returns-in-OverwritePoint-clause-names g c =
     overwritten-names bytes g.row.PREFIX_LEN c.args.arena.now c.apply-in-OverwritePoint.new.arena over.root rest s tree (keeps s rest tree way)
     (steps_of over.path) c.args.key c.args.value put (is s rest tree way)
     (λ l i. all_at _ l (leaves s) (not-in-way bytes (bytes c.args.key) s over.root over.overwrite_point (steps_of over.path) way) i)))
+
+pub returns-in_ok-apply-in-InsertPoint-clause-exact_room : goal.returns-in_ok-apply-in-InsertPoint-clause-exact_room
+returns-in_ok-apply-in-InsertPoint-clause-exact_room g c = rw c.in-InsertPoint.is (λ exact. c.in_ok-apply-in-InsertPoint.ensures.exact_room exact.0 exact.1)

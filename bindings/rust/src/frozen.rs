@@ -1,0 +1,304 @@
+//! Maps that nobody changes, for readers in many threads.
+use crate::error::{AllocError, or_end};
+use crate::ffi::Words;
+use crate::iter::{Iter, IterBytes, Keys, Prefix, Range, Values};
+use crate::map::ArtMap;
+use crate::slab::Slab;
+use crate::view::View;
+use crate::walk::Way;
+use crate::{Key, KeyPrefix};
+use std::borrow::Borrow;
+use std::fmt;
+use std::ops::{Index, RangeBounds};
+use std::sync::Arc;
+
+/// A map that nobody changes. A clone is another handle on the same pairs, for another thread.
+///
+/// [`ArtMap::freeze`] makes it, and [`thaw`](Self::thaw) gives the map back.
+///
+/// ```
+/// use artmap::ArtMap;
+/// use std::thread;
+///
+/// let frozen = ArtMap::from([("a", 1), ("b", 2)]).freeze();
+/// let readers = ["a", "b"].map(|key| {
+///     let mine = frozen.clone();
+///     thread::spawn(move || mine[key])
+/// });
+/// assert_eq!(readers.map(|it| it.join().unwrap()), [1, 2]);
+/// let mut map = frozen.thaw().unwrap();
+/// map.insert("c", 3);
+/// ```
+///
+/// A handle has one call at a time, so it is `Send` and not `Sync`:
+///
+/// ```compile_fail
+/// fn is_shared<T: Sync>(_: T) {}
+/// is_shared(artmap::ArtMap::from([(1, 1)]).freeze());
+/// ```
+pub struct FrozenMap<K, V> {
+    // (the words go first: who has the slots alone has the tree alone)
+    words: Words,
+    slab: Arc<Slab<K, V>>,
+}
+
+impl<K, V> ArtMap<K, V> {
+    /// Makes it a map that nobody changes, for readers in many threads.
+    ///
+    /// ```
+    /// let frozen = artmap::ArtMap::from([(1, 'a')]).freeze();
+    /// assert_eq!(frozen.get(&1), Some(&'a'));
+    /// ```
+    #[must_use]
+    pub fn freeze(mut self) -> FrozenMap<K, V> {
+        or_end(self.words.freeze());
+        FrozenMap { words: self.words, slab: Arc::new(self.slab) }
+    }
+}
+
+impl<K, V> FrozenMap<K, V> {
+    /// The map, which may be changed again.
+    ///
+    /// ```
+    /// let frozen = artmap::ArtMap::from([(1, 'a')]).freeze();
+    /// let other = frozen.clone();
+    /// let frozen = frozen.thaw().unwrap_err();
+    /// drop(other);
+    /// assert_eq!(frozen.thaw().unwrap().remove(&1), Some('a'));
+    /// ```
+    ///
+    /// # Errors
+    ///
+    /// Where there is another handle. This one is handed back.
+    pub fn thaw(mut self) -> Result<ArtMap<K, V>, Self> {
+        match Arc::try_unwrap(self.slab) {
+            Ok(slab) if self.words.thaw() => Ok(ArtMap { words: self.words, slab }),
+            Ok(slab) => Err(FrozenMap { words: self.words, slab: Arc::new(slab) }),
+            Err(slab) => {
+                self.slab = slab;
+                Err(self)
+            }
+        }
+    }
+
+    /// Another handle on the same pairs.
+    ///
+    /// ```
+    /// let frozen = artmap::ArtMap::from([(1, 'a')]).freeze();
+    /// assert_eq!(frozen.try_clone().unwrap(), frozen);
+    /// ```
+    ///
+    /// # Errors
+    ///
+    /// Where memory lacks.
+    pub fn try_clone(&self) -> Result<Self, AllocError> {
+        Ok(FrozenMap { words: self.words.share()?, slab: Arc::clone(&self.slab) })
+    }
+
+    /// How many pairs there are.
+    ///
+    /// ```
+    /// assert_eq!(artmap::ArtMap::from([(1, 'a')]).freeze().len(), 1);
+    /// ```
+    #[must_use]
+    pub fn len(&self) -> usize {
+        self.slab.len()
+    }
+
+    /// Whether there is no pair.
+    ///
+    /// ```
+    /// assert!(!artmap::ArtMap::from([(1, 'a')]).freeze().is_empty());
+    /// ```
+    #[must_use]
+    pub fn is_empty(&self) -> bool {
+        self.len() == 0
+    }
+
+    fn view(&self) -> View<'_, K, V> {
+        View { words: &self.words, slab: &self.slab }
+    }
+}
+
+impl<K: Key, V> FrozenMap<K, V> {
+    /// As [`ArtMap::get`].
+    ///
+    /// ```
+    /// assert_eq!(artmap::ArtMap::from([("a", 1)]).freeze().get("a"), Some(&1));
+    /// ```
+    pub fn get<Q: Key + ?Sized>(&self, key: &Q) -> Option<&V>
+    where
+        K: Borrow<Q>,
+    {
+        Some(self.view().get(key)?.1)
+    }
+
+    /// As [`ArtMap::get_key_value`].
+    ///
+    /// ```
+    /// assert_eq!(artmap::ArtMap::from([(1, 'a')]).freeze().get_key_value(&1), Some((&1, &'a')));
+    /// ```
+    pub fn get_key_value<Q: Key + ?Sized>(&self, key: &Q) -> Option<(&K, &V)>
+    where
+        K: Borrow<Q>,
+    {
+        self.view().get(key)
+    }
+
+    /// As [`ArtMap::contains_key`].
+    ///
+    /// ```
+    /// assert!(artmap::ArtMap::from([(1, 'a')]).freeze().contains_key(&1));
+    /// ```
+    pub fn contains_key<Q: Key + ?Sized>(&self, key: &Q) -> bool
+    where
+        K: Borrow<Q>,
+    {
+        self.view().get(key).is_some()
+    }
+
+    /// As [`ArtMap::prefix_get`].
+    ///
+    /// ```
+    /// let routes = artmap::ArtMap::from([([10u8, 1], "office")]).freeze();
+    /// assert_eq!(routes.prefix_get(&[10u8, 1, 0, 9]), Some(&"office"));
+    /// ```
+    pub fn prefix_get<P: KeyPrefix<K> + ?Sized>(&self, query: &P) -> Option<&V> {
+        Some(self.view().prefix_get(query)?.1)
+    }
+
+    /// As [`ArtMap::prefix_get_key_value`].
+    ///
+    /// ```
+    /// let routes = artmap::ArtMap::from([([10u8, 1], "office")]).freeze();
+    /// assert_eq!(routes.prefix_get_key_value(&[10u8, 1, 7]), Some((&[10, 1], &"office")));
+    /// ```
+    pub fn prefix_get_key_value<P: KeyPrefix<K> + ?Sized>(&self, query: &P) -> Option<(&K, &V)> {
+        self.view().prefix_get(query)
+    }
+
+    /// As [`ArtMap::first_key_value`].
+    ///
+    /// ```
+    /// assert_eq!(artmap::ArtMap::from([(1, 'a'), (2, 'b')]).freeze().first_key_value(), Some((&1, &'a')));
+    /// ```
+    pub fn first_key_value(&self) -> Option<(&K, &V)> {
+        self.view().end(Way::Up)
+    }
+
+    /// As [`ArtMap::last_key_value`].
+    ///
+    /// ```
+    /// assert_eq!(artmap::ArtMap::from([(1, 'a'), (2, 'b')]).freeze().last_key_value(), Some((&2, &'b')));
+    /// ```
+    pub fn last_key_value(&self) -> Option<(&K, &V)> {
+        self.view().end(Way::Down)
+    }
+
+    /// As [`ArtMap::iter`].
+    ///
+    /// ```
+    /// assert_eq!(artmap::ArtMap::from([(1, 'a')]).freeze().iter().next_back(), Some((&1, &'a')));
+    /// ```
+    pub fn iter(&self) -> Iter<'_, K, V> {
+        self.view().iter()
+    }
+
+    /// As [`ArtMap::iter_bytes`].
+    ///
+    /// ```
+    /// assert_eq!(artmap::ArtMap::from([(1u8, 'a')]).freeze().iter_bytes().next(), Some(([1], &'a')));
+    /// ```
+    pub fn iter_bytes(&self) -> IterBytes<'_, K, V> {
+        IterBytes(self.iter())
+    }
+
+    /// As [`ArtMap::keys`].
+    ///
+    /// ```
+    /// assert!(artmap::ArtMap::from([(1, 'a')]).freeze().keys().eq(&[1]));
+    /// ```
+    pub fn keys(&self) -> Keys<'_, K, V> {
+        Keys(self.iter())
+    }
+
+    /// As [`ArtMap::values`].
+    ///
+    /// ```
+    /// assert!(artmap::ArtMap::from([(1, 'a')]).freeze().values().eq(&['a']));
+    /// ```
+    pub fn values(&self) -> Values<'_, K, V> {
+        Values(self.iter())
+    }
+
+    /// As [`ArtMap::range`].
+    ///
+    /// ```
+    /// assert_eq!(artmap::ArtMap::from([(1, 'a'), (2, 'b')]).freeze().range(2..).count(), 1);
+    /// ```
+    ///
+    /// # Panics
+    ///
+    /// As [`ArtMap::range`].
+    pub fn range<Q, R>(&self, range: R) -> Range<'_, K, V>
+    where
+        Q: Key + ?Sized,
+        K: Borrow<Q>,
+        R: RangeBounds<Q>,
+    {
+        self.view().range(&range)
+    }
+
+    /// As [`ArtMap::prefix`].
+    ///
+    /// ```
+    /// assert_eq!(artmap::ArtMap::from([("car", 1), ("dog", 2)]).freeze().prefix("ca").count(), 1);
+    /// ```
+    pub fn prefix<P: KeyPrefix<K> + ?Sized>(&self, prefix: &P) -> Prefix<'_, K, V> {
+        self.view().prefix(prefix)
+    }
+}
+
+impl<K, V> Clone for FrozenMap<K, V> {
+    fn clone(&self) -> Self {
+        or_end(self.try_clone())
+    }
+}
+
+impl<K, V> From<ArtMap<K, V>> for FrozenMap<K, V> {
+    fn from(map: ArtMap<K, V>) -> Self {
+        map.freeze()
+    }
+}
+
+impl<K: Key + fmt::Debug, V: fmt::Debug> fmt::Debug for FrozenMap<K, V> {
+    fn fmt(&self, to: &mut fmt::Formatter<'_>) -> fmt::Result {
+        to.debug_map().entries(self).finish()
+    }
+}
+
+impl<K: Key + PartialEq, V: PartialEq> PartialEq for FrozenMap<K, V> {
+    fn eq(&self, other: &Self) -> bool {
+        self.len() == other.len() && self.iter().eq(other)
+    }
+}
+
+impl<K: Key + Eq, V: Eq> Eq for FrozenMap<K, V> {}
+
+/// Panics where the key is not there.
+impl<K: Key + Borrow<Q>, Q: Key + ?Sized, V> Index<&Q> for FrozenMap<K, V> {
+    type Output = V;
+
+    fn index(&self, key: &Q) -> &V {
+        self.get(key).expect("no entry found for key")
+    }
+}
+
+impl<'a, K: Key, V> IntoIterator for &'a FrozenMap<K, V> {
+    type Item = (&'a K, &'a V);
+    type IntoIter = Iter<'a, K, V>;
+
+    fn into_iter(self) -> Iter<'a, K, V> {
+        self.iter()
+    }
+}

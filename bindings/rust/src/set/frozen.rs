@@ -1,0 +1,209 @@
+//! Sets that nobody changes, for readers in many threads.
+use super::ArtSet;
+use super::iter::{Iter, Prefix, Range};
+use crate::error::AllocError;
+use crate::frozen::FrozenMap;
+use crate::{Key, KeyPrefix};
+use std::borrow::Borrow;
+use std::fmt;
+use std::ops::RangeBounds;
+
+/// A set that nobody changes. A clone is another handle on the same keys, for another thread.
+///
+/// ```
+/// use artmap::ArtSet;
+/// use std::thread;
+///
+/// let frozen = ArtSet::from(["a", "b"]).freeze();
+/// let mine = frozen.clone();
+/// assert!(thread::spawn(move || mine.contains("a")).join().unwrap());
+/// assert!(frozen.thaw().unwrap().insert("c"));
+/// ```
+pub struct FrozenSet<K>(FrozenMap<K, ()>);
+
+impl<K> ArtSet<K> {
+    /// Makes it a set that nobody changes, for readers in many threads.
+    ///
+    /// ```
+    /// assert!(artmap::ArtSet::from([1]).freeze().contains(&1));
+    /// ```
+    #[must_use]
+    pub fn freeze(self) -> FrozenSet<K> {
+        FrozenSet(self.map.freeze())
+    }
+}
+
+impl<K> FrozenSet<K> {
+    /// The set, which may be changed again.
+    ///
+    /// ```
+    /// assert!(artmap::ArtSet::from([1]).freeze().thaw().is_ok());
+    /// ```
+    ///
+    /// # Errors
+    ///
+    /// Where there is another handle. This one is handed back.
+    pub fn thaw(self) -> Result<ArtSet<K>, Self> {
+        match self.0.thaw() {
+            Ok(map) => Ok(ArtSet { map }),
+            Err(map) => Err(FrozenSet(map)),
+        }
+    }
+
+    /// Another handle on the same keys.
+    ///
+    /// ```
+    /// assert_eq!(artmap::ArtSet::from([1]).freeze().try_clone().unwrap().len(), 1);
+    /// ```
+    ///
+    /// # Errors
+    ///
+    /// Where memory lacks.
+    pub fn try_clone(&self) -> Result<Self, AllocError> {
+        self.0.try_clone().map(FrozenSet)
+    }
+
+    /// How many keys there are.
+    ///
+    /// ```
+    /// assert_eq!(artmap::ArtSet::from([1]).freeze().len(), 1);
+    /// ```
+    #[must_use]
+    pub fn len(&self) -> usize {
+        self.0.len()
+    }
+
+    /// Whether there is no key.
+    ///
+    /// ```
+    /// assert!(!artmap::ArtSet::from([1]).freeze().is_empty());
+    /// ```
+    #[must_use]
+    pub fn is_empty(&self) -> bool {
+        self.0.is_empty()
+    }
+}
+
+impl<K: Key> FrozenSet<K> {
+    /// As [`ArtSet::contains`].
+    ///
+    /// ```
+    /// assert!(!artmap::ArtSet::from([1]).freeze().contains(&2));
+    /// ```
+    pub fn contains<Q: Key + ?Sized>(&self, key: &Q) -> bool
+    where
+        K: Borrow<Q>,
+    {
+        self.0.contains_key(key)
+    }
+
+    /// As [`ArtSet::get`].
+    ///
+    /// ```
+    /// assert_eq!(artmap::ArtSet::from([1]).freeze().get(&1), Some(&1));
+    /// ```
+    pub fn get<Q: Key + ?Sized>(&self, key: &Q) -> Option<&K>
+    where
+        K: Borrow<Q>,
+    {
+        Some(self.0.get_key_value(key)?.0)
+    }
+
+    /// As [`ArtSet::prefix_get`].
+    ///
+    /// ```
+    /// assert_eq!(artmap::ArtSet::from([[10u8, 1]]).freeze().prefix_get(&[10u8, 1, 7]), Some(&[10, 1]));
+    /// ```
+    pub fn prefix_get<P: KeyPrefix<K> + ?Sized>(&self, query: &P) -> Option<&K> {
+        Some(self.0.prefix_get_key_value(query)?.0)
+    }
+
+    /// As [`ArtSet::first`].
+    ///
+    /// ```
+    /// assert_eq!(artmap::ArtSet::from([2, 1]).freeze().first(), Some(&1));
+    /// ```
+    pub fn first(&self) -> Option<&K> {
+        Some(self.0.first_key_value()?.0)
+    }
+
+    /// As [`ArtSet::last`].
+    ///
+    /// ```
+    /// assert_eq!(artmap::ArtSet::from([2, 1]).freeze().last(), Some(&2));
+    /// ```
+    pub fn last(&self) -> Option<&K> {
+        Some(self.0.last_key_value()?.0)
+    }
+
+    /// As [`ArtSet::iter`].
+    ///
+    /// ```
+    /// assert!(artmap::ArtSet::from([2, 1]).freeze().iter().eq(&[1, 2]));
+    /// ```
+    pub fn iter(&self) -> Iter<'_, K> {
+        Iter(self.0.keys())
+    }
+
+    /// As [`ArtSet::range`].
+    ///
+    /// ```
+    /// assert!(artmap::ArtSet::from([2, 1]).freeze().range(2..).eq(&[2]));
+    /// ```
+    ///
+    /// # Panics
+    ///
+    /// As [`ArtMap::range`](crate::ArtMap::range).
+    pub fn range<Q, R>(&self, range: R) -> Range<'_, K>
+    where
+        Q: Key + ?Sized,
+        K: Borrow<Q>,
+        R: RangeBounds<Q>,
+    {
+        Range(self.0.range(range))
+    }
+
+    /// As [`ArtSet::prefix`].
+    ///
+    /// ```
+    /// assert!(artmap::ArtSet::from(["car", "dog"]).freeze().prefix("ca").eq(&["car"]));
+    /// ```
+    pub fn prefix<P: KeyPrefix<K> + ?Sized>(&self, prefix: &P) -> Prefix<'_, K> {
+        Prefix(self.0.prefix(prefix))
+    }
+}
+
+impl<K> Clone for FrozenSet<K> {
+    fn clone(&self) -> Self {
+        FrozenSet(self.0.clone())
+    }
+}
+
+impl<K> From<ArtSet<K>> for FrozenSet<K> {
+    fn from(set: ArtSet<K>) -> Self {
+        set.freeze()
+    }
+}
+
+impl<K: Key + fmt::Debug> fmt::Debug for FrozenSet<K> {
+    fn fmt(&self, to: &mut fmt::Formatter<'_>) -> fmt::Result {
+        to.debug_set().entries(self).finish()
+    }
+}
+
+impl<K: Key + PartialEq> PartialEq for FrozenSet<K> {
+    fn eq(&self, other: &Self) -> bool {
+        self.0 == other.0
+    }
+}
+
+impl<K: Key + Eq> Eq for FrozenSet<K> {}
+
+impl<'a, K: Key> IntoIterator for &'a FrozenSet<K> {
+    type Item = &'a K;
+    type IntoIter = Iter<'a, K>;
+
+    fn into_iter(self) -> Iter<'a, K> {
+        self.iter()
+    }
+}

@@ -1,0 +1,257 @@
+//! Where the pairs lie: in slots, whose indexes are the words of the proved map.
+use crate::error::AllocError;
+
+/// No slot is free.
+const NONE: usize = usize::MAX;
+
+/// A pair, or the index of the next free slot.
+pub(crate) enum Slot<K, V> {
+    Full(K, V),
+    Free(usize),
+}
+
+/// Slots, of which the free ones are a list.
+pub(crate) struct Slab<K, V> {
+    slots: Vec<Slot<K, V>>,
+    free: usize,
+    len: usize,
+    /// Whether no slot is free, and the keys of the slots ascend.
+    is_in_order: bool,
+}
+
+/// A word that no slot of a pair has.
+#[cold]
+fn no_pair(index: usize) -> ! {
+    unreachable!("libartmap.a is not that of this crate: it told the word {index}, which is no pair's")
+}
+
+impl<K, V> Slab<K, V> {
+    pub(crate) const fn new() -> Self {
+        Slab { slots: Vec::new(), free: NONE, len: 0, is_in_order: true }
+    }
+
+    /// How many pairs there are.
+    pub(crate) fn len(&self) -> usize {
+        self.len
+    }
+
+    /// The index that the next pair gets, for which there is room from then on.
+    pub(crate) fn next_index(&mut self) -> Result<usize, AllocError> {
+        if self.free != NONE {
+            return Ok(self.free);
+        }
+        if self.slots.len() == self.slots.capacity() {
+            self.slots.try_reserve(1)?;
+        }
+        Ok(self.slots.len())
+    }
+
+    /// Makes room for so many pairs, and no others, where there is none yet.
+    pub(crate) fn reserve_exact(&mut self, pairs: usize) -> Result<(), AllocError> {
+        self.slots.try_reserve_exact(pairs)?;
+        Ok(())
+    }
+
+    /// Makes room for so many more pairs.
+    pub(crate) fn reserve(&mut self, additional: usize) -> Result<(), AllocError> {
+        let free = self.slots.len() - self.len;
+        self.slots.try_reserve(additional.saturating_sub(free))?;
+        Ok(())
+    }
+
+    /// Puts a pair in, and tells its index.
+    pub(crate) fn fill(&mut self, key: K, value: V) -> usize {
+        self.is_in_order &= self.len == 0;
+        self.fill_behind(key, value)
+    }
+
+    /// Puts a pair in whose key is greater than all others, and tells its index.
+    pub(crate) fn fill_behind(&mut self, key: K, value: V) -> usize {
+        let index = self.free;
+        self.is_in_order &= index == NONE;
+        self.len += 1;
+        if index == NONE {
+            self.slots.push(Slot::Full(key, value));
+            return self.slots.len() - 1;
+        }
+        let slot = &mut self.slots[index];
+        match slot {
+            Slot::Free(next) => self.free = *next,
+            Slot::Full(..) => no_pair(index),
+        }
+        *slot = Slot::Full(key, value);
+        index
+    }
+
+    /// Takes a pair out.
+    pub(crate) fn take(&mut self, index: usize) -> (K, V) {
+        let Some(slot) = self.slots.get_mut(index) else { no_pair(index) };
+        match std::mem::replace(slot, Slot::Free(self.free)) {
+            Slot::Full(key, value) => {
+                self.is_in_order = false;
+                self.free = index;
+                self.len -= 1;
+                (key, value)
+            }
+            old @ Slot::Free(_) => {
+                *slot = old;
+                no_pair(index)
+            }
+        }
+    }
+
+    /// Puts a pair behind all slots. Its key need not be the greatest.
+    pub(crate) fn push(&mut self, key: K, value: V) {
+        self.is_in_order = false;
+        self.len += 1;
+        self.slots.push(Slot::Full(key, value));
+    }
+
+    /// The pair of a slot moves to the index that the next pair gets, and has another value there. Tells that index, and
+    /// the value that it had.
+    pub(crate) fn renew(&mut self, index: usize, value: V) -> (usize, V) {
+        let Some(slot) = self.slots.get_mut(index) else { no_pair(index) };
+        match std::mem::replace(slot, Slot::Free(NONE)) {
+            Slot::Full(key, old) => {
+                self.is_in_order = false;
+                let at = self.fill(key, value);
+                self.slots[index] = Slot::Free(self.free);
+                self.free = index;
+                self.len -= 1;
+                (at, old)
+            }
+            was @ Slot::Free(_) => {
+                *slot = was;
+                no_pair(index)
+            }
+        }
+    }
+
+    /// The index that `push` gives the next pair.
+    pub(crate) fn end(&self) -> usize {
+        self.slots.len()
+    }
+
+    /// Makes room for so many more pairs behind all slots.
+    pub(crate) fn reserve_behind(&mut self, additional: usize) -> Result<(), AllocError> {
+        self.slots.try_reserve(additional)?;
+        Ok(())
+    }
+
+    /// Forgets the free slots, where there is no pair: the next ones stand in a row again.
+    pub(crate) fn settle(&mut self) {
+        if self.len == 0 {
+            self.slots.clear();
+            self.free = NONE;
+            self.is_in_order = true;
+        }
+    }
+
+    #[inline]
+    pub(crate) fn pair(&self, index: usize) -> (&K, &V) {
+        match self.slots.get(index) {
+            Some(Slot::Full(key, value)) => (key, value),
+            _ => no_pair(index),
+        }
+    }
+
+    #[inline]
+    pub(crate) fn pair_mut(&mut self, index: usize) -> (&K, &mut V) {
+        match self.slots.get_mut(index) {
+            Some(Slot::Full(key, value)) => (key, value),
+            _ => no_pair(index),
+        }
+    }
+
+    /// All slots, where their keys ascend and none is free.
+    pub(crate) fn in_order(&self) -> Option<&[Slot<K, V>]> {
+        self.is_in_order.then_some(&self.slots)
+    }
+
+    pub(crate) fn slots_mut(&mut self) -> &mut [Slot<K, V>] {
+        &mut self.slots
+    }
+
+    /// Gives back the slots behind the last pair, and the room behind those.
+    pub(crate) fn shrink(&mut self) {
+        while let Some(Slot::Free(_)) = self.slots.last() {
+            self.slots.pop();
+        }
+        self.free = NONE;
+        for (index, slot) in self.slots.iter_mut().enumerate().rev() {
+            if let Slot::Free(next) = slot {
+                *next = self.free;
+                self.free = index;
+            }
+        }
+        self.slots.shrink_to_fit();
+    }
+
+    /// A copy in which each pair has the index that it has here. The slots are reserved first.
+    pub(crate) fn try_clone(&self) -> Result<Self, AllocError>
+    where
+        K: Clone,
+        V: Clone,
+    {
+        let mut slots = Vec::new();
+        slots.try_reserve_exact(self.slots.len())?;
+        slots.extend(self.slots.iter().map(|slot| match slot {
+            Slot::Full(key, value) => Slot::Full(key.clone(), value.clone()),
+            Slot::Free(next) => Slot::Free(*next),
+        }));
+        Ok(Slab { slots, free: self.free, len: self.len, is_in_order: self.is_in_order })
+    }
+}
+
+impl<K, V> Slot<K, V> {
+    /// The pair of a slot, if it has one.
+    #[inline]
+    pub(crate) fn pair(&self) -> Option<(&K, &V)> {
+        match self {
+            Slot::Full(key, value) => Some((key, value)),
+            Slot::Free(_) => None,
+        }
+    }
+
+    /// The pair of a slot that has one.
+    pub(crate) fn lend(&mut self, index: usize) -> (&K, &mut V) {
+        match self {
+            Slot::Full(key, value) => (key, value),
+            Slot::Free(_) => no_pair(index),
+        }
+    }
+}
+
+#[cfg(test)]
+mod tests {
+    use super::*;
+
+    #[test]
+    fn slots_are_used_again() {
+        let mut slab = Slab::new();
+        for at in 0..5 {
+            assert_eq!(slab.next_index(), Ok(at));
+            assert_eq!(slab.fill(at, at.to_string()), at);
+        }
+        assert_eq!(slab.take(1), (1, "1".to_string()));
+        assert_eq!(slab.take(3), (3, "3".to_string()));
+        assert_eq!((slab.len(), slab.next_index()), (3, Ok(3)));
+        assert_eq!(slab.fill(7, "7".to_string()), 3);
+        *slab.pair_mut(3).1 = "8".to_string();
+        assert_eq!(slab.pair(3), (&7, &"8".to_string()));
+        // (a pair that moves leaves its slot to the next one)
+        assert_eq!(slab.renew(3, "9".to_string()), (1, "8".to_string()));
+        assert_eq!((slab.next_index(), slab.len(), slab.renew(1, "9".to_string()).0), (Ok(3), 4, 3));
+        assert!(slab.in_order().is_none() && Slab::<u8, u8>::new().in_order().is_some());
+        let copy = slab.try_clone().unwrap();
+        assert_eq!((copy.len(), copy.pair(4)), (4, (&4, &"4".to_string())));
+        slab.take(4);
+        slab.shrink();
+        assert_eq!((slab.next_index(), slab.slots_mut().len()), (Ok(1), 4));
+        for at in [0, 2, 3] {
+            slab.take(at);
+        }
+        slab.settle();
+        assert_eq!((slab.len(), slab.next_index()), (0, Ok(0)));
+    }
+}

@@ -1,0 +1,111 @@
+//! What maps read, those that may change and frozen ones.
+use crate::error::{AllocError, or_end};
+use crate::ffi::Words;
+use crate::iter::{Iter, Prefix, Range};
+use crate::room::Room;
+use crate::slab::Slab;
+use crate::walk::{Between, Way};
+use crate::{Key, KeyPrefix};
+use std::borrow::Borrow;
+use std::ops::{Bound, RangeBounds};
+
+/// The words of a map, and where its pairs lie.
+pub(crate) struct View<'a, K, V> {
+    pub(crate) words: &'a Words,
+    pub(crate) slab: &'a Slab<K, V>,
+}
+
+impl<K, V> Clone for View<'_, K, V> {
+    fn clone(&self) -> Self {
+        *self
+    }
+}
+
+impl<K, V> Copy for View<'_, K, V> {}
+
+/// The index that a word tells. (One that is none is found by no slab.)
+pub(crate) fn index_of(word: u64) -> usize {
+    usize::try_from(word).unwrap_or(usize::MAX)
+}
+
+/// The word of a key.
+#[inline]
+pub(crate) fn word_of_key<Q: Key + ?Sized>(words: &Words, key: &Q) -> Result<Option<u64>, AllocError> {
+    match key.without_end() {
+        None => key.with_bytes(|bytes| words.get(bytes)),
+        Some(front) => Ok(words.get_ended(front)),
+    }
+}
+
+/// The bytes of a bound.
+fn bound<Q: Key + ?Sized>(of: Bound<&Q>) -> Result<Bound<Room>, AllocError> {
+    let room = |key: &Q| Room::of(key.to_bytes()?.as_ref());
+    Ok(match of {
+        Bound::Unbounded => Bound::Unbounded,
+        Bound::Included(key) => Bound::Included(room(key)?),
+        Bound::Excluded(key) => Bound::Excluded(room(key)?),
+    })
+}
+
+/// The bytes between two bounds.
+///
+/// # Panics
+///
+/// As `range` of a `BTreeMap`.
+pub(crate) fn between<Q: Key + ?Sized, R: RangeBounds<Q>>(range: &R) -> Result<Between, AllocError> {
+    let (from, to) = (bound(range.start_bound())?, bound(range.end_bound())?);
+    match (&from, &to) {
+        (Bound::Excluded(from), Bound::Excluded(to)) if from.bytes() == to.bytes() => {
+            panic!("range start and end are equal and excluded in ArtMap")
+        }
+        (Bound::Included(from) | Bound::Excluded(from), Bound::Included(to) | Bound::Excluded(to))
+            if from.bytes() > to.bytes() =>
+        {
+            panic!("range start is greater than range end in ArtMap")
+        }
+        _ => Ok(Between(from, to)),
+    }
+}
+
+/// The bytes of a prefix.
+pub(crate) fn prefix_room<K, P: KeyPrefix<K> + ?Sized>(prefix: &P) -> Result<Room, AllocError> {
+    Room::of(prefix.to_prefix()?.as_ref())
+}
+
+impl<'a, K: Key, V> View<'a, K, V> {
+    fn pair(self, word: Option<u64>) -> Option<(&'a K, &'a V)> {
+        word.map(|word| self.slab.pair(index_of(word)))
+    }
+
+    #[inline]
+    pub(crate) fn get<Q: Key + ?Sized>(self, key: &Q) -> Option<(&'a K, &'a V)>
+    where
+        K: Borrow<Q>,
+    {
+        self.pair(or_end(word_of_key(self.words, key)))
+    }
+
+    pub(crate) fn prefix_get<P: KeyPrefix<K> + ?Sized>(self, query: &P) -> Option<(&'a K, &'a V)> {
+        let bytes = or_end(query.to_prefix());
+        self.pair(self.words.find(bytes.as_ref()))
+    }
+
+    pub(crate) fn end(self, way: Way) -> Option<(&'a K, &'a V)> {
+        self.pair(self.words.end(way))
+    }
+
+    pub(crate) fn iter(self) -> Iter<'a, K, V> {
+        Iter::new(self)
+    }
+
+    pub(crate) fn range<Q: Key + ?Sized, R: RangeBounds<Q>>(self, range: &R) -> Range<'a, K, V>
+    where
+        K: Borrow<Q>,
+    {
+        Range::new(self, or_end(between(range)))
+    }
+
+    pub(crate) fn prefix<P: KeyPrefix<K> + ?Sized>(self, prefix: &P) -> Prefix<'a, K, V> {
+        Prefix::new(self, or_end(prefix_room(prefix)))
+    }
+}

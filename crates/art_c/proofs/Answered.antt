@@ -1,0 +1,100 @@
+-- What is answered where nothing is done: on a handle that has no map of the kind, and on one whose map is frozen.
+use Rattle.std.proofs.Common.{◌≡◌, ℕ, List, Option, Some, None, refl, sym, ap, subst, ◌∙◌}
+use Rattle.art_c.specs.Answers.{Changes, OnMade, OnlyReads}
+use Rattle.art_c.specs.Codes.{code_number}
+use Rattle.art_c.specs.Handles.{MapState, shut, Pairs, state_pairs, state_of, byte_map_in, word_map_in}
+use Rattle.art_c.specs.declared.code.Code.{Code}
+use Rattle.art_c.specs.declared.code.Code.TheVariants.{Frozen, NoMap}
+use Rattle.art_c.specs.declared.handle.kept.Kept.{Kept}
+use Rattle.art_c.specs.declared.handle.kept.Kept.TheVariants as kept
+use Rattle.art_c.specs.declared.handle.store.Store.{Store}
+use Rattle.art_c.specs.declared.handle.store.Store.TheVariants.{Words, Bytes}
+
+module _ {V X : Type 0} (view : Option Store → Option (MapState V)) (o new : Option Store) (x : X) (n : ℕ) where
+  -- no map of this kind is there
+  none : (Fits : MapState V → X → Code → MapState V → X → Type 0) → n ≡ code_number NoMap → view o ≡ None → new ≡ o
+      → (code : Code) × (n ≡ code_number code) × OnMade Fits (view o) x code (view new) x
+  none Fits e f same =
+      (NoMap, e, subst (λ z. OnMade Fits z x NoMap (view new) x) (sym f) (refl, ap view same ∙ f, refl))
+
+  -- it is frozen
+  is_shut : (Fits : Pairs V → X → Code → Pairs V → X → Type 0) (pairs : Pairs V) → n ≡ code_number Frozen
+      → view o ≡ Some (shut pairs) → new ≡ o
+      → (code : Code) × (n ≡ code_number code) × OnMade (Changes Fits) (view o) x code (view new) x
+  is_shut Fits pairs e f same = (
+    Frozen,
+    e,
+    subst (λ z. OnMade (Changes Fits) z x Frozen (view new) x) (sym f)
+        (shut pairs, ap view same ∙ f, (refl, refl, refl)),
+  )
+
+-- what is answered where the map is read
+module _ {V X : Type 0} (view : Option Store → Option (MapState V)) (o new : Option Store) (x y : X) (n : ℕ) where
+  read : (Fits : Pairs V → X → Code → X → Type 0) (s : MapState V) (code : Code) → n ≡ code_number code → view o ≡ Some s
+      → new ≡ o → Fits (state_pairs s) x code y
+      → (code : Code) × (n ≡ code_number code) × OnMade (OnlyReads Fits) (view o) x code (view new) y
+  read Fits s code e f same fit =
+      (code, e, subst (λ z. OnMade (OnlyReads Fits) z x code (view new) y) (sym f) (s, ap view same ∙ f, (refl, fit)))
+
+module _ {X : Type 0} (o new : Option Store) (x y : X) (n : ℕ) (code : Code) (e : n ≡ code_number code) (s t : Store) where
+  pub words_read : (Fits : Pairs ℕ → X → Code → X → Type 0) (it : Kept ℕ) (pairs : Pairs ℕ) → o ≡ Some t → new ≡ Some t
+      → s ≡ Words it → s ≡ t → pairs ≡ state_pairs (state_of it) → Fits pairs x code y
+      → (code : Code) × (n ≡ code_number code) × OnMade (OnlyReads Fits) (word_map_in o) x code (word_map_in new) y
+  words_read Fits it pairs f g is same known fit =
+      read word_map_in o new x y n Fits (state_of it) code e (ap word_map_in (f ∙ ap Some (sym same ∙ is))) (g ∙ sym f)
+      (subst (λ ps. Fits ps x code y) known fit)
+
+  pub bytes_read : (Fits : Pairs (List ℕ) → X → Code → X → Type 0) (it : Kept (List ℕ)) (pairs : Pairs (List ℕ))
+      → o ≡ Some t → new ≡ Some t → s ≡ Bytes it → s ≡ t → pairs ≡ state_pairs (state_of it) → Fits pairs x code y
+      → (code : Code) × (n ≡ code_number code) × OnMade (OnlyReads Fits) (byte_map_in o) x code (byte_map_in new) y
+  bytes_read Fits it pairs f g is same known fit =
+      read byte_map_in o new x y n Fits (state_of it) code e (ap byte_map_in (f ∙ ap Some (sym same ∙ is))) (g ∙ sym f)
+      (subst (λ ps. Fits ps x code y) known fit)
+
+module _ {X : Type 0} (o new : Option Store) (x : X) (n : ℕ) where
+  -- a call of words
+  module _ (Fits : MapState ℕ → X → Code → MapState ℕ → X → Type 0) (e : n ≡ code_number NoMap) where
+    pub no_words : o ≡ None → new ≡ None
+        → (code : Code) × (n ≡ code_number code) × OnMade Fits (word_map_in o) x code (word_map_in new) x
+    no_words f g = none word_map_in o new x n Fits e (ap word_map_in f) (g ∙ sym f)
+
+    pub bytes_there : (s t : Store) (it : Kept (List ℕ)) → o ≡ Some t → new ≡ Some t → s ≡ Bytes it → s ≡ t
+        → (code : Code) × (n ≡ code_number code) × OnMade Fits (word_map_in o) x code (word_map_in new) x
+    bytes_there s t it f g is same =
+        none word_map_in o new x n Fits e (ap word_map_in (f ∙ ap Some (sym same ∙ is))) (g ∙ sym f)
+
+    pub bytes_back : (s t : Store) (it : Kept (List ℕ)) → o ≡ Some t → new ≡ Some s → s ≡ Bytes it → s ≡ t
+        → (code : Code) × (n ≡ code_number code) × OnMade Fits (word_map_in o) x code (word_map_in new) x
+    bytes_back s t it f g is same =
+        none word_map_in o new x n Fits e (ap word_map_in (f ∙ ap Some (sym same ∙ is))) (g ∙ ap Some same ∙ sym f)
+
+  pub words_shut : (Fits : Pairs ℕ → X → Code → Pairs ℕ → X → Type 0) (s t : Store) (it : Kept ℕ) (shared : _)
+      → n ≡ code_number Frozen → it ≡ kept.Frozen shared → o ≡ Some t → new ≡ Some (Words it) → s ≡ Words it → s ≡ t
+      → (code : Code) × (n ≡ code_number code) × OnMade (Changes Fits) (word_map_in o) x code (word_map_in new) x
+  words_shut Fits s t it shared e known f g is same =
+      is_shut word_map_in o new x n Fits shared.value.map.pairs e (ap word_map_in (f ∙ ap Some (sym same ∙ is ∙ ap Words known)))
+      (g ∙ ap Some (sym is ∙ same) ∙ sym f)
+
+  -- and one of bytes
+  module _ (Fits : MapState (List ℕ) → X → Code → MapState (List ℕ) → X → Type 0) (e : n ≡ code_number NoMap) where
+    pub no_bytes : o ≡ None → new ≡ None
+        → (code : Code) × (n ≡ code_number code) × OnMade Fits (byte_map_in o) x code (byte_map_in new) x
+    no_bytes f g = none byte_map_in o new x n Fits e (ap byte_map_in f) (g ∙ sym f)
+
+    pub words_there : (s t : Store) (it : Kept ℕ) → o ≡ Some t → new ≡ Some t → s ≡ Words it → s ≡ t
+        → (code : Code) × (n ≡ code_number code) × OnMade Fits (byte_map_in o) x code (byte_map_in new) x
+    words_there s t it f g is same =
+        none byte_map_in o new x n Fits e (ap byte_map_in (f ∙ ap Some (sym same ∙ is))) (g ∙ sym f)
+
+    pub words_back : (s t : Store) (it : Kept ℕ) → o ≡ Some t → new ≡ Some s → s ≡ Words it → s ≡ t
+        → (code : Code) × (n ≡ code_number code) × OnMade Fits (byte_map_in o) x code (byte_map_in new) x
+    words_back s t it f g is same =
+        none byte_map_in o new x n Fits e (ap byte_map_in (f ∙ ap Some (sym same ∙ is))) (g ∙ ap Some same ∙ sym f)
+
+  pub bytes_shut : (Fits : Pairs (List ℕ) → X → Code → Pairs (List ℕ) → X → Type 0) (s t : Store) (it : Kept (List ℕ))
+      (shared : _) → n ≡ code_number Frozen → it ≡ kept.Frozen shared → o ≡ Some t → new ≡ Some (Bytes it)
+      → s ≡ Bytes it → s ≡ t
+      → (code : Code) × (n ≡ code_number code) × OnMade (Changes Fits) (byte_map_in o) x code (byte_map_in new) x
+  bytes_shut Fits s t it shared e known f g is same =
+      is_shut byte_map_in o new x n Fits shared.value.map.pairs e (ap byte_map_in (f ∙ ap Some (sym same ∙ is ∙ ap Bytes known)))
+      (g ∙ ap Some (sym is ∙ same) ∙ sym f)

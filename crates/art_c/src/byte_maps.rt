@@ -1,0 +1,6 @@
+//! The exports of maps of bytes. What each says to a caller in C stands in `bindings/c/artmap.h`.
+
+pub(crate) mod ends;
+pub(crate) mod many;
+pub(crate) mod points;
+pub(crate) mod wholes;

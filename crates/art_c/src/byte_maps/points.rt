@@ -1,0 +1,69 @@
+//! The exports of maps of bytes: single pairs by their keys.
+#![tactic(auto, using(crate::proofs::Answered::no_bytes))]
+
+ghost use Rattle.std.specs.Prelude.{◌≡◌};
+ghost use Rattle.art_c.specs.Answers.{Answers, Changes, OnlyReads};
+ghost use Rattle.art_c.specs.Calls.{is_stored, IsBytesPut, IsRemoved, IsValueRead};
+ghost use Rattle.art_c.specs.Handles.{bytes_behind, pairs_or_none, store_behind};
+
+use crate::calls::changes;
+use crate::code::Code;
+use crate::copies::give_value;
+use crate::handle::{Handle, Kept, Store, changing, reading};
+use art_bytes::SliceKey;
+use std::alloc::Global;
+
+/// Puts a pair in.
+#[unsafe(no_mangle)]
+pub extern "C" fn bytes_put(alloc: Global, handle: &mut Handle, key: &[u8], value: &[u8]) -> u32
+    ensures { Answers (Changes (IsBytesPut key.now value.now)) (bytes_behind handle.old) tt
+        result (bytes_behind handle.new) tt }
+{
+    changing!(alloc, handle, Bytes not Words, |map| changes::put_bytes(map, alloc, key, value))
+}
+
+/// Copies out the value of a key.
+#[unsafe(no_mangle)]
+pub extern "C" fn bytes_get(
+    alloc: Global,
+    handle: &mut Handle,
+    key: &[u8],
+    room: &mut [u8],
+    value_len: &mut usize,
+) -> u32
+    ensures { Answers (OnlyReads (IsValueRead key.now)) (bytes_behind handle.old) (room.old, value_len.old)
+        result (bytes_behind handle.new) (room.new, value_len.new) }
+{
+    reading!(alloc, handle, Bytes not Words, |map| give_value(map.get(&SliceKey(key)), room, value_len))
+}
+
+/// Whether a pair has the key.
+#[unsafe(no_mangle)]
+pub extern "C" fn bytes_contains(alloc: Global, handle: &mut Handle, key: &[u8]) -> bool
+    ensures is { result ≡ is_stored key.now (pairs_or_none (bytes_behind handle.old)) }
+    ensures kept { store_behind handle.new ≡ store_behind handle.old }
+{
+    match handle.take(alloc) {
+        Some(store) => match &*store {
+            Store::Bytes(kept) => {
+                let is = kept.map().get(&SliceKey(key)).is_some();
+                *handle = Handle::of(store);
+                is
+            }
+            Store::Words(_) => {
+                *handle = Handle::of(store);
+                false
+            }
+        },
+        None => false,
+    }
+}
+
+/// Takes out the pair with a key.
+#[unsafe(no_mangle)]
+pub extern "C" fn bytes_remove(alloc: Global, handle: &mut Handle, key: &[u8]) -> u32
+    ensures { Answers (Changes (IsRemoved key.now)) (bytes_behind handle.old) tt
+        result (bytes_behind handle.new) tt }
+{
+    changing!(alloc, handle, Bytes not Words, |map| changes::remove_bytes(map, key))
+}

@@ -1,0 +1,190 @@
+//! What is done with a map as a whole.
+#![tactic(auto, using(crate::proofs::Given::given_words, crate::proofs::Given::given_bytes))]
+
+ghost use Rattle.std.specs.Prelude.{◌≡◌, ◌⊎◌, [], MatchResult, true};
+ghost use Rattle.art_c.specs.Codes.{code_number};
+ghost use Rattle.art_c.specs.Handles.{bytes_behind, is_shut, own, state_of, store_behind, words_behind};
+ghost use Rattle.art_c.specs.Wholes.{IsCleared, GetsCopy, IsFrozen, IsGiven, IsGivenStore, IsReserved, IsShared};
+ghost use Rattle.art_c.specs.Wholes.{IsSharedOf, IsShrunk, IsSplitOff, IsThawed};
+
+use crate::bytes::Bytes;
+use crate::code::Code;
+use crate::handle::{Handle, Kept, Map, Owned, Store};
+use art_bytes::SliceKey;
+use art_map::TreeMap;
+use std::alloc::Global;
+use std::mem;
+use std::sync::Arc;
+
+/// Gives a handle this map, in the place of the one that it has.
+pub(crate) fn give(alloc: Global, to: &mut Handle, store: Store) -> Code
+    ensures { IsGivenStore store (store_behind to.old) result (store_behind to.new) }
+{
+    match Box::new(alloc, store) {
+        Ok(store) => {
+            let _old = to.take(alloc);
+            *to = Handle::of(store);
+            Code::Done
+        }
+        Err(_) => Code::NoMemory,
+    }
+}
+
+/// An empty map.
+pub(crate) fn empty<V: Drop>(alloc: Global) -> Kept<V>
+    ensures { state_of result ≡ own [] }
+{
+    Kept::Own(Owned {
+        map: TreeMap::new(alloc),
+    })
+}
+
+pub(crate) fn clone_words(alloc: Global, map: &Map<u64>, to: &mut Handle) -> Code
+    ensures { GetsCopy map.now.pairs (words_behind to.old) result (words_behind to.new) }
+{
+    match map.clone() {
+        Ok(map) => give(alloc, to, Store::Words(Kept::Own(Owned { map }))),
+        Err(_) => Code::NoMemory,
+    }
+}
+
+pub(crate) fn clone_bytes(alloc: Global, map: &Map<Bytes>, to: &mut Handle) -> Code
+    ensures { GetsCopy map.now.pairs (bytes_behind to.old) result (bytes_behind to.new) }
+{
+    match map.clone() {
+        Ok(map) => give(alloc, to, Store::Bytes(Kept::Own(Owned { map }))),
+        Err(_) => Code::NoMemory,
+    }
+}
+
+/// Moves the pairs from a key on into a map of their own. The box that takes them is allocated first.
+pub(crate) fn split_words(alloc: Global, map: &mut Map<u64>, key: &[u8], to: &mut Handle) -> Code
+    ensures { IsSplitOff key.now map.old.pairs (words_behind to.old) result map.new.pairs (words_behind to.new) }
+{
+    let Ok(mut store) = Box::new(alloc, Store::Words(empty(alloc))) else {
+        return Code::NoMemory;
+    };
+    match map.split_off(&SliceKey(key)) {
+        Ok(map) => {
+            *store = Store::Words(Kept::Own(Owned { map }));
+            let _old = to.take(alloc);
+            *to = Handle::of(store);
+            Code::Done
+        }
+        Err(_) => Code::NoMemory,
+    }
+}
+
+pub(crate) fn split_bytes(alloc: Global, map: &mut Map<Bytes>, key: &[u8], to: &mut Handle) -> Code
+    ensures { IsSplitOff key.now map.old.pairs (bytes_behind to.old) result map.new.pairs (bytes_behind to.new) }
+{
+    let Ok(mut store) = Box::new(alloc, Store::Bytes(empty(alloc))) else {
+        return Code::NoMemory;
+    };
+    match map.split_off(&SliceKey(key)) {
+        Ok(map) => {
+            *store = Store::Bytes(Kept::Own(Owned { map }));
+            let _old = to.take(alloc);
+            *to = Handle::of(store);
+            Code::Done
+        }
+        Err(_) => Code::NoMemory,
+    }
+}
+
+pub(crate) fn reserve<V: Drop>(map: &mut Map<V>, additional: usize) -> Code
+    ensures { IsReserved map.old.pairs tt result map.new.pairs tt }
+{
+    match map.reserve(additional) {
+        Ok(()) => Code::Done,
+        Err(_) => Code::NoMemory,
+    }
+}
+
+pub(crate) fn shrink<V: Drop>(map: &mut Map<V>) -> Code
+    ensures { IsShrunk map.old.pairs tt result map.new.pairs tt }
+{
+    map.shrink_to_fit();
+    Code::Done
+}
+
+pub(crate) fn clear<V: Drop>(alloc: Global, map: &mut Map<V>) -> Code
+    ensures { IsCleared map.old.pairs tt result map.new.pairs tt }
+{
+    *map = TreeMap::new(alloc);
+    Code::Done
+}
+
+pub(crate) fn freeze<V: Drop>(alloc: Global, kept: &mut Kept<V>) -> Code
+    ensures { IsFrozen (state_of kept.old) tt result (state_of kept.new) tt }
+{
+    match mem::replace(kept, empty(alloc)) {
+        Kept::Own(owned) => match Arc::new(alloc, owned) {
+            Ok(shared) => {
+                *kept = Kept::Frozen(shared);
+                Code::Done
+            }
+            Err(refused) => {
+                *kept = Kept::Own(refused.value);
+                Code::NoMemory
+            }
+        },
+        frozen => {
+            *kept = frozen;
+            Code::Done
+        }
+    }
+}
+
+pub(crate) fn thaw<V: Drop>(alloc: Global, kept: &mut Kept<V>) -> Code
+    ensures { IsThawed (state_of kept.old) tt result (state_of kept.new) tt }
+{
+    match mem::replace(kept, empty(alloc)) {
+        Kept::Frozen(shared) => match Arc::try_unwrap(shared) {
+            Ok(owned) => {
+                *kept = Kept::Own(owned);
+                Code::Done
+            }
+            Err(shared) => {
+                *kept = Kept::Frozen(shared);
+                Code::Shared
+            }
+        },
+        own => {
+            *kept = own;
+            Code::Done
+        }
+    }
+}
+
+/// Another owner of a frozen map, if it is frozen.
+fn shared_of<V: Drop>(kept: &Kept<V>) -> Result<Kept<V>, Code>
+    ensures { MatchResult result (λ other. (is_shut (state_of kept.now) ≡ true) × (state_of other ≡ state_of kept.now))
+        (IsSharedOf (state_of kept.now)) }
+{
+    match kept {
+        Kept::Own(_) => Err(Code::NotFound),
+        Kept::Frozen(shared) => match Arc::try_clone(shared) {
+            Ok(other) => Ok(Kept::Frozen(other)),
+            Err(_) => Err(Code::NoMemory),
+        },
+    }
+}
+
+pub(crate) fn share_words(alloc: Global, kept: &Kept<u64>, to: &mut Handle) -> Code
+    ensures { IsShared (state_of kept.now) (words_behind to.old) result (state_of kept.now) (words_behind to.new) }
+{
+    match shared_of(kept) {
+        Ok(other) => give(alloc, to, Store::Words(other)),
+        Err(code) => code,
+    }
+}
+
+pub(crate) fn share_bytes(alloc: Global, kept: &Kept<Bytes>, to: &mut Handle) -> Code
+    ensures { IsShared (state_of kept.now) (bytes_behind to.old) result (state_of kept.now) (bytes_behind to.new) }
+{
+    match shared_of(kept) {
+        Ok(other) => give(alloc, to, Store::Bytes(other)),
+        Err(code) => code,
+    }
+}

@@ -1,0 +1,223 @@
+//! The exports of maps of words: pairs that lie next to a key, at an end, or at an end of those with a prefix.
+#![tactic(auto, using(crate::proofs::Answered::no_words))]
+
+ghost use Rattle.art_map.specs.Contents.{first_item, last_item};
+ghost use Rattle.art_c.specs.Answers.{Answers, OnlyReads};
+ghost use Rattle.art_c.specs.Calls.{first_with_prefix, IsFrontRead, IsPairsWordRead, IsWordPairRead};
+ghost use Rattle.art_c.specs.Calls.{last_with_prefix, pair_above, pair_below, pair_of_front};
+ghost use Rattle.art_c.specs.Copies.{key_room};
+ghost use Rattle.art_c.specs.Handles.{words_behind};
+
+use crate::calls::reads::{Wanted, pair_of};
+use crate::code::Code;
+use crate::copies::{give_front, give_pairs_word, give_word_pair};
+use crate::handle::{Handle, Store, reading};
+use std::alloc::Global;
+
+/// Tells how long the key is that begins a query, or equals it, and its word.
+#[unsafe(no_mangle)]
+pub extern "C" fn words_find(
+    alloc: Global,
+    handle: &mut Handle,
+    query: &[u8],
+    key_len: &mut usize,
+    word: &mut u64,
+) -> u32
+    ensures { Answers (OnlyReads (IsFrontRead (pair_of_front query.now)))
+        (words_behind handle.old) (key_len.old, word.old)
+        result (words_behind handle.new) (key_len.new, word.new) }
+{
+    reading!(alloc, handle, Words not Bytes, |map| {
+        give_front(pair_of(map, Wanted::FrontOf(query)), key_len, word)
+    })
+}
+
+/// Copies out the pair with the least key.
+#[unsafe(no_mangle)]
+pub extern "C" fn words_first(
+    alloc: Global,
+    handle: &mut Handle,
+    room: &mut [u8],
+    key_len: &mut usize,
+    word: &mut u64,
+) -> u32
+    ensures { Answers (OnlyReads (IsWordPairRead first_item))
+        (words_behind handle.old) (key_room room.old key_len.old word.old)
+        result (words_behind handle.new) (key_room room.new key_len.new word.new) }
+{
+    reading!(alloc, handle, Words not Bytes, |map| {
+        give_word_pair(pair_of(map, Wanted::First), room, key_len, word)
+    })
+}
+
+/// Copies out the pair with the greatest key.
+#[unsafe(no_mangle)]
+pub extern "C" fn words_last(
+    alloc: Global,
+    handle: &mut Handle,
+    room: &mut [u8],
+    key_len: &mut usize,
+    word: &mut u64,
+) -> u32
+    ensures { Answers (OnlyReads (IsWordPairRead last_item))
+        (words_behind handle.old) (key_room room.old key_len.old word.old)
+        result (words_behind handle.new) (key_room room.new key_len.new word.new) }
+{
+    reading!(alloc, handle, Words not Bytes, |map| {
+        give_word_pair(pair_of(map, Wanted::Last), room, key_len, word)
+    })
+}
+
+/// Copies out the pair with the least key that begins with a prefix.
+#[unsafe(no_mangle)]
+pub extern "C" fn words_first_with_prefix(
+    alloc: Global,
+    handle: &mut Handle,
+    prefix: &[u8],
+    room: &mut [u8],
+    key_len: &mut usize,
+    word: &mut u64,
+) -> u32
+    ensures { Answers (OnlyReads (IsWordPairRead (first_with_prefix prefix.now)))
+        (words_behind handle.old) (key_room room.old key_len.old word.old)
+        result (words_behind handle.new) (key_room room.new key_len.new word.new) }
+{
+    reading!(alloc, handle, Words not Bytes, |map| {
+        give_word_pair(pair_of(map, Wanted::FirstWithPrefix(prefix)), room, key_len, word)
+    })
+}
+
+/// Copies out the pair with the greatest key that begins with a prefix.
+#[unsafe(no_mangle)]
+pub extern "C" fn words_last_with_prefix(
+    alloc: Global,
+    handle: &mut Handle,
+    prefix: &[u8],
+    room: &mut [u8],
+    key_len: &mut usize,
+    word: &mut u64,
+) -> u32
+    ensures { Answers (OnlyReads (IsWordPairRead (last_with_prefix prefix.now)))
+        (words_behind handle.old) (key_room room.old key_len.old word.old)
+        result (words_behind handle.new) (key_room room.new key_len.new word.new) }
+{
+    reading!(alloc, handle, Words not Bytes, |map| {
+        give_word_pair(pair_of(map, Wanted::LastWithPrefix(prefix)), room, key_len, word)
+    })
+}
+
+/// Copies out the pair with the least key above a key.
+#[unsafe(no_mangle)]
+pub extern "C" fn words_next(
+    alloc: Global,
+    handle: &mut Handle,
+    key: &[u8],
+    room: &mut [u8],
+    key_len: &mut usize,
+    word: &mut u64,
+) -> u32
+    ensures { Answers (OnlyReads (IsWordPairRead (pair_above key.now)))
+        (words_behind handle.old) (key_room room.old key_len.old word.old)
+        result (words_behind handle.new) (key_room room.new key_len.new word.new) }
+{
+    reading!(alloc, handle, Words not Bytes, |map| {
+        give_word_pair(pair_of(map, Wanted::Above(key)), room, key_len, word)
+    })
+}
+
+/// Copies out the pair with the greatest key below a key.
+#[unsafe(no_mangle)]
+pub extern "C" fn words_previous(
+    alloc: Global,
+    handle: &mut Handle,
+    key: &[u8],
+    room: &mut [u8],
+    key_len: &mut usize,
+    word: &mut u64,
+) -> u32
+    ensures { Answers (OnlyReads (IsWordPairRead (pair_below key.now)))
+        (words_behind handle.old) (key_room room.old key_len.old word.old)
+        result (words_behind handle.new) (key_room room.new key_len.new word.new) }
+{
+    reading!(alloc, handle, Words not Bytes, |map| {
+        give_word_pair(pair_of(map, Wanted::Below(key)), room, key_len, word)
+    })
+}
+
+/// Tells the word of the pair with the least key.
+#[unsafe(no_mangle)]
+pub extern "C" fn words_first_word(alloc: Global, handle: &mut Handle, word: &mut u64) -> u32
+    ensures { Answers (OnlyReads (IsPairsWordRead first_item)) (words_behind handle.old) word.old
+        result (words_behind handle.new) word.new }
+{
+    reading!(alloc, handle, Words not Bytes, |map| give_pairs_word(pair_of(map, Wanted::First), word))
+}
+
+/// Tells the word of the pair with the greatest key.
+#[unsafe(no_mangle)]
+pub extern "C" fn words_last_word(alloc: Global, handle: &mut Handle, word: &mut u64) -> u32
+    ensures { Answers (OnlyReads (IsPairsWordRead last_item)) (words_behind handle.old) word.old
+        result (words_behind handle.new) word.new }
+{
+    reading!(alloc, handle, Words not Bytes, |map| give_pairs_word(pair_of(map, Wanted::Last), word))
+}
+
+/// Tells the word of the pair with the least key that begins with a prefix.
+#[unsafe(no_mangle)]
+pub extern "C" fn words_first_word_with_prefix(
+    alloc: Global,
+    handle: &mut Handle,
+    prefix: &[u8],
+    word: &mut u64,
+) -> u32
+    ensures { Answers (OnlyReads (IsPairsWordRead (first_with_prefix prefix.now))) (words_behind handle.old) word.old
+        result (words_behind handle.new) word.new }
+{
+    reading!(alloc, handle, Words not Bytes, |map| {
+        give_pairs_word(pair_of(map, Wanted::FirstWithPrefix(prefix)), word)
+    })
+}
+
+/// Tells the word of the pair with the greatest key that begins with a prefix.
+#[unsafe(no_mangle)]
+pub extern "C" fn words_last_word_with_prefix(
+    alloc: Global,
+    handle: &mut Handle,
+    prefix: &[u8],
+    word: &mut u64,
+) -> u32
+    ensures { Answers (OnlyReads (IsPairsWordRead (last_with_prefix prefix.now))) (words_behind handle.old) word.old
+        result (words_behind handle.new) word.new }
+{
+    reading!(alloc, handle, Words not Bytes, |map| {
+        give_pairs_word(pair_of(map, Wanted::LastWithPrefix(prefix)), word)
+    })
+}
+
+/// Tells the word of the pair with the least key above a key.
+#[unsafe(no_mangle)]
+pub extern "C" fn words_next_word(
+    alloc: Global,
+    handle: &mut Handle,
+    key: &[u8],
+    word: &mut u64,
+) -> u32
+    ensures { Answers (OnlyReads (IsPairsWordRead (pair_above key.now))) (words_behind handle.old) word.old
+        result (words_behind handle.new) word.new }
+{
+    reading!(alloc, handle, Words not Bytes, |map| give_pairs_word(pair_of(map, Wanted::Above(key)), word))
+}
+
+/// Tells the word of the pair with the greatest key below a key.
+#[unsafe(no_mangle)]
+pub extern "C" fn words_previous_word(
+    alloc: Global,
+    handle: &mut Handle,
+    key: &[u8],
+    word: &mut u64,
+) -> u32
+    ensures { Answers (OnlyReads (IsPairsWordRead (pair_below key.now))) (words_behind handle.old) word.old
+        result (words_behind handle.new) word.new }
+{
+    reading!(alloc, handle, Words not Bytes, |map| give_pairs_word(pair_of(map, Wanted::Below(key)), word))
+}

@@ -1,0 +1,75 @@
+//! The exports of maps of words: many pairs in one call.
+#![tactic(auto, using(crate::proofs::Answered::no_words))]
+
+ghost use Rattle.art_c.specs.Answers.{Answers, Changes, OnlyReads};
+ghost use Rattle.art_c.specs.Handles.{words_behind};
+ghost use Rattle.art_c.specs.Layouts.{no_text, word_key_len, word_text_len, words_pair};
+ghost use Rattle.art_c.specs.Loads.{IsLoaded};
+ghost use Rattle.art_c.specs.Spans.{reach};
+ghost use Rattle.art_c.specs.Walks.{IsWalked, IsWordsWalked, many_rooms};
+
+use crate::calls::loads;
+use crate::calls::walks::{self, Span};
+use crate::code::Code;
+use crate::handle::{Handle, Kept, Store, changing, reading};
+use crate::value::WordsPair;
+use std::alloc::Global;
+
+/// Copies out as many pairs of a span as go in.
+#[unsafe(no_mangle)]
+pub extern "C" fn words_walk(
+    alloc: Global,
+    handle: &mut Handle,
+    back: bool,
+    from: u32,
+    from_key: &[u8],
+    to: u32,
+    to_key: &[u8],
+    room: &mut [u8],
+    pairs: &mut [WordsPair],
+    count: &mut usize,
+) -> u32
+    ensures { Answers (OnlyReads (IsWalked no_text words_pair (reach back from from_key.now to to_key.now)))
+        (words_behind handle.old) (many_rooms room.old pairs.old count.old)
+        result (words_behind handle.new) (many_rooms room.new pairs.new count.new) }
+{
+    let span = Span::new(back, from, from_key, to, to_key);
+    reading!(alloc, handle, Words not Bytes, |map| walks::walk(map, span, room, pairs, count))
+}
+
+/// Copies out as many words of a span as there are places.
+#[unsafe(no_mangle)]
+pub extern "C" fn words_walk_words(
+    alloc: Global,
+    handle: &mut Handle,
+    back: bool,
+    from: u32,
+    from_key: &[u8],
+    to: u32,
+    to_key: &[u8],
+    words: &mut [u64],
+    count: &mut usize,
+) -> u32
+    ensures { Answers (OnlyReads (IsWordsWalked (reach back from from_key.now to to_key.now)))
+        (words_behind handle.old) (words.old, count.old)
+        result (words_behind handle.new) (words.new, count.new) }
+{
+    let span = Span::new(back, from, from_key, to, to_key);
+    reading!(alloc, handle, Words not Bytes, |map| walks::walk_words(map, span, words, count))
+}
+
+/// Puts in the pairs of a buffer, whose keys ascend, up to the first that is refused.
+#[unsafe(no_mangle)]
+pub extern "C" fn words_load(
+    alloc: Global,
+    handle: &mut Handle,
+    keys: &[u8],
+    pairs: &[WordsPair],
+    taken: &mut usize,
+) -> u32
+    ensures { Answers (Changes (IsLoaded no_text words_pair word_key_len word_text_len keys.now pairs.now))
+        (words_behind handle.old) taken.old
+        result (words_behind handle.new) taken.new }
+{
+    changing!(alloc, handle, Words not Bytes, |map| loads::load(map, alloc, keys, pairs, taken))
+}

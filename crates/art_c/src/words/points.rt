@@ -1,0 +1,74 @@
+//! The exports of maps of words: single pairs by their keys.
+#![tactic(auto, using(crate::proofs::Answered::no_words))]
+
+ghost use Rattle.std.specs.Prelude.{◌≡◌};
+ghost use Rattle.art_c.specs.Answers.{Answers, Changes, OnlyReads};
+ghost use Rattle.art_c.specs.Calls.{is_stored, IsWordPut, IsWordRead, IsWordRemoved};
+ghost use Rattle.art_c.specs.Handles.{pairs_or_none, store_behind, words_behind};
+
+use crate::calls::changes;
+use crate::code::Code;
+use crate::copies::give_word;
+use crate::handle::{Handle, Kept, Store, changing, reading};
+use art_bytes::SliceKey;
+use std::alloc::Global;
+
+/// Puts a pair in, and tells the word that its key had.
+#[unsafe(no_mangle)]
+pub extern "C" fn words_put(
+    alloc: Global,
+    handle: &mut Handle,
+    key: &[u8],
+    word: u64,
+    old: &mut u64,
+) -> u32
+    ensures { Answers (Changes (IsWordPut key.now word)) (words_behind handle.old) old.old
+        result (words_behind handle.new) old.new }
+{
+    changing!(alloc, handle, Words not Bytes, |map| changes::put_word(map, alloc, key, word, old))
+}
+
+/// Tells the word of a key.
+#[unsafe(no_mangle)]
+pub extern "C" fn words_get(alloc: Global, handle: &mut Handle, key: &[u8], word: &mut u64) -> u32
+    ensures { Answers (OnlyReads (IsWordRead key.now)) (words_behind handle.old) word.old
+        result (words_behind handle.new) word.new }
+{
+    reading!(alloc, handle, Words not Bytes, |map| give_word(map.get(&SliceKey(key)), word))
+}
+
+/// Whether a pair has the key.
+#[unsafe(no_mangle)]
+pub extern "C" fn words_contains(alloc: Global, handle: &mut Handle, key: &[u8]) -> bool
+    ensures is { result ≡ is_stored key.now (pairs_or_none (words_behind handle.old)) }
+    ensures kept { store_behind handle.new ≡ store_behind handle.old }
+{
+    match handle.take(alloc) {
+        Some(store) => match &*store {
+            Store::Words(kept) => {
+                let is = kept.map().get(&SliceKey(key)).is_some();
+                *handle = Handle::of(store);
+                is
+            }
+            Store::Bytes(_) => {
+                *handle = Handle::of(store);
+                false
+            }
+        },
+        None => false,
+    }
+}
+
+/// Takes out the pair with a key, and tells its word.
+#[unsafe(no_mangle)]
+pub extern "C" fn words_remove(
+    alloc: Global,
+    handle: &mut Handle,
+    key: &[u8],
+    word: &mut u64,
+) -> u32
+    ensures { Answers (Changes (IsWordRemoved key.now)) (words_behind handle.old) word.old
+        result (words_behind handle.new) word.new }
+{
+    changing!(alloc, handle, Words not Bytes, |map| changes::remove_word(map, key, word))
+}

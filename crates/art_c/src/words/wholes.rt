@@ -1,0 +1,173 @@
+//! The exports of maps of words: a map as a whole.
+#![tactic(auto, using(crate::proofs::Answered::no_words, crate::proofs::Given::new_words))]
+
+ghost use Rattle.std.specs.Prelude.{◌≡◌, length, None};
+ghost use Rattle.art_c.specs.Answers.{Answers, Changes, OnlyReads};
+ghost use Rattle.art_c.specs.Calls.{IsAudited, IsNew, IsPrefixRemoved};
+ghost use Rattle.art_c.specs.Handles.{is_frozen_map, pairs_or_none, store_behind, words_behind};
+ghost use Rattle.art_c.specs.Wholes.{IsCleared, GetsCopy, IsFrozen, IsReserved, IsShared, IsShrunk};
+ghost use Rattle.art_c.specs.Wholes.{IsSplitOff, IsThawed};
+
+use crate::calls::{changes, counts, wholes};
+use crate::code::Code;
+use crate::handle::{Handle, Kept, Store, changing, keeping, reading};
+use crate::nodes::NodeCounts;
+use std::alloc::Global;
+
+/// Makes an empty map in a handle. A map that it had is freed.
+#[unsafe(no_mangle)]
+pub extern "C" fn words_new(alloc: Global, handle: &mut Handle) -> u32
+    ensures { IsNew (words_behind handle.old) result (words_behind handle.new) }
+{
+    wholes::give(alloc, handle, Store::Words(wholes::empty(alloc))).number()
+}
+
+/// Frees the map of a handle, if one is made.
+#[unsafe(no_mangle)]
+pub extern "C" fn words_free(alloc: Global, handle: &mut Handle)
+    ensures { store_behind handle.new ≡ None }
+{
+    let _map = handle.take(alloc);
+}
+
+/// How many pairs there are.
+#[unsafe(no_mangle)]
+pub extern "C" fn words_len(alloc: Global, handle: &mut Handle) -> usize
+    ensures len { result ≡ length (pairs_or_none (words_behind handle.old)) }
+    ensures kept { store_behind handle.new ≡ store_behind handle.old }
+{
+    match handle.take(alloc) {
+        Some(store) => match &*store {
+            Store::Words(kept) => {
+                let len = kept.map().len();
+                *handle = Handle::of(store);
+                len
+            }
+            Store::Bytes(_) => {
+                *handle = Handle::of(store);
+                0
+            }
+        },
+        None => 0,
+    }
+}
+
+/// Whether the map is frozen.
+#[unsafe(no_mangle)]
+pub extern "C" fn words_is_frozen(alloc: Global, handle: &mut Handle) -> bool
+    ensures is { result ≡ is_frozen_map (words_behind handle.old) }
+    ensures kept { store_behind handle.new ≡ store_behind handle.old }
+{
+    match handle.take(alloc) {
+        Some(store) => match &*store {
+            Store::Words(Kept::Frozen(_)) => {
+                *handle = Handle::of(store);
+                true
+            }
+            Store::Words(Kept::Own(_)) => {
+                *handle = Handle::of(store);
+                false
+            }
+            Store::Bytes(_) => {
+                *handle = Handle::of(store);
+                false
+            }
+        },
+        None => false,
+    }
+}
+
+/// Takes out all pairs whose keys begin with a prefix.
+#[unsafe(no_mangle)]
+pub extern "C" fn words_remove_prefix(
+    alloc: Global,
+    handle: &mut Handle,
+    prefix: &[u8],
+    count: &mut usize,
+) -> u32
+    ensures { Answers (Changes (IsPrefixRemoved prefix.now)) (words_behind handle.old) count.old
+        result (words_behind handle.new) count.new }
+{
+    changing!(alloc, handle, Words not Bytes, |map| changes::remove_prefix(map, prefix, count))
+}
+
+/// Puts a copy of the map into another handle.
+#[unsafe(no_mangle)]
+pub extern "C" fn words_clone(alloc: Global, handle: &mut Handle, to: &mut Handle) -> u32
+    ensures { Answers (OnlyReads GetsCopy) (words_behind handle.old) (words_behind to.old)
+        result (words_behind handle.new) (words_behind to.new) }
+{
+    reading!(alloc, handle, Words not Bytes, |map| wholes::clone_words(alloc, map, to))
+}
+
+/// Moves the pairs from a key on into a map of their own in another handle.
+#[unsafe(no_mangle)]
+pub extern "C" fn words_split_off(
+    alloc: Global,
+    handle: &mut Handle,
+    key: &[u8],
+    to: &mut Handle,
+) -> u32
+    ensures { Answers (Changes (IsSplitOff key.now)) (words_behind handle.old) (words_behind to.old)
+        result (words_behind handle.new) (words_behind to.new) }
+{
+    changing!(alloc, handle, Words not Bytes, |map| wholes::split_words(alloc, map, key, to))
+}
+
+/// Allocates the nodes of so many more insertions.
+#[unsafe(no_mangle)]
+pub extern "C" fn words_reserve(alloc: Global, handle: &mut Handle, additional: usize) -> u32
+    ensures { Answers (Changes IsReserved) (words_behind handle.old) tt result (words_behind handle.new) tt }
+{
+    changing!(alloc, handle, Words not Bytes, |map| wholes::reserve(map, additional))
+}
+
+/// Gives memory back that the nodes don't need.
+#[unsafe(no_mangle)]
+pub extern "C" fn words_shrink(alloc: Global, handle: &mut Handle) -> u32
+    ensures { Answers (Changes IsShrunk) (words_behind handle.old) tt result (words_behind handle.new) tt }
+{
+    changing!(alloc, handle, Words not Bytes, |map| wholes::shrink(map))
+}
+
+/// Takes all pairs out, and frees their memory.
+#[unsafe(no_mangle)]
+pub extern "C" fn words_clear(alloc: Global, handle: &mut Handle) -> u32
+    ensures { Answers (Changes IsCleared) (words_behind handle.old) tt result (words_behind handle.new) tt }
+{
+    changing!(alloc, handle, Words not Bytes, |map| wholes::clear(alloc, map))
+}
+
+/// Freezes the map: no call changes it from then on.
+#[unsafe(no_mangle)]
+pub extern "C" fn words_freeze(alloc: Global, handle: &mut Handle) -> u32
+    ensures { Answers (IsFrozen) (words_behind handle.old) tt result (words_behind handle.new) tt }
+{
+    keeping!(alloc, handle, Words not Bytes, |kept| wholes::freeze(alloc, kept))
+}
+
+/// Makes a frozen map one that can be changed, where no other handle has it.
+#[unsafe(no_mangle)]
+pub extern "C" fn words_thaw(alloc: Global, handle: &mut Handle) -> u32
+    ensures { Answers (IsThawed) (words_behind handle.old) tt result (words_behind handle.new) tt }
+{
+    keeping!(alloc, handle, Words not Bytes, |kept| wholes::thaw(alloc, kept))
+}
+
+/// Makes another handle on a frozen map.
+#[unsafe(no_mangle)]
+pub extern "C" fn words_share(alloc: Global, handle: &mut Handle, to: &mut Handle) -> u32
+    ensures { Answers (IsShared) (words_behind handle.old) (words_behind to.old)
+        result (words_behind handle.new) (words_behind to.new) }
+{
+    keeping!(alloc, handle, Words not Bytes, |kept| wholes::share_words(alloc, kept, to))
+}
+
+/// Counts the nodes of the tree.
+#[unsafe(no_mangle)]
+pub extern "C" fn words_audit(alloc: Global, handle: &mut Handle, told: &mut NodeCounts) -> u32
+    ensures { Answers (OnlyReads IsAudited) (words_behind handle.old) told.old
+        result (words_behind handle.new) told.new }
+{
+    reading!(alloc, handle, Words not Bytes, |map| counts::audit(map, told))
+}

@@ -1,2 +1,0 @@
-mod FirstLeaf
-mod Counted

@@ -1,3 +1,0 @@
-mod LeafTrios
-mod ThreeLeaves
-mod TreeRuns

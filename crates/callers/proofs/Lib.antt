@@ -1,0 +1,3 @@
+mod FirstLeaf
+mod ThreeLeaves
+mod TreeRuns

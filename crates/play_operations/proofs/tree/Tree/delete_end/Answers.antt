@@ -1,5 +1,0 @@
-use Rattle.play_operations.proofs.SomePairs.{kept}
-use Rattle.play_operations.proofs.tree.Tree.delete_end.Goals as goal
-
-pub invariant_of-self-in-Err : goal.invariant_of-self-in-Err
-invariant_of-self-in-Err g c = kept g.K.AsBytes.bytes g.row.PREFIX_LEN c.self.inside.arena c.take_end.new.arena c.in-Err.ensures.err c.self.inside.root c.self.invariant
