@@ -1,12 +1,12 @@
 -- Room for the inner nodes over leaves: what is left where one of them is stored.
-use Rattle.std.proofs.Common.{◌≡◌, ◌≢◌, ℕ, suc, ◌+◌, ◌*◌, ◌-◌, ◌<◌, ◌≤◌, [], ◌∷◌, length, length-append, sym, ap, subst, ◌∙◌, inl, inr, refl, arith}
+use Rattle.std.proofs.Common.{◌≡◌, ◌≢◌, ℕ, zero, suc, ◌+◌, ◌*◌, ◌-◌, ◌<◌, ◌≤◌, [], ◌∷◌, length, length-append, sym, ap, subst, ◌∙◌, inl, inr, refl, arith}
 use Rattle.std.specs.Prelude.{vec_capacity}
 use Rattle.std.proofs.Math.Nat.{suc-mul, one-mul}
 use Rattle.art_nodes.proofs.Common.{row_of, Name}
 use Rattle.art_nodes.specs.declared.kind.NodeType.{NodeType}
 use Rattle.art_nodes.specs.declared.kind.NodeType.TheVariants.{Node4, Node16, Node32, Node48, Node256, Leaf}
 use Rattle.art_arena.proofs.Common.{Arena, HasRoomOf, KeepsRoomOf, UsesRoomOf, same_kind_tells}
-use Rattle.art_operations.proofs.Terms.{HasInnerRoom, Spine, HasPlaces, HasSpineRoom, IsFresh, AddsChild, IsEmptySpine}
+use Rattle.art_operations.proofs.Terms.{HasInnerRoom, Spine, HasNodeRoom, HasPlaces, HasSpineRoom, IsFresh, AddsChild, IsEmptySpine}
 
 less : (n a b : ℕ) → n < a → a ≤ b → n < b
 less n a b few fewer = omega (arith, few, fewer)
@@ -72,12 +72,12 @@ module _ {K V : Type 0} where
 
   -- an empty spine takes no room for none
   pub no-room : (arena : Arena K V) (spine : Spine) (more : ℕ) → IsEmptySpine spine → more ≡ 0 → HasSpineRoom arena spine more
-  no-room arena spine more empty zero =
+  no-room arena spine more empty none_more =
       let none : length spine.stack.items ≡ 0 = ap length empty.0 in
       let no_child : length spine.children.items ≡ 0 = ap length empty.1 in
       record {
-        places = record { stack = omega (arith, none, zero); children = omega (arith, no_child, zero) };
-        nodes = room-at arena 0 (length spine.children.items + more) (omega (arith, no_child, zero)) (λ kind inner n few. absurd (omega (arith, few)));
+        places = record { stack = omega (arith, none, none_more); children = omega (arith, no_child, none_more) };
+        nodes = room-at arena 0 (length spine.children.items + more) (omega (arith, no_child, none_more)) (λ kind inner n few. absurd (omega (arith, few)));
       }
 
   pub beside-leaf : (old new : Arena K V) (spine : Spine) (more : ℕ) → UsesRoomOf Leaf old new → HasSpineRoom old spine more → HasSpineRoom new spine more
@@ -94,6 +94,12 @@ module _ {K V : Type 0} where
       }
 
   -- the last open node is made of so many children, behind those of the others
+  pub closed-nodes : (old new : Arena K V) (was now : Spine) (first own more : ℕ) → ((n : ℕ) → HasInnerRoom old (own + n) → HasInnerRoom new (suc n)) → first + own ≡ length was.children.items + 1 → length now.children.items ≡ first
+      → HasNodeRoom old was (suc more) → HasNodeRoom new now (suc more)
+  closed-nodes old new was now first own more stores all kept room =
+      room-at new (suc (first + more)) (length now.children.items + suc more) (omega (arith, kept))
+      (stores (first + more) (room-at old (length was.children.items + suc more) (own + (first + more)) (omega (arith, all)) room))
+
   pub closed-room : (old new : Arena K V) (was now : Spine) (first own more : ℕ) → ((n : ℕ) → HasInnerRoom old (own + n) → HasInnerRoom new (suc n)) → 1 ≤ own → first + own ≡ length was.children.items + 1
       → suc (length now.stack.items) ≡ length was.stack.items → length now.children.items ≡ first → vec_capacity was.stack ≤ vec_capacity now.stack → vec_capacity was.children ≤ vec_capacity now.children
       → HasSpineRoom old was (suc more) → HasSpineRoom new now (suc more)
@@ -102,15 +108,26 @@ module _ {K V : Type 0} where
       let old_children = room.places.children in
       record {
         places = record { stack = omega (arith, popped, stack, old_stack); children = omega (arith, all, some, kept, children, old_children) };
-        nodes = room-at new (suc (first + more)) (length now.children.items + suc more) (omega (arith, kept))
-            (stores (first + more) (room-at old (length was.children.items + suc more) (own + (first + more)) (omega (arith, all)) room.nodes));
+        nodes = closed-nodes old new was now first own more stores all kept room.nodes;
       }
 
   -- the part has become a child, and the next leaf is the part
-  pub added-room : (arena : Arena K V) (was now : Spine) (behind more : ℕ) (child : ℕ × Name) → AddsChild behind child was now → HasPlaces now more → HasSpineRoom arena was (suc more) → HasSpineRoom arena now more
-  added-room arena was now behind more child adds places room =
+  pub added-nodes : (arena : Arena K V) (was now : Spine) (behind more : ℕ) (child : ℕ × Name) → AddsChild behind child was now → HasNodeRoom arena was (suc more) → HasNodeRoom arena now more
+  added-nodes arena was now behind more child adds room =
       let count = ap length adds.children ∙ length-append was.children.items (child ∷ []) in
-      record { places = places; nodes = room-at arena (length was.children.items + suc more) (length now.children.items + more) (omega (arith, count)) room.nodes }
+      room-at arena (length was.children.items + suc more) (length now.children.items + more) (omega (arith, count)) room
+
+  pub added-room : (arena : Arena K V) (was now : Spine) (behind more : ℕ) (child : ℕ × Name) → AddsChild behind child was now → HasPlaces now more → HasSpineRoom arena was (suc more) → HasSpineRoom arena now more
+  added-room arena was now behind more child adds places room = record { places = places; nodes = added-nodes arena was now behind more child adds room.nodes }
+
+  -- all nodes over so many leaves are made: their tree is one part
+  pub made-all : (old now new : Arena K V) (fresh was made : Spine) (leaves : ℕ) → IsEmptySpine fresh → 1 ≤ leaves → ((m : ℕ) → HasNodeRoom old fresh (leaves + m) → HasNodeRoom now was (suc m)) → ((m : ℕ) → HasNodeRoom now was (suc m) → HasNodeRoom new made (suc m))
+      → (more : ℕ) → HasInnerRoom old (leaves - 1 + more) → HasInnerRoom new more
+  made-all old now new fresh was made leaves empty some passed closed zero room = λ kind inner n few. absurd (omega (arith, few))
+  made-all old now new fresh was made leaves empty some passed closed (suc m) room =
+      let no_child : length fresh.children.items ≡ 0 = ap length empty.1 in
+      fewer-leaves new (suc m) (length made.children.items + suc m) (omega arith)
+      (closed m (passed m (room-at old (leaves - 1 + suc m) (length fresh.children.items + (leaves + m)) (omega (arith, no_child, some)) room)))
 
   -- there is room for as many nodes of this kind as can stand over so many leaves
   abbrev RoomOver : Arena K V → ℕ → NodeType → Type 0

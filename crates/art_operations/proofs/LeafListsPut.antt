@@ -3,10 +3,10 @@ use Rattle.std.proofs.Common.{◌≡◌, ℕ, List, [], ◌∷◌, ◌++◌, Opt
 use Rattle.std.specs.List.{AllByRecursion, cons_option}
 use Rattle.std.specs.declared.cmp.Ordering.TheVariants.{Less, Greater}
 use Rattle.std.proofs.lemmas.List.{map-append}
-use Rattle.art_bytes.proofs.Common.{Conflict, IsBefore, before_trans, cmp_before, conflict_turned}
-use Rattle.art_arena.proofs.Common.{Arena, node_at, Cell, pair, leaf_name, UpdatesAt, first_slot, LeafAt, pairs_of, key_of, AscendsByKey, same_name_tells, all_append, all_left, all_right, all_weaker}
-use Rattle.art_operations.proofs.Terms.{GoesBehind, IsBlocked, with_key, HasInserted, HasPutIn, KeepsCells, StandsInList, StandsBetween, HasLeavesOf, with_pair_put, LeafCursor, HasPassed, HasReplaced, StopsBehindLess, Compare}
-use Rattle.art_operations.proofs.KeyedLists.{put_new, put_replaced}
+use Rattle.art_bytes.proofs.Common.{Conflict, IsBefore, before_not_self, before_trans, cmp_before, conflict_turned}
+use Rattle.art_arena.proofs.Common.{Arena, SameNodes, node_at, links_at, Cell, pair, leaf_name, UpdatesAt, first_slot, LeafAt, pairs_of, key_of, AscendsByKey, IsIn, same_name_tells, Holds-same, AreLinked-same, links-same, nodes-same, all_append, all_at, all_left, all_right, all_weaker}
+use Rattle.art_operations.proofs.Terms.{GoesBehind, HasKey, IsBlocked, with_key, HasInserted, HasPutIn, KeepsCells, StandsAtPlace, StandsBelow, StandsInList, StandsBetween, HasLeavesOf, with_pair_put, LeafCursor, HasPassed, HasReplaced, StopsBehindLess, Compare}
+use Rattle.art_operations.proofs.KeyedLists.{before as items-before, behind as items-behind, put_new, put_replaced}
 use Rattle.art_operations.proofs.LeafPairs.{pairs-parts}
 use Rattle.art_operations.proofs.Nearest.{turned}
 
@@ -92,6 +92,52 @@ module _ {K V : Type 0} (bytes : K → List ℕ) where
     ascends : AscendsByKey (key_of bytes) (pairs_of before ++ pairs_of pass.rest)
     ascends = subst (AscendsByKey (key_of bytes)) (sym parts-are) below.ascends
 
+    -- and stands below the same pairs, in an arena of the same nodes too
+    still-below : (new : Arena K V) → SameNodes old new → StandsBelow new now bytes pairs key
+    still-below new same = record {
+      among = record {
+        front = before;
+        back = pass.rest;
+        stands = record {
+          leaves = record {
+            holds = Holds-same (node_at old) (node_at new) (nodes-same old new same) _ pass.stands.leaves.holds;
+            linked = AreLinked-same (links_at old) (links_at new) (links-same old new same) None _ None pass.stands.leaves.linked;
+          };
+          first = pass.stands.first;
+          before = pass.stands.before;
+          after = pass.stands.after;
+        };
+        pairs_are = map-append (λ (l : LeafAt K V). (l.key, l.value)) before pass.rest ∙ parts-are;
+        ascends = below.ascends;
+      };
+      passed = all-before;
+    }
+
+    -- greater keys stand behind the cursor, where it found none
+    all-behind : found ≡ None → ComesBefore (key_of bytes) key (pairs_of pass.rest)
+    all-behind none = greater-behind key pass.rest (subst (λ f. StopsBehindLess bytes key f pass.rest) none pass.stops) (all_right (λ (p : K × V). Conflict (bytes p.0) key → ⊥) (pairs_of before) (pairs_of pass.rest) are-free)
+
+    -- so a pair of this key goes in there
+    goes-in : found ≡ None → (p : K × V) → bytes p.0 ≡ key → AscendsByKey (key_of bytes) (pairs_of before ++ p ∷ pairs_of pass.rest)
+    goes-in none p same =
+        between (key_of bytes) p (pairs_of before) (pairs_of pass.rest) ascends (subst (λ b. GoesBehind bytes b (pairs_of before)) (sym same) all-before) (subst (λ b. ComesBefore (key_of bytes) b (pairs_of pass.rest)) (sym same) (all-behind none))
+
+    pub still-at : found ≡ None → (k : K) (v : V) → bytes k ≡ key → (new : Arena K V) → SameNodes old new → StandsAtPlace new now bytes pairs key
+    unfolding still-below
+    still-at none k v is new same = record {
+      below = still-below new same;
+      above = subst (λ b. AllByRecursion (λ (q : K × V). IsBefore b (bytes q.0)) (pairs_of pass.rest)) is (items-behind (key_of bytes) (k, v) (pairs_of before) (pairs_of pass.rest) (goes-in none (k, v) is));
+    }
+
+    -- and no pair has the key
+    pub none-has : found ≡ None → HasKey (key_of bytes) key pairs → ⊥
+    none-has none (p, among, same) =
+        let up = goes-in none p same in
+        let Other = λ (q : K × V). bytes q.0 ≡ bytes p.0 → ⊥ in
+        let first = all_weaker (λ (q : K × V). IsBefore (bytes q.0) (bytes p.0)) Other (λ q less e. before_not_self (bytes p.0) (subst (λ k. IsBefore k (bytes p.0)) e less)) (pairs_of before) (items-before (key_of bytes) p (pairs_of before) (pairs_of pass.rest) up) in
+        let last = all_weaker (λ (q : K × V). IsBefore (bytes p.0) (bytes q.0)) Other (λ q less e. before_not_self (bytes p.0) (subst (λ k. IsBefore (bytes p.0) k) e less)) (pairs_of pass.rest) (items-behind (key_of bytes) p (pairs_of before) (pairs_of pass.rest) up) in
+        all_at Other p (pairs_of before ++ pairs_of pass.rest) (all_append Other (pairs_of before) (pairs_of pass.rest) first last) (subst (IsIn p) (sym parts-are) among) refl
+
     -- where none has the key, a new leaf stands there now
     module _ (new : Arena K V) (then : LeafCursor) (k : K) (v : V) (is : bytes k ≡ key) where
       -- the cursor stands behind a leaf of the pair
@@ -116,8 +162,7 @@ module _ {K V : Type 0} (bytes : K → List ℕ) where
 
       pub put-inserted : found ≡ None → HasInserted new then k v before pass.rest → HasPutIn new then bytes k v None pairs
       put-inserted none (slot, stands) =
-          let above = greater-behind key pass.rest (subst (λ f. StopsBehindLess bytes key f pass.rest) none pass.stops) (all_right (λ (p : K × V). Conflict (bytes p.0) key → ⊥) (pairs_of before) (pairs_of pass.rest) are-free) in
-          let up = between (key_of bytes) (k, v) (pairs_of before) (pairs_of pass.rest) ascends (subst (λ b. GoesBehind bytes b (pairs_of before)) (sym is) all-before) (subst (λ b. ComesBefore (key_of bytes) b (pairs_of pass.rest)) (sym is) above) in
+          let up = goes-in none (k, v) is in
           let put = put_new (key_of bytes) (k, v) (pairs_of before) (pairs_of pass.rest) up in
           let put_is = put.new_is ∙ ap (λ ps. with_pair_put bytes k v ps) parts-are in
           behind slot pass.rest None stands put_is up (put.were ∙ ap (with_key (key_of bytes) (bytes k)) parts-are)

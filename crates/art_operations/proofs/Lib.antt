@@ -2,6 +2,7 @@ pub mod Meetings
 pub mod Nearest
 pub mod Segments
 pub mod Prefixed
+pub mod FewReads
 pub mod FoundParts
 pub mod Openings
 pub mod Stretches

@@ -1,5 +1,5 @@
 -- Leaves over which a tree is made are passed one by one: the first of them, the next one, and what is so behind it.
-use Rattle.std.proofs.Common.{◌≡◌, ℕ, suc, ◌-◌, ◌<◌, ◌≤◌, List, [], ◌∷◌, ◌++◌, length, refl, sym, ap, subst, ◌∙◌, inl, inr, arith, append_assoc, Option, Some, None, IsSome, Result, Ok, Err, IsOk}
+use Rattle.std.proofs.Common.{◌≡◌, ℕ, suc, ◌+◌, ◌-◌, ◌<◌, ◌≤◌, List, [], ◌∷◌, ◌++◌, length, refl, sym, ap, subst, ◌∙◌, inl, inr, arith, append_assoc, Option, Some, None, IsSome, Result, Ok, Err, IsOk, OnErr}
 use Rattle.std.proofs.lemmas.Bool.Decides.{leb_tells}
 use Rattle.art_bytes.proofs.Common.{IsBefore}
 use Rattle.art_nodes.proofs.Common.{Name}
@@ -23,6 +23,11 @@ pub failed : {A E : Type 0} (r : Result A E) (e : E) → r ≡ Err e → IsOk r 
 failed (Ok x) e is ok = absurd (cc)
 failed (Err f) e is ok = absurd (cc)
 
+-- what is so is so of an error
+pub on-err : {A E : Type 0} (r : Result A E) (Then : Type 0) → Then → OnErr r Then
+on-err (Ok x) Then so = tt
+on-err (Err e) Then so = so
+
 -- two keys part where the first comes before the second, and the second goes on by the greater byte
 module _ (old new : List ℕ) (first : IsBefore old new) where
   pub must-part : (m : Meeting) → Meets old new m → ((p : Parted) → m ≡ meeting.Parts p → ⊥) → ⊥
@@ -43,7 +48,10 @@ module _ {K V : Type 0} (bytes : K → List ℕ) (P : ℕ) where
   pub record ArePassed (arena : Arena K V) (spine : Spine) (last left leaves : ℕ) (ls : List (LeafAt K V)) : Type 0 where
     pub rest : List (LeafAt K V)
     pub up_to : RebuildsUpTo bytes P arena spine last rest ls
-    pub few : length ls ≤ leaves → length rest < left
+    pub count : length ls ≤ leaves → length ls + left ≡ leaves + suc (length rest)
+
+  pub few-left : (arena : Arena K V) (spine : Spine) (last left leaves : ℕ) (ls : List (LeafAt K V)) (are : ArePassed arena spine last left leaves ls) → length ls ≤ leaves → length are.rest < left
+  few-left arena spine last left leaves ls are most = let count = are.count most in omega (arith, count, most)
 
   -- no leaf is passed but the first
   pub starts : (arena : Arena K V) (spine : Spine) (first leaves : ℕ) (ls : List (LeafAt K V)) → IsEmptySpine spine → HoldsInOrder bytes arena (Some first) ls → ArePassed arena spine first leaves leaves ls
@@ -54,7 +62,7 @@ module _ {K V : Type 0} (bytes : K → List ℕ) (P : ℕ) where
       (record {
         rest = rest;
         up_to = record { key = l.key; value = l.value; levels = []; stack_is = empty.0; children_are = empty.1; holds = order.holds.holds; ways = tt; leaves_are = refl };
-        few = λ most. omega (arith, most);
+        count = λ most. omega arith;
       })
 
   -- where the next leaf can be passed
@@ -124,7 +132,7 @@ module _ {K V : Type 0} (bytes : K → List ℕ) (P : ℕ) where
 
   module _ (old now : Arena K V) (spine : Spine) (last left leaves : ℕ) (first : Option ℕ) (ls : List (LeafAt K V)) (order : HoldsInOrder bytes old first ls) (same : SameLeaves old now) (are : ArePassed now spine last left leaves ls) (node : LeafNode K V)
       (held : held_at now (leaf_name last) ≡ Some (leaf_held node)) where
-    follows : node.next ≡ first_slot are.rest None
+    pub follows : node.next ≡ first_slot are.rest None
     follows = links-on old now (open_leaves are.up_to.levels) (last_of bytes P now spine last are.rest ls are.up_to) are.rest ls node are.up_to.leaves_are order.holds.linked same held
 
     -- without a next leaf all are passed
@@ -143,7 +151,7 @@ module _ {K V : Type 0} (bytes : K → List ℕ) (P : ℕ) where
       one-passed new after fewer up_to fewer_is = record {
         rest = start.more;
         up_to = up_to;
-        few = λ most. let few = are.few most in let count = ap length start.is in omega (arith, few, count, fewer_is);
+        count = λ most. let count = are.count most in let more = ap length start.is in omega (arith, count, most, more, fewer_is);
       }
 
   -- where all are passed and the last node is made, the arena has their tree

@@ -7,7 +7,7 @@ pub use Rattle.art_operations.specs.Deletions.{HasLeaves, HasLeavesBeside, IsAmo
 pub use Rattle.art_operations.specs.Frees.{HoldsBeside, HoldsInnerBeside, HoldsRun, KeepsAllBut, cells_with, cells_with_in, inner_cells, leaf_cells}
 pub use Rattle.art_operations.specs.Insertions.{IsForConflict, IsInsertedBeside, IsPairRefused, IsPutOrReplaced, IsReplaced}
 pub use Rattle.art_operations.specs.KeyedLists.{HasKey, IsBlocked, overlapping, overlaps, with_key, without_key, without_overlapping}
-pub use Rattle.art_operations.specs.LeafCursors.{HasInserted, HasMoved, HasPutIn, HasRemoved, KeepsCells, KeepsInnerRoom, StandsAhead, StandsBetween, StandsInList}
+pub use Rattle.art_operations.specs.LeafCursors.{HasInserted, HasMoved, HasPutIn, HasRemoved, KeepsCells, KeepsInnerRoom, StandsAhead, StandsAtPlace, StandsBelow, StandsBetween, StandsInList}
 pub use Rattle.art_operations.specs.LeafNames.{HasKeyAt, HasLeavesOf, KeepsLeavesOf}
 pub use Rattle.art_operations.specs.Meetings.{PartAt}
 pub use Rattle.art_operations.specs.NodeCounts.{node_count, nodes_counted}
@@ -15,7 +15,7 @@ pub use Rattle.art_operations.specs.Openings.{ForLongest, OpeningReads, PlaceRea
 pub use Rattle.art_operations.specs.Overwrites.{AreRemoved, IsExact, IsOverwrittenBeside, IsPrefixPoint, removed_by, root_at, steps_at}
 pub use Rattle.art_operations.specs.Pairs.{CanPut, CanPutOver, HasCut, HasPairs, HasPairsBeside, HasPairsWhere, HasPut, HasPutOver, HasTaken, HasTakenEnd, IsAtEnd, IsPlaceFor, IsPlaced, IsSubtreeFor, ShrinksAtEnd, pair_in, with_pair_over, with_pair_put}
 pub use Rattle.art_operations.specs.Points.{AllConflict, HasConflict, IsInTheWay, IsPoint, MeetsAt, NoConflict}
-pub use Rattle.art_operations.specs.Rebuilds.{HasInnerRoom, HoldsInOrder}
+pub use Rattle.art_operations.specs.Rebuilds.{HasInnerRoom, HoldsInOrder, KeepsLeafRoom}
 pub use Rattle.art_operations.specs.Runs.{AreClones, HoldsClonesOf, HoldsTreeOf, IsCloned}
 pub use Rattle.art_operations.specs.Subtrees.{CanLoseChild, HasRoomAbove, IsCutBeside, IsPartPlace, IsSubtreeAnswer, IsSubtreePoint, ShrinksWithout, leaves_with, leaves_without}
 pub use Rattle.art_operations.specs.Whichever.{FindsLeaf, HasTreeWhere, OfEach, OfTree, OfTreeWhere}
@@ -42,7 +42,7 @@ pub use Rattle.art_operations.specs.inner.Edits.{AllocatesBoth, IsLastOf, Stands
 pub use Rattle.art_operations.specs.inner.Freeing.{AreFirst, FreesRoot, HoldsBoth, HoldsOneLess, HoldsPart, IsBottom, IsChildIn, IsChildless, step_in}
 pub use Rattle.art_operations.specs.inner.Meetings.{Meets}
 pub use Rattle.art_operations.specs.inner.Nearest.{Compare, IsNearest, bound_at, takes}
-pub use Rattle.art_operations.specs.inner.Rebuilding.{CanPass, CanPassAt, HasPlaces, HasSpineRoom, IsFresh, RebuildsUpTo}
+pub use Rattle.art_operations.specs.inner.Rebuilding.{CanPass, CanPassAt, HasNodeRoom, HasPlaces, HasSpineRoom, IsFresh, RebuildsUpTo}
 pub use Rattle.art_operations.specs.inner.Removals.{EditsNode, IsOther, Lengthens, LosesKind, Moves, PutsBack, lengthened}
 pub use Rattle.art_operations.specs.inner.Runs.{HasClones, IsCarriedOut, IsDone}
 pub use Rattle.art_operations.specs.inner.Spines.{AddsChild, AreOpen, HasSpine, IsEmptySpine, IsOpen, IsSpine, Level, begin, begin_of, inner_over, open_at, open_cells, open_children, open_leaves, opened}

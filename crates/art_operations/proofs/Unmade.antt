@@ -37,6 +37,10 @@ one-other kind other n is differ = rw (kind-over kind n is) (elim (same_kind_tel
 one-most : (kind : NodeType) (n : ℕ) → one_of kind n ≤ 1
 one-most kind n = elim (same_kind_tells kind (kind_over n)) [ inl same ↦ rw same.0 (omega arith) | inr differs ↦ rw differs.0 (omega arith) ]
 
+-- and it isn't a leaf's
+pub not-leaf : (kind : NodeType) (n : ℕ) → IsKindOf kind n → Leaf ≢ kind
+not-leaf kind n is e = let at = subst (λ k. IsKindOf k n) (sym e) is in let two = at.two in let most = at.most in omega (arith, two, most)
+
 -- one node more is open, behind the others
 pub unmade-behind : (kind : NodeType) (noted : ℕ) (nodes : List Open) (o : Open) → unmade kind noted (nodes ++ o ∷ []) ≡ unmade kind o.first nodes + one_of kind (suc (noted - o.first))
 unmade-behind kind noted [] o = omega arith

@@ -1,6 +1,6 @@
 -- A cursor in a list of leaves: where it stands, and what its edits leave.
 use Rattle.std.specs.Prelude.{◌≡◌, ◌≢◌, ℕ, ◌+◌, List, [], ◌∷◌, ◌++◌, length, Option, None, Some}
-use Rattle.std.specs.List.{cons_option}
+use Rattle.std.specs.List.{AllByRecursion, cons_option}
 use Rattle.art_bytes.specs.Keys.{IsBefore}
 use Rattle.art_nodes.specs.Name.{Name}
 use Rattle.art_nodes.specs.declared.kind.NodeType.{NodeType}
@@ -71,6 +71,11 @@ module _ {K V : Type 0} (arena : Arena K V) (cursor : LeafCursor) where
     pub record StandsBelow (pairs : List (K × V)) (key : List ℕ) : Type 0 where
       pub among : StandsInList pairs
       pub passed : GoesBehind bytes key (pairs_of among.front)
+
+    -- and those of all behind it come after this one: the cursor stands at the place of the key, which none has
+    pub record StandsAtPlace (pairs : List (K × V)) (key : List ℕ) : Type 0 where
+      pub below : StandsBelow pairs key
+      pub above : AllByRecursion (λ p. IsBefore key (bytes p.0)) (pairs_of below.among.back)
 
     -- the pairs have this one now in the place of the one that is answered, if one had its key; the cursor stands
     -- behind it

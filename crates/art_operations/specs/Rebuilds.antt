@@ -15,6 +15,10 @@ abbrev pub HasInnerRoom : {K V : Type 0} → Arena K V → ℕ → Type 0
 HasInnerRoom arena leaves =
     (kind : NodeType) → kind ≢ Leaf → (n : ℕ) → n * ((row_of kind).fewest - 1) < leaves → HasRoomOf arena kind n
 
+-- what room there was for leaves stays
+abbrev pub KeepsLeafRoom : {K V : Type 0} → Arena K V → Arena K V → Type 0
+KeepsLeafRoom old new = (n : ℕ) → HasRoomOf old Leaf n → HasRoomOf new Leaf n
+
 -- the arena holds these leaves, linked from this one on in the order of their keys, and nothing else
 pub record HoldsInOrder {K V : Type 0} (bytes : K → List ℕ) (arena : Arena K V) (first : Option ℕ)
     (ls : List (LeafAt K V)) : Type 0 where

@@ -4,7 +4,7 @@
 ghost use Rattle.std.specs.Prelude.{◌≡◌, ◌≤◌, ◌+◌, ◌∷◌, ◌++◌, ℕ, suc, List, [], None, IfErr, IsOk, OnErr, OnOk};
 ghost use Rattle.art_nodes.specs.declared.kind.NodeType.TheVariants.{Leaf};
 ghost use Rattle.art_arena.specs.arena.Arena.{HasRoom, HasRoomOf, KeepsRoomOf, SameNodes};
-ghost use Rattle.art_arena.specs.arena.Rooms.{SameLeaves};
+ghost use Rattle.art_arena.specs.arena.Rooms.{SameLeaves, UsesRoomOf};
 ghost use Rattle.art_operations.specs.Builders.{Builds, GoesBehind, HasRoomBeside, HasRoomToPush};
 ghost use Rattle.art_operations.specs.Builders.{IsPushRefused};
 ghost use Rattle.art_operations.specs.LeafNames.{HasLeavesOf};
@@ -73,8 +73,8 @@ impl TreeBuilder {
     /// Takes a pair, whose key must go behind the last one: from each key it must part, and go on by a greater byte.
     ///
     /// Fails if it doesn't, or if out of memory. The error returns the pair, and nothing changed: the builder has the
-    /// pairs that it had. The first pair is always taken if the arena has room for its leaf. So is each other that goes
-    /// behind the last, if `reserve` made room for it, too.
+    /// pairs that it had, and room stays. The first pair is always taken if the arena has room for its leaf. So is each
+    /// other that goes behind the last, if `reserve` made room for it, too. A pair that is taken uses the room of one.
     pub fn push<K: AsBytes + Drop, V: Drop, const PREFIX_LEN: usize>(
         &mut self,
         arena: &mut NodeArena<K, V, PREFIX_LEN>,
@@ -98,6 +98,9 @@ impl TreeBuilder {
         ensures room { (n : ℕ) → HasRoomBeside arena.old self.old (n + 2) → HasRoomBeside arena.new self.new n }
         ensures kept_room { OnErr result ((n : ℕ) → 1 ≤ n → HasRoomBeside arena.old self.old n
             → HasRoomBeside arena.new self.new n) }
+        ensures kept_places { OnErr result ((n : ℕ) → HasRoomToPush self.old n → HasRoomToPush self.new n) }
+        ensures room_of { OnErr result (KeepsRoomOf arena.old arena.new) }
+        ensures leaf_room { (n : ℕ) → HasRoomOf arena.old Leaf (n + 1) → HasRoomOf arena.new Leaf n }
     {
         let Some(last) = self.last else {
             return self.push_first(arena, key, value);
@@ -148,6 +151,8 @@ impl TreeBuilder {
         ensures room { (n : ℕ) → HasRoomBeside arena.old self.old (n + 2) → HasRoomBeside arena.new self.new n }
         ensures kept_room { OnErr result ((n : ℕ) → 1 ≤ n → HasRoomBeside arena.old self.old n
             → HasRoomBeside arena.new self.new n) }
+        ensures room_of { UsesRoomOf Leaf arena.old arena.new }
+        ensures refused_room { OnErr result (KeepsRoomOf arena.old arena.new) }
     {
         match store_last(arena, None, key, value) {
             Ok(leaf) => {

@@ -11,9 +11,10 @@ ghost use Rattle.art_arena.specs.arena.Cells.{leaf_name, pair, UpdatesAt};
 ghost use Rattle.art_arena.specs.arena.Rooms.{SameLeaves, UsesRoomOf};
 ghost use Rattle.art_arena.specs.arena.Shapes.{key_of, LeafAt};
 ghost use Rattle.art_operations.specs.Insertions.{HandsPairBack};
-ghost use Rattle.art_operations.specs.KeyedLists.{IsBlocked};
+ghost use Rattle.art_operations.specs.KeyedLists.{HasKey, IsBlocked};
 ghost use Rattle.art_operations.specs.LeafCursors.{HasInserted, HasMoved, HasPutIn, HasRemoved, KeepsCells};
-ghost use Rattle.art_operations.specs.LeafCursors.{KeepsInnerRoom, StandsInList, StandsBelow, StandsBetween};
+ghost use Rattle.art_operations.specs.LeafCursors.{KeepsInnerRoom, StandsAtPlace, StandsInList, StandsBelow};
+ghost use Rattle.art_operations.specs.LeafCursors.{StandsBetween};
 ghost use Rattle.art_operations.specs.LeafNames.{HasLeavesOf};
 ghost use Rattle.art_operations.specs.Pairs.{HasPairs};
 ghost use Rattle.art_operations.specs.Whichever.{HasSome, OfEach};
@@ -72,6 +73,7 @@ pub(crate) fn store_last<K, V, const PREFIX_LEN: usize>(
     ensures handed_back { HandsPairBack key value result }
     ensures succeeds { HasRoomOf arena.old Leaf 1 → IsOk result }
     ensures room_of { UsesRoomOf Leaf arena.old arena.new }
+    ensures kept_room { OnErr result (KeepsRoomOf arena.old arena.new) }
 {
     let before = last;
     let cursor = LeafCursor {
@@ -200,6 +202,7 @@ impl LeafCursor {
         ensures handed_back { HandsPairBack key value result }
         ensures succeeds { HasRoomOf arena.old Leaf 1 → IsOk result }
         ensures room_of { UsesRoomOf Leaf arena.old arena.new }
+        ensures kept_room { OnErr result (KeepsRoomOf arena.old arena.new) }
     {
         let mut node = LeafNode::with_no_siblings(key, value);
         node.set_previous(self.before);
@@ -230,6 +233,7 @@ impl LeafCursor {
         ensures handed_back { HandsPairBack key value result }
         ensures succeeds { HasRoomOf arena.old Leaf 1 → IsOk result }
         ensures room_of { UsesRoomOf Leaf arena.old arena.new }
+        ensures kept_room { OnErr result (KeepsRoomOf arena.old arena.new) }
     {
         let leaf = self.store(arena, key, value)?;
         self.lead_to(arena, Some(leaf));
@@ -316,8 +320,9 @@ impl LeafCursor {
     ///
     /// Pairs whose keys ascend are put in by one walk along the list.
     ///
-    /// Fails if out of memory for a leaf. The error returns the pair, and no node changed. The cursor may have gone on
-    /// over leaves with lesser keys.
+    /// A stored key never fails, and takes no room. Another fails if out of memory for a leaf. The error returns the
+    /// pair, and no node changed. The cursor stands at the place of the key then, among the same pairs: it has gone on
+    /// over the leaves with lesser keys. So the same call may follow.
     pub fn put<K: AsBytes, V, const PREFIX_LEN: usize>(
         &mut self,
         arena: &mut NodeArena<K, V, PREFIX_LEN>,
@@ -332,9 +337,18 @@ impl LeafCursor {
             → HasPutIn arena.new self.new K.bytes key value old pairs) }
         ensures names { OnOk result (HasLeavesOf K.bytes arena.new arena.old) }
         ensures err { OnErr result (SameNodes arena.old arena.new) }
+        ensures left { OnErr result ((pairs : List (K × V))
+            → StandsBelow arena.old self.old K.bytes pairs (K.bytes key)
+            → (IsBlocked (key_of K.bytes) (K.bytes key) pairs → ⊥)
+            → StandsAtPlace arena.new self.new K.bytes pairs (K.bytes key)) }
         ensures handed_back { HandsPairBack key value result }
         ensures succeeds { HasRoomOf arena.old Leaf 1 → IsOk result }
+        ensures stored { (pairs : List (K × V)) → StandsBelow arena.old self.old K.bytes pairs (K.bytes key)
+            → HasKey (key_of K.bytes) (K.bytes key) pairs → IsOk result }
         ensures room_of { UsesRoomOf Leaf arena.old arena.new }
+        ensures kept_room { OnErr result (KeepsRoomOf arena.old arena.new) }
+        ensures stored_room { (pairs : List (K × V)) → StandsBelow arena.old self.old K.bytes pairs (K.bytes key)
+            → HasKey (key_of K.bytes) (K.bytes key) pairs → KeepsRoomOf arena.old arena.new }
     {
         match self.pass(arena, key.as_bytes()) {
             Some(leaf) => Ok(Some(self.replace(arena, leaf, key, value))),

@@ -23,6 +23,10 @@ pub record HasPlaces (spine : Spine) (more : ℕ) : Type 0 where
   pub stack : length spine.stack.items + more ≤ vec_capacity spine.stack
   pub children : length spine.children.items + more ≤ vec_capacity spine.children
 
+-- there is room for the inner nodes over so many leaves and over the children that are noted
+abbrev pub HasNodeRoom : {K V : Type 0} → Arena K V → Spine → ℕ → Type 0
+HasNodeRoom arena spine more = HasInnerRoom arena (length spine.children.items + more)
+
 -- there are places, and room for the inner nodes over these leaves and over the children that are noted
 pub record HasSpineRoom {K V : Type 0} (arena : Arena K V) (spine : Spine) (more : ℕ) : Type 0 where
   pub places : HasPlaces spine more

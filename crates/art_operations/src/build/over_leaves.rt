@@ -1,14 +1,14 @@
 //! The inner nodes of a tree that are made anew over its leaves, which stand linked in their arena. It is the walk of a
 //! builder, but the leaves are there already.
-ghost use Rattle.std.specs.Prelude.{◌≡◌, ◌+◌, ◌^◌, ◌<◌, ◌≤◌, ℕ, suc, List, [], length, Some, OnOk, IfOk};
+ghost use Rattle.std.specs.Prelude.{◌≡◌, ◌+◌, ◌-◌, ◌^◌, ◌<◌, ◌≤◌, ℕ, suc, List, [], length, Some, OnOk, IfOk};
 ghost use Rattle.art_bytes.specs.Keys.{IsBefore};
 ghost use Rattle.art_arena.specs.arena.Arena.{KeepsRoomOf, SameNodes};
 ghost use Rattle.art_arena.specs.arena.Rooms.{SameLeaves};
 ghost use Rattle.art_arena.specs.arena.Shapes.{LeafAt, pairs_of};
 ghost use Rattle.art_operations.specs.Meetings.{PartAt};
 ghost use Rattle.art_operations.specs.Pairs.{HasPairs};
-ghost use Rattle.art_operations.specs.Rebuilds.{HasInnerRoom, HoldsInOrder};
-ghost use Rattle.art_operations.specs.inner.Rebuilding.{CanPass, HasSpineRoom, IsFresh, RebuildsUpTo};
+ghost use Rattle.art_operations.specs.Rebuilds.{HasInnerRoom, HoldsInOrder, KeepsLeafRoom};
+ghost use Rattle.art_operations.specs.inner.Rebuilding.{CanPass, HasNodeRoom, HasSpineRoom, IsFresh, RebuildsUpTo};
 ghost use Rattle.art_operations.specs.inner.Spines.{IsEmptySpine};
 ghost use Rattle.art_operations.specs.Whichever.{HasSome, OfEach};
 
@@ -127,6 +127,8 @@ fn pass_to<K: AsBytes, V, const PREFIX_LEN: usize>(
         (RebuildsUpTo K.bytes PREFIX_LEN arena.new spine.new next) }
     ensures leaves { SameLeaves arena.old arena.new }
     ensures room { (more : ℕ) → HasSpineRoom arena.old spine.old (suc more) → HasSpineRoom arena.new spine.new more }
+    ensures nodes { (more : ℕ) → HasNodeRoom arena.old spine.old (suc more) → HasNodeRoom arena.new spine.new more }
+    ensures leaf_room { KeepsLeafRoom arena.old arena.new }
 {
     let parted = parting(
         arena.as_key_ref(last).as_bytes(),
@@ -149,6 +151,10 @@ fn pass_all<K: AsBytes, V, const PREFIX_LEN: usize>(
         → RebuildsUpTo K.bytes PREFIX_LEN arena.new spine.new result [] ls }
     ensures leaves { SameLeaves arena.old arena.new }
     ensures room { HasSpineRoom arena.new spine.new 1 }
+    ensures nodes { (ls : List (LeafAt K V)) → HoldsInOrder K.bytes arena.old (Some first) ls → length ls ≤ leaves
+        → (more : ℕ) → HasNodeRoom arena.old spine.old (length ls + more)
+        → HasNodeRoom arena.new spine.new (suc more) }
+    ensures leaf_room { KeepsLeafRoom arena.old arena.new }
 {
     let mut last = first;
     let mut left = leaves;
@@ -166,6 +172,7 @@ fn pass_all<K: AsBytes, V, const PREFIX_LEN: usize>(
 /// It returns the name of the root, or `None` if there is no leaf. No leaf moves, and none is linked anew.
 ///
 /// The caller allocated room for as many leaves or more, by `SpineRoom::new`. So it never fails, and allocates nothing.
+/// Of the room for inner nodes it takes that of a tree of these leaves, and room for leaves stays.
 pub fn rebuild<K: AsBytes, V, const PREFIX_LEN: usize>(
     arena: &mut NodeArena<K, V, PREFIX_LEN>,
     room: SpineRoom,
@@ -176,6 +183,9 @@ pub fn rebuild<K: AsBytes, V, const PREFIX_LEN: usize>(
     ensures tree { (ls : List (LeafAt K V)) → HoldsInOrder K.bytes arena.old first ls
         → HasPairs K.bytes PREFIX_LEN arena.new result (pairs_of ls) }
     ensures leaves { SameLeaves arena.old arena.new }
+    ensures inner_room { (ls : List (LeafAt K V)) → HoldsInOrder K.bytes arena.old first ls → length ls ≤ room
+        → (more : ℕ) → HasInnerRoom arena.old (length ls - 1 + more) → HasInnerRoom arena.new more }
+    ensures leaf_room { KeepsLeafRoom arena.old arena.new }
 {
     let Some(start) = first else {
         return None;

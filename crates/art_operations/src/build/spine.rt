@@ -7,8 +7,8 @@ ghost use Rattle.art_arena.specs.arena.Arena.{HasRoomOf, KeepsRoomOf, SameNodes}
 ghost use Rattle.art_arena.specs.arena.Rooms.{SameLeaves};
 ghost use Rattle.art_arena.specs.arena.Shapes.{LeafAt};
 ghost use Rattle.art_arena.specs.arena.Cells.{Cell, leaf_name};
-ghost use Rattle.art_operations.specs.Rebuilds.{HasInnerRoom};
-ghost use Rattle.art_operations.specs.inner.Rebuilding.{CanPassAt, HasPlaces, HasSpineRoom, RebuildsUpTo};
+ghost use Rattle.art_operations.specs.Rebuilds.{HasInnerRoom, KeepsLeafRoom};
+ghost use Rattle.art_operations.specs.inner.Rebuilding.{CanPassAt, HasNodeRoom, HasPlaces, HasSpineRoom, RebuildsUpTo};
 ghost use Rattle.art_operations.specs.inner.Spines.{begin_of, AddsChild, OpensAt, IsEmptySpine, HasSpine};
 ghost use Rattle.art_operations.specs.inner.Unmade.{HasRoomAround};
 ghost use Rattle.art_operations.specs.Whichever.{HasSome, OfEach};
@@ -177,6 +177,9 @@ fn close_top<K: AsBytes, V, const PREFIX_LEN: usize>(
         → HasSpineRoom arena.new spine.new (suc more)) }
     ensures around { OnOk result ((n : ℕ) → HasRoomAround arena.old spine.old n
         → HasRoomAround arena.new spine.new n) }
+    ensures nodes { OnOk result ((more : ℕ) → HasNodeRoom arena.old spine.old (suc more)
+        → HasNodeRoom arena.new spine.new (suc more)) }
+    ensures leaf_room { OnOk result (KeepsLeafRoom arena.old arena.new) }
 {
     let Some(top) = spine.stack.pop() else {
         unreachable!();
@@ -214,6 +217,9 @@ pub(super) fn close_from<K: AsBytes, V, const PREFIX_LEN: usize>(
         → HasSpineRoom arena.new spine.new (suc more)) }
     ensures around { OnOk result ((n : ℕ) → HasRoomAround arena.old spine.old n
         → HasRoomAround arena.new spine.new n) }
+    ensures nodes { OnOk result ((more : ℕ) → HasNodeRoom arena.old spine.old (suc more)
+        → HasNodeRoom arena.new spine.new (suc more)) }
+    ensures leaf_room { OnOk result (KeepsLeafRoom arena.old arena.new) }
 {
     let mut part = start;
     'close: loop {
@@ -244,6 +250,9 @@ pub(super) fn close<K: AsBytes, V, const PREFIX_LEN: usize>(
         → HasSpineRoom arena.new spine.new (suc more)) }
     ensures around { OnOk result ((n : ℕ) → HasRoomAround arena.old spine.old n
         → HasRoomAround arena.new spine.new n) }
+    ensures nodes { OnOk result ((more : ℕ) → HasNodeRoom arena.old spine.old (suc more)
+        → HasNodeRoom arena.new spine.new (suc more)) }
+    ensures leaf_room { OnOk result (KeepsLeafRoom arena.old arena.new) }
 {
     close_from(arena, spine, last, low, last.to_opaque())
 }
@@ -266,6 +275,8 @@ pub(super) fn pass_at<K: AsBytes, V, const PREFIX_LEN: usize>(
     ensures leaves { SameLeaves arena.old arena.new }
     ensures room { (more : ℕ) → HasSpineRoom arena.old spine.old (suc more) → HasSpineRoom arena.new spine.new more }
     ensures around { (n : ℕ) → HasRoomAround arena.old spine.old (suc n) → HasRoomAround arena.new spine.new n }
+    ensures nodes { (more : ℕ) → HasNodeRoom arena.old spine.old (suc more) → HasNodeRoom arena.new spine.new more }
+    ensures leaf_room { KeepsLeafRoom arena.old arena.new }
 {
     let behind = parted.matched + 1;
     let Ok(part) = close(arena, spine, last, behind) else {

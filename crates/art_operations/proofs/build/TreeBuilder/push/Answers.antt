@@ -11,7 +11,7 @@ use Rattle.art_operations.proofs.InnerRooms.{beside-leaf}
 use Rattle.art_operations.proofs.LeafNames.{same-names}
 use Rattle.art_operations.proofs.PassedLeaves.{failed}
 use Rattle.art_operations.proofs.Pushed.{can-at as last-can, list-to, passed-on, refused-builds, same-leaves-names, stored-names}
-use Rattle.art_operations.proofs.Unmade.{around-fewer, around-leaf, leaf-room}
+use Rattle.art_operations.proofs.Unmade.{around-fewer, around-leaf, fewer-room, leaf-room}
 use Rattle.art_operations.proofs.build.TreeBuilder.push.Goals as goal
 use Rattle.art_operations.proofs.build.TreeBuilder.push.Goals.{After-make_room, After-meet-met}
 
@@ -49,6 +49,9 @@ returns-in_default-met g c = record {
   uses = tt;
   room = λ n room. around-fewer c.args.arena.now c.args.self.now.spine n (n + 2) (omega arith) room;
   kept_room = λ n some room. room;
+  kept_places = λ n places. places;
+  room_of = λ kind n room. room;
+  leaf_room = λ n room. fewer-room c.args.arena.now Leaf n (n + 1) (omega arith) room;
 }
   where
     apart : (pairs : List (g.row.K.Denot × g.row.V.Denot)) → Builds g.K.AsBytes.bytes g.row.PREFIX_LEN c.args.arena.now c.args.self.now pairs → GoesBehind g.K.AsBytes.bytes (g.K.AsBytes.bytes c.args.key) pairs → ⊥
@@ -192,3 +195,27 @@ returns-in-Err-clause-room g c = λ n room.
 pub returns-in-Err-clause-with_room : goal.returns-in-Err-clause-with_room
 returns-in-Err-clause-with_room g c = λ places leaf pairs builds behind.
     absurd (failed c.store_last.result _ c.in-Err.is (c.store_last.ensures.succeeds (c.make_room.ensures.room_of Leaf 1 leaf)))
+
+pub returns-then-parted-clause-leaf_room : goal.returns-then-parted-clause-leaf_room
+returns-then-parted-clause-leaf_room g c = λ n room. fewer-room c.args.arena.now Leaf n (n + 1) (omega arith) room
+
+pub returns-in_default-make_room-clause-kept_places : goal.returns-in_default-make_room-clause-kept_places
+returns-in_default-make_room-clause-kept_places g c = λ n places. c.make_room.ensures.kept_room n places
+
+pub returns-in_default-make_room-clause-room_of : goal.returns-in_default-make_room-clause-room_of
+returns-in_default-make_room-clause-room_of g c = λ kind n room. c.make_room.ensures.room_of kind n room
+
+pub returns-in_default-make_room-clause-leaf_room : goal.returns-in_default-make_room-clause-leaf_room
+returns-in_default-make_room-clause-leaf_room g c = λ n room. fewer-room c.make_room.new.arena Leaf n (n + 1) (omega arith) (c.make_room.ensures.room_of Leaf (n + 1) room)
+
+pub returns-in-Err-clause-kept_places : goal.returns-in-Err-clause-kept_places
+returns-in-Err-clause-kept_places g c = λ n places. c.make_room.ensures.kept_room n places
+
+pub returns-in-Err-clause-room_of : goal.returns-in-Err-clause-room_of
+returns-in-Err-clause-room_of g c = λ kind n room. c.in-Err.ensures.kept_room kind n (c.make_room.ensures.room_of kind n room)
+
+pub returns-in-Err-clause-leaf_room : goal.returns-in-Err-clause-leaf_room
+returns-in-Err-clause-leaf_room g c = λ n room. c.store_last.ensures.room_of.own n (c.make_room.ensures.room_of Leaf (n + 1) room)
+
+pub returns-in-Ok-store_last-clause-leaf_room : goal.returns-in-Ok-store_last-clause-leaf_room
+returns-in-Ok-store_last-clause-leaf_room g c = λ n room. c.pass_at.ensures.leaf_room n (c.store_last.ensures.room_of.own n (c.make_room.ensures.room_of Leaf (n + 1) room))

@@ -1,6 +1,8 @@
-use Rattle.std.proofs.Common.{◌-◌, suc, Some, sym, ◌∙◌, refl, arith, lit<}
+use Rattle.std.proofs.Common.{◌-◌, suc, List, length, Some, ap, sym, subst, ◌∙◌, refl, arith, lit<}
+use Rattle.art_arena.proofs.Common.{LeafAt}
+use Rattle.art_operations.proofs.Terms.{HasNodeRoom}
 use Rattle.art_operations.proofs.InnerRooms.{fewer-to-come}
-use Rattle.art_operations.proofs.PassedLeaves.{all-passed, can-pass, one-passed, starts}
+use Rattle.art_operations.proofs.PassedLeaves.{all-passed, can-pass, few-left, follows, none-left, one-passed, starts}
 use Rattle.art_operations.proofs.Rebuilding.{last-is-held}
 use Rattle.art_operations.proofs.build.over_leaves.pass_all.Goals as goal
 
@@ -9,6 +11,9 @@ walk-init g c = record {
   passed = λ ls order. starts g.K.AsBytes.bytes g.row.PREFIX_LEN c.args.arena.now c.args.spine.now c.args.first c.args.leaves ls c.requires.empty order;
   leaves = λ slot. refl;
   room = c.requires.room;
+  within = omega arith;
+  nodes = λ more room. subst (HasNodeRoom c.args.arena.now c.args.spine.now) (omega arith) room;
+  leaf_room = λ n room. room;
 }
 
 pub as_ref-requires : goal.as_ref-requires
@@ -25,15 +30,25 @@ returns-in_default-clause-passed g c = λ ls order.
 pub returns-in_default-clause-room : goal.returns-in_default-clause-room
 returns-in_default-clause-room g c =
     let r = c.requires.order in
-    let few = (c.walk.invariant.passed r.0 r.1).few r.2 in
+    let few = few-left g.K.AsBytes.bytes g.row.PREFIX_LEN c.walk.arena c.walk.spine c.walk.last c.walk.left c.args.leaves r.0 (c.walk.invariant.passed r.0 r.1) r.2 in
     fewer-to-come c.walk.arena c.walk.spine 1 c.walk.left (omega (arith, few)) c.walk.invariant.room
+
+pub returns-in_default-clause-nodes : goal.returns-in_default-clause-nodes
+returns-in_default-clause-nodes g c = λ ls order most more room.
+    let are = c.walk.invariant.passed ls order in
+    let all = none-left g.K.AsBytes.bytes g.row.PREFIX_LEN are.rest (sym (follows g.K.AsBytes.bytes g.row.PREFIX_LEN c.args.arena.now c.walk.arena c.walk.spine c.walk.last c.walk.left c.args.leaves (Some c.args.first) ls order c.walk.invariant.leaves are c.as_ref.result.now c.as_ref.ensures)
+    ∙ (sym c.next.ensures ∙ c.in_default.is)) in
+    let none = ap (λ (rest : List (LeafAt g.row.K.Denot g.row.V.Denot)). length rest) all in
+    let count = are.count most in
+    let within = c.walk.invariant.within in
+    c.walk.invariant.nodes (suc more) (subst (HasNodeRoom c.args.arena.now c.args.spine.now) (omega (arith, none, count, within)) room)
 
 pub pass_to-requires : goal.pass_to-requires
 pass_to-requires g c =
     let r = c.requires.order in
     let are = c.walk.invariant.passed r.0 r.1 in
     let some = sym c.next.ensures ∙ c.in-Some.is in
-    let few = are.few r.2 in (
+    let few = few-left g.K.AsBytes.bytes g.row.PREFIX_LEN c.walk.arena c.walk.spine c.walk.last c.walk.left c.args.leaves r.0 are r.2 in (
       omega arith,
       (
         (
@@ -48,7 +63,7 @@ pass_to-requires g c =
 pub walk-preserved : goal.walk-preserved
 walk-preserved g c =
     let r = c.requires.order in
-    let few = (c.walk.invariant.passed r.0 r.1).few r.2 in
+    let few = few-left g.K.AsBytes.bytes g.row.PREFIX_LEN c.walk.arena c.walk.spine c.walk.last c.walk.left c.args.leaves r.0 (c.walk.invariant.passed r.0 r.1) r.2 in
     record {
       passed = λ ls order.
           let are = c.walk.invariant.passed ls order in
@@ -58,10 +73,15 @@ walk-preserved g c =
           c.pass_to.new.arena c.pass_to.new.spine (c.walk.left - 1) (c.pass_to.ensures.passes _ ls can) refl;
       leaves = λ slot. c.pass_to.ensures.leaves slot ∙ c.walk.invariant.leaves slot;
       room = c.pass_to.ensures.room (c.walk.left - 1) (fewer-to-come c.walk.arena c.walk.spine (suc (c.walk.left - 1)) c.walk.left (omega (arith, few)) c.walk.invariant.room);
+      within = let within = c.walk.invariant.within in omega (arith, within);
+      nodes = λ more room.
+          let within = c.walk.invariant.within in
+          c.pass_to.ensures.nodes more (c.walk.invariant.nodes (suc more) (subst (HasNodeRoom c.args.arena.now c.args.spine.now) (omega (arith, few, within)) room));
+      leaf_room = λ n room. c.pass_to.ensures.leaf_room n (c.walk.invariant.leaf_room n room);
     }
 
 pub walk-smaller : goal.walk-smaller
 walk-smaller g c =
     let r = c.requires.order in
-    let few = (c.walk.invariant.passed r.0 r.1).few r.2 in
+    let few = few-left g.K.AsBytes.bytes g.row.PREFIX_LEN c.walk.arena c.walk.spine c.walk.last c.walk.left c.args.leaves r.0 (c.walk.invariant.passed r.0 r.1) r.2 in
     omega (arith, few)

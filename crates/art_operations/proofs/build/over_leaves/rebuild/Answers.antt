@@ -1,7 +1,7 @@
-use Rattle.std.proofs.Common.{◌≤◌, length, [], Some, sym, subst, arith}
+use Rattle.std.proofs.Common.{◌+◌, ◌-◌, ◌≤◌, length, [], Some, sym, ap, subst, arith}
 use Rattle.art_operations.proofs.Terms.{HasInnerRoom, HoldsInOrder}
-use Rattle.art_operations.proofs.InnerRooms.{fresh-room}
-use Rattle.art_operations.proofs.PassedLeaves.{never, none-rebuilt, rebuilt}
+use Rattle.art_operations.proofs.InnerRooms.{fewer-leaves, fresh-room, made-all}
+use Rattle.art_operations.proofs.PassedLeaves.{never, none-rebuilt, rebuilt, some-left}
 use Rattle.art_operations.proofs.Rebuilding.{last-stands}
 use Rattle.art_operations.proofs.build.over_leaves.rebuild.Goals as goal
 
@@ -35,3 +35,18 @@ returns-clause-tree g c = λ ls order.
     let up = c.pass_all-last.ensures.passed ls here in
     rebuilt g.K.AsBytes.bytes g.row.PREFIX_LEN c.args.arena.now c.pass_all-last.new.arena c.close.new.arena c.pass_all-last.new.spine c.close.new.spine (Some c.in-Some.start) c.pass_all-last.result c.in-Ok.root ls here up
     (c.in-Ok.ensures.ok [] _ _ (last-stands g.K.AsBytes.bytes g.row.PREFIX_LEN c.pass_all-last.new.arena c.pass_all-last.new.spine c.pass_all-last.result [] ls up 0)) c.in-Ok.ensures.closed c.pass_all-last.ensures.leaves c.in-Ok.ensures.leaves
+
+pub returns-in_default-clause-inner_room : goal.returns-in_default-clause-inner_room
+returns-in_default-clause-inner_room g c = λ ls order most more room. fewer-leaves c.args.arena.now more (length ls - 1 + more) (omega arith) room
+
+pub returns-clause-inner_room : goal.returns-clause-inner_room
+returns-clause-inner_room g c = λ ls order most more room.
+    let here = subst (λ f. HoldsInOrder g.K.AsBytes.bytes c.args.arena.now f ls) c.in-Some.is order in
+    let start = some-left g.K.AsBytes.bytes g.row.PREFIX_LEN ls c.in-Some.start here.first_is in
+    let long = ap length start.is in
+    let view = c.room.view_is in
+    let passed = c.pass_all-last.ensures.nodes ls here (subst (λ n. length ls ≤ n) (sym view) most) in
+    made-all c.args.arena.now c.pass_all-last.new.arena c.close.new.arena c.room.inside.spine c.pass_all-last.new.spine c.close.new.spine (length ls) c.room.invariant.empty (omega (arith, long)) passed c.in-Ok.ensures.nodes more room
+
+pub returns-clause-leaf_room : goal.returns-clause-leaf_room
+returns-clause-leaf_room g c = λ n room. c.in-Ok.ensures.leaf_room n (c.pass_all-last.ensures.leaf_room n room)

@@ -1,19 +1,16 @@
-use Rattle.std.proofs.Common.{◌≡◌, ◌+◌, ◌<◌, ◌≤◌, ◌∷◌, [], ◌++◌, List, length, length-append, suc, Result, OnErr, IsSome, refl, sym, ap, ap₂, subst, ◌∙◌, arith, lit<, ℕ, Ok, Err}
+use Rattle.std.proofs.Common.{◌≡◌, ◌+◌, ◌<◌, ◌≤◌, ◌∷◌, [], ◌++◌, List, length, length-append, suc, IsSome, refl, sym, ap, ap₂, subst, ◌∙◌, arith, lit<, ℕ}
 use Rattle.art_nodes.proofs.Common.{IsAscending, Name}
 use Rattle.art_arena.proofs.Common.{IsKindOf, LeafAt, leaf_name}
 use Rattle.art_operations.proofs.Terms.{HasSpineRoom, Open, begin_of}
 use Rattle.art_operations.specs.inner.Reopening.{OpensTo}
 use Rattle.art_operations.proofs.OpenRooms.{around-opened}
+use Rattle.art_operations.proofs.PassedLeaves.{on-err}
 use Rattle.art_operations.proofs.PutBack.{same_inner}
 use Rattle.art_operations.proofs.Reopening.{inner, opened-room, opens-child, opens-same, seen-inside, seen-kind, seen-room, seen-two}
 use Rattle.art_operations.proofs.Spines.{begin-behind}
 use Rattle.art_operations.proofs.Unmade.{around-same}
 use Rattle.art_operations.proofs.build.reopen.open_top.Goals as goal
 use Rattle.art_operations.proofs.build.reopen.open_top.Goals.{After-prefix_len}
-
-on-err : {A E : Type 0} (r : Result A E) (Then : Type 0) → Then → OnErr r Then
-on-err (Ok x) Then so = tt
-on-err (Err e) Then so = so
 
 -- what was read of the node
 module _ (g : _) (c : After-prefix_len g) where

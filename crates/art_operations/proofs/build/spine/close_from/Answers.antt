@@ -19,6 +19,8 @@ close-preserved g c = record {
   stands = λ rest key ls has. c.in_ok-part.ensures.ok rest key ls (c.close.invariant.stands rest key ls has);
   room = λ more room. c.in_ok-part.ensures.room more (c.close.invariant.room more room);
   around = λ n room. c.in_ok-part.ensures.around n (c.close.invariant.around n room);
+  nodes = λ more room. c.in_ok-part.ensures.nodes more (c.close.invariant.nodes more room);
+  leaf_room = λ n room. c.in_ok-part.ensures.leaf_room n (c.close.invariant.leaf_room n room);
   leaves = λ slot. c.in_ok-part.ensures.leaves slot ∙ c.close.invariant.leaves slot;
 }
 

@@ -3,10 +3,11 @@ use Rattle.std.proofs.lemmas.List.{take_all, length-drop}
 use Rattle.std.proofs.lemmas.List.Elements.{All-get_or}
 use Rattle.art_arena.proofs.Common.{inner_held, Allocates, Cell, LeafAt, IsKindOf}
 use Rattle.art_nodes.proofs.Common.{IsAscending, Name}
+use Rattle.art_nodes.specs.declared.kind.NodeType.TheVariants.{Leaf}
 use Rattle.art_operations.proofs.Terms.{HasInnerRoom, HasSpine, begin_of, inner_over}
 use Rattle.art_operations.proofs.Closing.{inside, from-before, own, own-children, own-ascending, own-two, other-children, all-count, left-count, closed}
-use Rattle.art_operations.proofs.InnerRooms.{closed-room}
-use Rattle.art_operations.proofs.Unmade.{around-closed}
+use Rattle.art_operations.proofs.InnerRooms.{closed-nodes, closed-room}
+use Rattle.art_operations.proofs.Unmade.{around-closed, not-leaf}
 use Rattle.art_operations.proofs.build.spine.close_top.Goals as goal
 use Rattle.art_operations.proofs.build.spine.close_top.Goals.{After-as_slice}
 
@@ -93,6 +94,24 @@ returns-clause-room g c = λ more room.
     closed-room c.args.arena.now c.store_over.new.arena c.args.spine.now (record { stack = c.pop.new.self; children = c.truncate.new.self }) c.in-Some.top.first (length own_list) more
     (subst (λ n. (k : ℕ) → HasInnerRoom c.args.arena.now (n + k) → HasInnerRoom c.store_over.new.arena (suc k)) own_is c.in_ok-node.ensures.room)
     (omega (arith, two)) count (omega (arith, popped)) left (omega arith) (omega arith) room
+
+pub returns-clause-nodes : goal.returns-clause-nodes
+returns-clause-nodes g c = λ more room.
+    let d = (goal.at.returns-clause-nodes g c).After-as_slice in
+    let r = c.requires.stands in
+    let has = r.1.2 in
+    let own_is = ap (λ (cs : List (ℕ × Name)). length cs) (children-read g d r.0 r.1.0 r.1.1 has) in
+    let own_list = own g.K.AsBytes.bytes g.row.PREFIX_LEN c.args.arena.now c.args.spine.now r.0 c.args.last c.args.low c.args.part r.1.0 r.1.1 has c.pop.new.self.items c.in-Some.top c.in-Some.ensures.items c.requires.above (byte g d r.0 r.1.0 r.1.1 has) (byte-is g d r.0 r.1.0 r.1.1 has) (byte-fits g d r.0 r.1.0 r.1.1 has) in
+    let count = all-count g.K.AsBytes.bytes g.row.PREFIX_LEN c.args.arena.now c.args.spine.now r.0 c.args.last c.args.low c.args.part r.1.0 r.1.1 has c.pop.new.self.items c.in-Some.top c.in-Some.ensures.items c.requires.above (byte g d r.0 r.1.0 r.1.1 has) (byte-is g d r.0 r.1.0 r.1.1 has) (byte-fits g d r.0 r.1.0 r.1.1 has) in
+    let left = left-count g.K.AsBytes.bytes g.row.PREFIX_LEN c.args.arena.now c.args.spine.now r.0 c.args.last c.args.low c.args.part r.1.0 r.1.1 has c.pop.new.self.items c.in-Some.top c.in-Some.ensures.items c.requires.above (byte g d r.0 r.1.0 r.1.1 has) (byte-is g d r.0 r.1.0 r.1.1 has) (byte-fits g d r.0 r.1.0 r.1.1 has)
+    (c.truncate.ensures.items ∙ ap (take c.in-Some.top.first) c.in-Ok.ensures.items) in
+    closed-nodes c.args.arena.now c.store_over.new.arena c.args.spine.now (record { stack = c.pop.new.self; children = c.truncate.new.self }) c.in-Some.top.first (length own_list) more
+    (subst (λ n. (k : ℕ) → HasInnerRoom c.args.arena.now (n + k) → HasInnerRoom c.store_over.new.arena (suc k)) own_is c.in_ok-node.ensures.room) count left room
+
+pub returns-clause-leaf_room : goal.returns-clause-leaf_room
+returns-clause-leaf_room g c = λ n room.
+    let kind = c.in_ok-node.node.kind in
+    (c.in_ok-node.ensures.uses kind c.in_ok-node.ensures.kind).others Leaf (not-leaf kind _ c.in_ok-node.ensures.kind) n room
 
 pub returns-clause-around : goal.returns-clause-around
 returns-clause-around g c = λ n room.

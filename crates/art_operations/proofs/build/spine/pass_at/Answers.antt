@@ -1,5 +1,5 @@
 use Rattle.std.proofs.Common.{◌+◌, suc, arith}
-use Rattle.art_operations.proofs.InnerRooms.{added-room}
+use Rattle.art_operations.proofs.InnerRooms.{added-nodes, added-room}
 use Rattle.art_operations.proofs.PassedLeaves.{never, passes}
 use Rattle.art_operations.proofs.Rebuilding.{last-stands}
 use Rattle.art_operations.proofs.Unmade.{around-added}
@@ -24,6 +24,10 @@ pub returns-clause-room : goal.returns-clause-room
 returns-clause-room g c = λ more room.
     let left = c.in-Ok.ensures.room more room in
     added-room c.close.new.arena c.close.new.spine c.add_child.new.self (c.args.parted.matched + 1) more (c.args.parted.old_byte, c.in-Ok.part) c.in-Ok-add_child.ensures.ok (c.in-Ok-add_child.ensures.places more left.places) left
+
+pub returns-clause-nodes : goal.returns-clause-nodes
+returns-clause-nodes g c = λ more room.
+    added-nodes c.close.new.arena c.close.new.spine c.add_child.new.self (c.args.parted.matched + 1) more (c.args.parted.old_byte, c.in-Ok.part) c.in-Ok-add_child.ensures.ok (c.in-Ok.ensures.nodes more room)
 
 pub returns-clause-around : goal.returns-clause-around
 returns-clause-around g c = λ n room.

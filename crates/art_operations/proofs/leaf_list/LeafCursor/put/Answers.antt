@@ -1,8 +1,12 @@
-use Rattle.std.proofs.Common.{◌+◌, ◌++◌, None, Some, refl, subst, arith}
+use Rattle.std.proofs.Common.{◌+◌, ◌++◌, List, None, Some, refl, sym, subst, arith}
+use Rattle.art_arena.proofs.Common.{key_of}
 use Rattle.art_nodes.specs.declared.kind.NodeType.TheVariants.{Leaf}
-use Rattle.art_operations.proofs.Terms.{HasPassed}
-use Rattle.art_operations.proofs.LeafListsPut.{found-after, found-key, kept-names, put-inserted, put-replaced, replaced-names}
+use Rattle.art_operations.proofs.Terms.{HasKey, HasPassed, StandsAtPlace, StandsBelow}
+use Rattle.art_operations.proofs.KeyedLists.{stored-free}
+use Rattle.art_operations.proofs.LeafListsPut.{found-after, found-key, kept-names, none-has, put-inserted, put-replaced, replaced-names, still-at}
+use Rattle.art_operations.proofs.PassedLeaves.{on-err}
 use Rattle.art_operations.proofs.leaf_list.LeafCursor.put.Goals as goal
+use Rattle.art_operations.proofs.leaf_list.LeafCursor.put.Goals.{In-None}
 
 pub pass-requires : goal.pass-requires
 pass-requires g c =
@@ -51,3 +55,33 @@ returns-in-Some-clause-room_of g c = record {
   own = λ n room. let kept = c.replace.ensures.room_of Leaf (n + 1) room in omega (arith, kept);
   others = λ kind other n room. c.replace.ensures.room_of kind n room;
 }
+
+-- a refusal leaves the cursor where it would have put the pair, and is for a key that isn't stored
+pub returns-in_err-insert-in-None-clause-left : goal.returns-in_err-insert-in-None-clause-left
+returns-in_err-insert-in-None-clause-left g c = on-err c.from_residual.result _ (λ pairs below free.
+    let among = below.among in
+    let pass = subst (λ b. HasPassed g.K.AsBytes.bytes b c.args.arena.now c.pass.new.self None among.front among.back) c.as_bytes.ensures.value (c.in-None.ensures.passed among.front among.back among.stands) in
+    let err = c.in_err-insert-in-None.ensures.err in
+    subst (λ s. StandsAtPlace c.insert.new.arena s g.K.AsBytes.bytes pairs (g.K.AsBytes.bytes c.args.key)) (sym err.1)
+    (still-at g.K.AsBytes.bytes c.args.arena.now c.args.self.now c.pass.new.self (g.K.AsBytes.bytes c.args.key) pairs among below.passed free None pass refl c.args.key c.args.value refl c.insert.new.arena err.0))
+
+module _ (g : _) (c : In-None g) where
+  not-stored : (pairs : List (g.row.K.Denot × g.row.V.Denot)) → StandsBelow c.args.arena.now c.args.self.now g.K.AsBytes.bytes pairs (g.K.AsBytes.bytes c.args.key) → HasKey (key_of g.K.AsBytes.bytes) (g.K.AsBytes.bytes c.args.key) pairs → ⊥
+  not-stored pairs below has =
+      let among = below.among in
+      let key = g.K.AsBytes.bytes c.args.key in
+      let pass = subst (λ b. HasPassed g.K.AsBytes.bytes b c.args.arena.now c.pass.new.self None among.front among.back) c.as_bytes.ensures.value (c.in-None.ensures.passed among.front among.back among.stands) in
+      let free = stored-free (key_of g.K.AsBytes.bytes) pairs among.ascends key has in
+      none-has g.K.AsBytes.bytes c.args.arena.now c.args.self.now c.pass.new.self key pairs among below.passed free None pass refl has
+
+pub returns-in_err-insert-in-None-clause-stored : goal.returns-in_err-insert-in-None-clause-stored
+returns-in_err-insert-in-None-clause-stored g c = λ pairs below has. absurd (not-stored g (goal.at.returns-in_err-insert-in-None-clause-stored g c).In-None pairs below has)
+
+pub returns-in_err-insert-in-None-clause-stored_room : goal.returns-in_err-insert-in-None-clause-stored_room
+returns-in_err-insert-in-None-clause-stored_room g c = λ pairs below has. absurd (not-stored g (goal.at.returns-in_err-insert-in-None-clause-stored_room g c).In-None pairs below has)
+
+pub returns-in_ok-insert-in-None-clause-stored_room : goal.returns-in_ok-insert-in-None-clause-stored_room
+returns-in_ok-insert-in-None-clause-stored_room g c = λ pairs below has. absurd (not-stored g (goal.at.returns-in_ok-insert-in-None-clause-stored_room g c).In-None pairs below has)
+
+pub returns-in-Some-clause-stored_room : goal.returns-in-Some-clause-stored_room
+returns-in-Some-clause-stored_room g c = λ pairs below has. c.replace.ensures.room_of
