@@ -10,7 +10,7 @@ from glob import glob
 ENGINE, PROGRAM, HOLDER = "crates/art_engine/src", "crates/art_index/src", "index.rt"
 LENT = {
     "readers.rt": "a reader of each map, for a look-up",
-    "upcoming/way_reader.rt": "a reader of a map, for what is read ahead",
+    "read_ahead/path_reader.rt": "a reader of a map, for what is read ahead",
     "change.rt": "the two that follow",
     "change/keys.rt": "a change of a record under a key",
     "change/numbers.rt": "a change of a record under a number",
@@ -20,16 +20,16 @@ LENT = {
     "maps.rt": "a test of maps that are to become an index",
 }
 # They have fields of such names, and no index.
-PARTS_SO_NAMED = {"readers.rt", "upcoming.rt"}
+PARTS_SO_NAMED = {"readers.rt", "read_ahead.rt"}
 # What only these files may have, and what it is.
 RULES = [
     (r"\bTreeMap\b", {HOLDER, *LENT}, "names a map"),
-    (r"\bNodeArena\b|\.nodes\(", {"upcoming/way_reader.rt"}, "names an arena"),
+    (r"\bNodeArena\b|\.nodes\(", {"read_ahead/path_reader.rt"}, "names an arena"),
     (r"\bself\s*\.(records|numbers)\b|\bindex\s*\.(records|numbers)\b", {HOLDER, *PARTS_SO_NAMED}, "takes a map of an index"),
     (r"\.(byte_map|number_map)\(", set(), "calls what lends a map to others"),
-    (r"\b(WayReader|MapReader)::new\(|\bReaders::of\(", {HOLDER}, "makes a reader"),
+    (r"\b(PathReader|MapReader|Readers)::new\(", {HOLDER}, "makes a reader"),
     (r"\.reader\(", {"readers.rt"}, "makes a reader"),
-    (r"\bstruct (Index|WayReader|Readers)\b[^{;]*\{[^}]*\bpub\b", set(), "shows a field that is to be hidden"),
+    (r"\bstruct (Index|PathReader|Readers)\b[^{;]*\{[^}]*\bpub\b", set(), "shows a field that is to be hidden"),
 ]
 # Wrong bodies: a file, a text that stands in it, and what takes its place. A rule refuses each.
 LOOKS = "        let visits = self.look_up(word, fields, sink)?;"
@@ -42,19 +42,19 @@ WRONG = {
     ),
     "makes a second reader": ("handling.rt", LOOKS, f"        let mut aside = self.number_map().reader();\n{LOOKS}"),
     "reads ahead by a reader of its own": (
-        "upcoming.rt",
+        "read_ahead.rt",
         "    let mut leaves = [None; LINES];",
-        "    let mut aside = WayReader::new(map);\n    let mut leaves = [None; LINES];",
+        "    let mut aside = PathReader::new(map);\n    let mut leaves = [None; LINES];",
     ),
     "is lent a map to read ahead": (
-        "upcoming.rt",
+        "read_ahead.rt",
         "        few: usize,\n",
         "        few: usize,\n        map: &TreeMap<Vec<u8>, Vec<u8>, PREFIX_LEN>,\n",
     ),
     "walks a map between two lines": (
         "running.rt",
-        "        index.read_ahead(upcoming, rest);",
-        "        let _all = index.byte_map().iter().count(); index.read_ahead(upcoming, rest);",
+        "        index.prefetch(read_ahead, rest);",
+        "        let _all = index.byte_map().iter().count(); index.prefetch(read_ahead, rest);",
     ),
     "shows the maps": (HOLDER, "    alloc: Global,\n    records:", "    alloc: Global,\n    pub(crate) records:"),
 }

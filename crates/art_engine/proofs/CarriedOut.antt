@@ -14,9 +14,9 @@ use Rattle.art_lines.specs.Reading.{command_of}
 use Rattle.art_engine.specs.declared.change.Changed.{Changed}
 use Rattle.art_engine.specs.declared.drop_tenant.Dropped.{Dropped}
 use Rattle.art_engine.specs.declared.survey.Survey.{Survey}
-use Rattle.art_engine.specs.Survey.{IsSurvey, survey_words, finds_no_memory}
-use Rattle.art_engine.specs.Dropped.{IsDropDone, dropped_words, was_refused, visits_told}
-use Rattle.art_engine.proofs.Terms.{AreRecords, IsLineAnswered, IsChangeDone, IsCutLine, IsShort, IsWithin, LineMayRefuse, MayRefuse, ReadsOwnPath, Records, State, changed_words, command_reply, exactly, found_no_memory, line_visits, visits_of}
+use Rattle.art_engine.specs.Survey.{IsSurvey, survey_words, survey_is_memory}
+use Rattle.art_engine.specs.Dropped.{IsDropDone, dropped_words, drop_is_memory, drop_visits}
+use Rattle.art_engine.proofs.Terms.{AreRecords, IsLineAnswered, IsChangeDone, IsCutLine, IsShort, IsWithin, LineMayRefuse, MayRefuse, ReadsOwnPath, Records, State, changed_words, command_reply, exactly, change_is_memory, line_visits, visits_of}
 use Rattle.art_engine.proofs.CutRuns.{cut_line}
 use Rattle.art_engine.proofs.Replies.{told_of, same_left, bad_told, bad_left, done_told, done_left, done_lawful, all_told, all_left, all_lawful, drop_told, drop_left, drop_lawful, drop_reads}
 use Rattle.art_engine.proofs.Families.{look_leaves, all_leaves}
@@ -61,10 +61,10 @@ module _ (line before after : List ℕ) (old new : State) where
       → after ≡ before ++ flat_map line_of (command_reply (Some (looks_up w f)) old.records)
       → IsWithin (visits_of (Some (looks_up w f)) old.records) visits → AreRecords old.records
       → new.reads ≡ old.reads ++ visits ∷ [] → new.records ≡ old.records → new.ahead ≡ old.ahead → IsLineAnswered false visits line old new before after
-  looked_up w f visits meant told within are counted same ahead =
+  looked_up w f visits meant output within are counted same ahead =
       let reads : IsWithin (line_visits false line old.records) visits = line_reads (Some (looks_up w f)) line old.records old.records visits meant refl within in
       record {
-        told = told ∙ ap (λ t. before ++ t) (told_of old.records old.records (looks_up w f) line meant refl);
+        output = output ∙ ap (λ t. before ++ t) (told_of old.records old.records (looks_up w f) line meant refl);
         left = same ∙ same_left old.records (looks_up w f) line meant (look_leaves f w old.records);
         lawful = λ e. absurd (false≢true e);
         within = reads;
@@ -81,11 +81,11 @@ module _ (line before after : List ℕ) (old new : State) where
       cut_line false old new line before after _ (told_of old.records old.records (looks_up w f) line meant refl) cut
       (same ∙ same_left old.records (looks_up w f) line meant (look_leaves f w old.records)) (λ e. absurd (false≢true e)) (counted, ahead)
 
-  module _ (d : Changed) (memory : Bool) (w : Change) (f : Fields) (meant : Some (changes w f) ≡ command_of line) (found : memory ≡ found_no_memory d)
+  module _ (d : Changed) (memory : Bool) (w : Change) (f : Fields) (meant : Some (changes w f) ≡ command_of line) (found : memory ≡ change_is_memory d)
       (h : IsChangeDone d (changes w f) old.records new.records) (ahead : new.ahead ≡ old.ahead) where
     pub changed : after ≡ before ++ line_of (changed_words d) → new.reads ≡ old.reads ++ 0 ∷ [] → IsLineAnswered memory 0 line old new before after
-    changed told counted = record {
-      told = told ∙ ap (λ t. before ++ t) (done_told d memory (changes w f) old.records old.records new.records line found refl meant h);
+    changed output counted = record {
+      output = output ∙ ap (λ t. before ++ t) (done_told d memory (changes w f) old.records old.records new.records line found refl meant h);
       left = done_left d memory (changes w f) old.records old.records new.records line found refl meant h;
       lawful = may_refuse old.records line (changes w f) memory meant (done_lawful d memory (changes w f) old.records old.records new.records line found refl meant h);
       within = none_read memory (Some (changes w f)) old.records line meant (change_reads w f old.records);
@@ -101,11 +101,11 @@ module _ (line before after : List ℕ) (old new : State) where
         (done_left d memory (changes w f) old.records old.records new.records line found refl meant h)
         (may_refuse old.records line (changes w f) memory meant (done_lawful d memory (changes w f) old.records old.records new.records line found refl meant h)) (counted, ahead)
 
-  module _ (d : Dropped) (memory : Bool) (f : Fields) (meant : Some (drops f) ≡ command_of line) (found : memory ≡ was_refused d)
+  module _ (d : Dropped) (memory : Bool) (f : Fields) (meant : Some (drops f) ≡ command_of line) (found : memory ≡ drop_is_memory d)
       (h : IsDropDone d (tenant_in_place f) old.records new.records) (ahead : new.ahead ≡ old.ahead) where
-    pub dropped : (visits : ℕ) → visits ≡ visits_told d → after ≡ before ++ line_of (dropped_words d) → new.reads ≡ old.reads ++ visits ∷ [] → IsLineAnswered memory visits line old new before after
-    dropped visits is told counted = record {
-      told = told ∙ ap (λ t. before ++ t) (drop_told d memory (tenant_in_place f) old.records old.records new.records line found refl meant h);
+    pub dropped : (visits : ℕ) → visits ≡ drop_visits d → after ≡ before ++ line_of (dropped_words d) → new.reads ≡ old.reads ++ visits ∷ [] → IsLineAnswered memory visits line old new before after
+    dropped visits is output counted = record {
+      output = output ∙ ap (λ t. before ++ t) (drop_told d memory (tenant_in_place f) old.records old.records new.records line found refl meant h);
       left = drop_left d memory (tenant_in_place f) old.records old.records new.records line found refl meant h;
       lawful = may_refuse old.records line (drops f) memory meant (drop_lawful d memory (tenant_in_place f) old.records old.records new.records line found refl meant h);
       within = drop_reads d memory (tenant_in_place f) old.records old.records new.records line found refl meant h visits is;
@@ -121,11 +121,11 @@ module _ (line before after : List ℕ) (old new : State) where
         (drop_left d memory (tenant_in_place f) old.records old.records new.records line found refl meant h)
         (may_refuse old.records line (drops f) memory meant (drop_lawful d memory (tenant_in_place f) old.records old.records new.records line found refl meant h)) (counted, ahead)
 
-  module _ (d : Survey) (memory : Bool) (w : Whole) (meant : Some (asks_all w) ≡ command_of line) (found : memory ≡ finds_no_memory d)
+  module _ (d : Survey) (memory : Bool) (w : Whole) (meant : Some (asks_all w) ≡ command_of line) (found : memory ≡ survey_is_memory d)
       (h : IsSurvey d (asks_all w) old.records) (same : new.records ≡ old.records) (ahead : new.ahead ≡ old.ahead) where
     pub surveyed : after ≡ before ++ flat_map line_of (survey_words d old.records) → new.reads ≡ old.reads ++ 0 ∷ [] → IsLineAnswered memory 0 line old new before after
-    surveyed told counted = record {
-      told = told ∙ ap (λ t. before ++ t) (all_told d memory (asks_all w) old.records old.records line found refl meant h);
+    surveyed output counted = record {
+      output = output ∙ ap (λ t. before ++ t) (all_told d memory (asks_all w) old.records old.records line found refl meant h);
       left = same ∙ all_left d memory (asks_all w) old.records old.records line found refl meant h (all_leaves w old.records);
       lawful = may_refuse old.records line (asks_all w) memory meant (all_lawful d memory (asks_all w) old.records old.records line found refl meant h);
       within = none_read memory (Some (asks_all w)) old.records line meant (all_read w old.records);
@@ -143,8 +143,8 @@ module _ (line before after : List ℕ) (old new : State) where
 
   module _ (none : command_of line ≡ None) (same : new.records ≡ old.records) (ahead : new.ahead ≡ old.ahead) where
     pub not_read : after ≡ before ++ line_of (name (codes "bad") ∷ []) → new.reads ≡ old.reads ++ 0 ∷ [] → IsLineAnswered false 0 line old new before after
-    not_read told counted = record {
-      told = told ∙ ap (λ t. before ++ t) (bad_told old.records line (sym none));
+    not_read output counted = record {
+      output = output ∙ ap (λ t. before ++ t) (bad_told old.records line (sym none));
       left = same ∙ bad_left old.records line (sym none);
       lawful = λ e. absurd (false≢true e);
       within = none_read false None old.records line (sym none) refl;

@@ -14,7 +14,7 @@ use Rattle.art_engine.proofs.RunLemmas.{outcome-none, outcome-more}
 
 pub carried_none : (start : State) (before : List ℕ) → Carried start start [] [] before before
 unfolding whole_lines_of unfinished_line_of
-carried_none start before = record { written = []; outcome = outcome-none start; told = sym (append-nil before); rest = refl }
+carried_none start before = record { written = []; outcome = outcome-none start; output = sym (append-nil before); rest = refl }
 
 -- A line that stands for another: as long as a command may be it is that line, and both spell nothing otherwise.
 pub record IsReadAs (held line : List ℕ) : Type 0 where
@@ -80,11 +80,11 @@ pub carried_line : (start now now' : State) (text part handled held held' before
     → Carried start now text held before taken → NoNewline part → IsReadAs handled (unfinished_line_of text ++ part)
     → IsLineDone memory now handled now' → taken' ≡ taken ++ answer memory now.records handled → held' ≡ []
     → Carried start now' (text ++ part ++ 10 ∷ []) held' before taken'
-carried_line start now now' text part handled held held' before taken taken' memory c none s d told empty = record {
+carried_line start now now' text part handled held held' before taken taken' memory c none s d output empty = record {
   written = c.written ++ answer memory now.records handled;
   outcome = subst (λ ls. IsOutcome start ls (c.written ++ answer memory now.records handled) now') (sym (whole_lines_of-line text part none))
       (goes_on start now now' text held before taken (unfinished_line_of text ++ part) handled c s memory d);
-  told = told ∙ ap (λ t. t ++ answer memory now.records handled) c.told ∙ append_assoc before c.written (answer memory now.records handled);
+  output = output ∙ ap (λ t. t ++ answer memory now.records handled) c.output ∙ append_assoc before c.written (answer memory now.records handled);
   rest = empty ∙ sym (ap (take 4097) (unfinished_line_of-newline (text ++ part)));
 }
 
@@ -100,10 +100,10 @@ take-take n xs ys = elim (cases_lt (length xs) n) [
 pub carried_part : (start now now' : State) (text part held held' before taken taken' : List ℕ)
     → Carried start now text held before taken → NoNewline part → now' ≡ now → held' ≡ take 4097 (held ++ part) → taken' ≡ taken
     → Carried start now' (text ++ part) held' before taken'
-carried_part start now now' text part held held' before taken taken' c none same longer told = record {
+carried_part start now now' text part held held' before taken taken' c none same longer output = record {
   written = c.written;
   outcome = rw (same, whole_lines_of-part text part none) c.outcome;
-  told = told ∙ c.told;
+  output = output ∙ c.output;
   rest = longer ∙ ap (λ t. take 4097 (t ++ part)) c.rest ∙ take-take 4097 (unfinished_line_of text) part ∙ sym (ap (take 4097) (unfinished_line_of-part text part none));
 }
 
@@ -126,7 +126,7 @@ put_together start now text held before taken part handled c same =
 pub closed : (l : List ℕ) → 0 < length l → filter (λ (line : List ℕ). nat_lt 0 (length line)) (l ∷ []) ≡ l ∷ []
 closed l some = rw (lt-ltb 0 (length l) some) refl
 
--- the end of the input, behind a line that no newline ends
+-- the end of the input, after a line that no newline ends
 pub outcome_last : (start now new : State) (text held before taken handled : List ℕ) (c : Carried start now text held before taken) → 0 < length held → handled ≡ held → (memory : Bool)
     → IsLineDone memory now handled new → IsOutcome start (lines_of text) (c.written ++ answer memory now.records handled) new
 outcome_last start now new text held before taken handled c some same memory d =
@@ -148,8 +148,8 @@ held_as_fits held part room fits within is =
 pub done_from : (memory : Bool) (first old new : State) (line : List ℕ) → old.records ≡ first.records → old.reads ≡ first.reads → old.ahead ≡ first.ahead
     → IsLineDone memory old line new → IsLineDone memory first line new
 done_from memory first old new line r e a d =
-    let s : IsLineDone memory (record { records = first.records; reads = first.reads; ahead = first.ahead; met = old.met }) line new =
-    subst (λ (t : State). IsLineDone memory t line new) (λ i. record { records = r i; reads = e i; ahead = a i; met = old.met }) d in
+    let s : IsLineDone memory (record { records = first.records; reads = first.reads; ahead = first.ahead; prefetched = old.prefetched }) line new =
+    subst (λ (t : State). IsLineDone memory t line new) (λ i. record { records = r i; reads = e i; ahead = a i; prefetched = old.prefetched }) d in
     record {
       lawful = s.lawful;
       left = s.left;

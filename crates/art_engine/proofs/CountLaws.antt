@@ -29,7 +29,7 @@ records_ascend (r ∷ rs) fits order = (before_all r rs fits.0 fits.1 order.0, r
 are_small : (records : Records) → AreRecords records → AllByRecursion IsOfTenant records.keys
 are_small records are = All-map KeyFits IsOfTenant (λ r fits. fits.tenant_fits) records.keys are.keys_fit
 
--- of a tenant's key behind a front, the full key is behind the front's
+-- of a tenant's key that begins with a prefix, the full key begins with the prefix's
 begins_fully : (t : ℕ) (j k : List ℕ) → BeginsWith j k → BeginsWith (full_key t j) (full_key t k)
 begins_fully t j k (s, e) = (s, ap (full_key t) e ∙ sym (append_assoc (to_be_bytes w32 t) j s))
 

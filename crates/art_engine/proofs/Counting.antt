@@ -68,10 +68,10 @@ module _ {X : Type 0} (key : X → List ℕ) (tenant_of : X → ℕ) (rest_of : 
       go : (b : Bool) → (tenant_of y == t) ≡ b → (IsIn x ys → IsIn x (mine ys)) → IsIn x (y ∷ ys) → IsIn x (cond b (y ∷ mine ys) (mine ys))
       go true e ih (inl same) = inl same
       go true e ih (inr later) = inr (ih later)
-      go false e ih (inl same) = absurd (let met : (tenant_of y == t) ≡ true = eq-eqb (tenant_of y) t (ap tenant_of same ∙ own) in cc)
+      go false e ih (inl same) = absurd (let prefetched : (tenant_of y == t) ≡ true = eq-eqb (tenant_of y) t (ap tenant_of same ∙ own) in cc)
       go false e ih (inr later) = ih later
 
-  -- the path of a key that goes on behind a stored one
+  -- the path of a key that goes on after a stored one
   path_in_tree : (xs : List X) → AscendsByKey key xs → (x : X) → IsIn x xs → (k : List ℕ) → BeginsWith (key x) k
       → (u : Tree X) × (tree_of key xs ≡ Some u) × IsCanonical key [] u × (items u ≡ xs) × (path_of u k ≡ path_of u (key x))
   path_in_tree [] order x i k begins = absurd i
@@ -105,8 +105,8 @@ module _ {X A : Type 0} (tenant_of : X → ℕ) (part : X → A × List ℕ) (t 
   abbrev pub IsFoundAmong : List X → Type 0
   IsFoundAmong xs = (x : X) × IsIn x xs × (tenant_of x ≡ t) × (T (part x).0 ≡ true)
 
-  behind : (x : X) (xs : List X) → IsFoundAmong xs → IsFoundAmong (x ∷ xs)
-  behind x xs f = (f.0, inr f.1, f.2, f.3)
+  following : (x : X) (xs : List X) → IsFoundAmong xs → IsFoundAmong (x ∷ xs)
+  following x xs f = (f.0, inr f.1, f.2, f.3)
 
   abbrev IsMet : List (A × List ℕ) → Type 0
   IsMet pairs = IsSome (find (λ p. T p.0) pairs)
@@ -117,7 +117,7 @@ module _ {X A : Type 0} (tenant_of : X → ℕ) (part : X → A × List ℕ) (t 
   pub found_record : (xs : List X) → IsMet (parts xs) → IsFoundAmong xs
   found_record [] some = absurd (cc)
   found_record (x ∷ xs) some =
-      let later = λ (s : IsMet (parts xs)). behind x xs (found_record xs s) in
+      let later = λ (s : IsMet (parts xs)). following x xs (found_record xs s) in
       cond_both (tenant_of x == t) (x ∷ filter (λ x. tenant_of x == t) xs) (filter (λ x. tenant_of x == t) xs) (λ l. IsMet (map part l) → IsFoundAmong (x ∷ xs))
       (λ own. cond_both (T (part x).0) (Some (part x)) (find (λ p. T p.0) (parts xs)) (λ o. IsSome o → IsFoundAmong (x ∷ xs))
       (λ passes s. (x, inl refl, eqb-true (tenant_of x) t own, passes)) (λ fails. later)) (λ other. later) some

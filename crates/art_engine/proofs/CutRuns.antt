@@ -12,10 +12,10 @@ use Rattle.art_engine.proofs.Terms.{Records, State, LineMayRefuse, answer, left_
 use Rattle.art_engine.proofs.LineLemmas.{whole_lines_of-line, whole_lines_of-more}
 use Rattle.art_engine.proofs.Carrying.{IsReadAs, same_answer, same_left, same_refusal, closed, cut}
 
--- other lines behind do not matter
+-- other lines after do not matter
 fault_more : (start : State) (ls more : List (List ℕ)) (written : List ℕ) (now : State) → AfterWriteFault start ls written now → AfterWriteFault start (ls ++ more) written now
-fault_more start ls more written now (answered, others, line, told, middle, are, outcome, cut) =
-    (answered, others ++ more, line, told, middle, ap (λ t. t ++ more) are ∙ append_assoc answered (line ∷ others) more, outcome, cut)
+fault_more start ls more written now (answered, others, line, output, middle, are, outcome, cut) =
+    (answered, others ++ more, line, output, middle, ap (λ t. t ++ more) are ∙ append_assoc answered (line ∷ others) more, outcome, cut)
 
 pub cut_run-more : (start now : State) (text more all before taken : List ℕ) → text ++ more ≡ all
     → IsCutRun start now (whole_lines_of text) before taken → IsCutRun start now (whole_lines_of all) before taken
@@ -23,7 +23,7 @@ cut_run-more start now text more all before taken e r =
     let others = whole_lines_of-more text more in
     record {
       written = r.written;
-      told = r.told;
+      output = r.output;
       fault = subst (λ ls. AfterWriteFault start ls r.written now) (sym others.1 ∙ ap whole_lines_of e) (fault_more start (whole_lines_of text) others.0 r.written now r.fault);
     }
 
@@ -37,12 +37,12 @@ cut_next start now new text held before taken taken' line handled c s l =
       lawful = λ yes. same_refusal now.records handled line s (l.lawful yes);
       begun = l.begun;
       is_cut = subst (λ a. IsTrue (is_proper_front l.begun a)) (same_answer l.memory now.records handled line s) l.is_cut;
-      told = refl;
-      left = l.left ∙ ap (λ (r : Records). record now { records = r; met = new.met }) (same_left l.memory now.records handled line s);
+      output = refl;
+      left = l.left ∙ ap (λ (r : Records). record now { records = r; prefetched = new.prefetched }) (same_left l.memory now.records handled line s);
     } in
     record {
       written = written;
-      told = l.told ∙ ap (λ t. t ++ l.begun) c.told ∙ append_assoc before c.written l.begun;
+      output = l.output ∙ ap (λ t. t ++ l.begun) c.output ∙ append_assoc before c.written l.begun;
       fault = (whole_lines_of text, [], line, c.written, now, refl, c.outcome, is_cut);
     }
 
@@ -62,10 +62,10 @@ cut_run-last start now new text held before taken taken' handled c some same l =
     (cut_next start now new text held before taken taken' (unfinished_line_of text) handled c (cut (unfinished_line_of text) handled (same ∙ c.rest)) l)
 
 -- nothing of what is told changed but the records
-with_records : (old new : State) (r : Records) → new.records ≡ r → new.reads ≡ old.reads → new.ahead ≡ old.ahead → new ≡ record old { records = r; met = new.met }
-with_records old new r e f g = λ i. record { records = e i; reads = f i; ahead = g i; met = new.met }
+with_records : (old new : State) (r : Records) → new.records ≡ r → new.reads ≡ old.reads → new.ahead ≡ old.ahead → new ≡ record old { records = r; prefetched = new.prefetched }
+with_records old new r e f g = λ i. record { records = e i; reads = f i; ahead = g i; prefetched = new.prefetched }
 
--- a beginning behind which some bytes are missing
+-- a beginning after which some bytes are missing
 is_proper : (begun missing text : List ℕ) → missing ≢ [] → begun ++ missing ≡ text → IsTrue (is_proper_front begun text)
 is_proper begun [] text some e = absurd (some refl)
 is_proper begun (b ∷ rest) text some e =
@@ -74,15 +74,15 @@ is_proper begun (b ∷ rest) text some e =
     and_from _ _ (lt-ltb (length begun) (length text) longer) ((starts_is Decides-eqb text begun _ refl).1 (b ∷ rest) (sym e))
 
 -- a line that was carried out, and whose answer was cut
-pub cut_line : (memory : Bool) (old new : State) (line before after told : List ℕ) → told ≡ answer memory old.records line → IsCut before after told
+pub cut_line : (memory : Bool) (old new : State) (line before after output : List ℕ) → output ≡ answer memory old.records line → IsCut before after output
     → new.records ≡ left_by memory old.records line → (memory ≡ true → LineMayRefuse old.records line) → (new.reads ≡ old.reads) × (new.ahead ≡ old.ahead) → IsCutLine old line before after new
-cut_line memory old new line before after told is cut left lawful same =
+cut_line memory old new line before after output is cut left lawful same =
     record {
       memory = memory;
       lawful = lawful;
       begun = cut.begun;
       is_cut = is_proper cut.begun cut.missing (answer memory old.records line) cut.is_cut (cut.parts ∙ is);
-      told = cut.told;
+      output = cut.output;
       left = with_records old new (left_by memory old.records line) left same.0 same.1;
     }
 
@@ -90,6 +90,6 @@ cut_line memory old new line before after told is cut left lawful same =
 pub cut_from : (first old new : State) (line before after : List ℕ) → old.records ≡ first.records → old.reads ≡ first.reads → old.ahead ≡ first.ahead
     → IsCutLine old line before after new → IsCutLine first line before after new
 cut_from first old new line before after r e a l =
-    let s : IsCutLine (record { records = first.records; reads = first.reads; ahead = first.ahead; met = old.met }) line before after new =
-    subst (λ (t : State). IsCutLine t line before after new) (λ i. record { records = r i; reads = e i; ahead = a i; met = old.met }) l in
-    record { memory = s.memory; lawful = s.lawful; begun = s.begun; is_cut = s.is_cut; told = s.told; left = s.left }
+    let s : IsCutLine (record { records = first.records; reads = first.reads; ahead = first.ahead; prefetched = old.prefetched }) line before after new =
+    subst (λ (t : State). IsCutLine t line before after new) (λ i. record { records = r i; reads = e i; ahead = a i; prefetched = old.prefetched }) l in
+    record { memory = s.memory; lawful = s.lawful; begun = s.begun; is_cut = s.is_cut; output = s.output; left = s.left }

@@ -21,7 +21,7 @@ use Rattle.art_engine.proofs.FullTests.{begins_full}
 use Rattle.art_engine.proofs.Listings.{longest_by_keys, within_longest}
 use Rattle.art_engine.proofs.NumberKeys.{HaveBytes}
 use Rattle.art_engine.proofs.NumberPlaces.{number_bytes, number_keys_are, StandsUnder, stand_all, numbers_without, ascends-filter}
-use Rattle.art_engine.proofs.OwnFronts.{begin_keys, begin_numbers, own_is_behind_front}
+use Rattle.art_engine.proofs.OwnPrefixes.{begin_keys, begin_numbers, own_is_under_prefix}
 use Rattle.art_engine.proofs.OwnLaws.{key_made, number_made, records_from_lists}
 use Rattle.art_engine.proofs.Putting.{pairs_of_tenant}
 use Rattle.art_engine.proofs.Removing.{IsFullTest, without_keeps, without_is}
@@ -78,16 +78,16 @@ root_read f [] reads some = omega arith
 root_read f (x ∷ xs) reads some = let read = some (λ e. cc) in omega arith
 
 -- the full keys of a tenant are those that begin with its four bytes
-full_behind : (t : ℕ) → t < 2 ^ 32 → (ps : List Pair) → AllByRecursion IsFull ps → AllByRecursion IsOfTenant (map record_of ps)
+full_after : (t : ℕ) → t < 2 ^ 32 → (ps : List Pair) → AllByRecursion IsFull ps → AllByRecursion IsOfTenant (map record_of ps)
     → map full_key_of (filter (λ (r : KeyRecord). r.tenant == t) (map record_of ps)) ≡ map bytes_of (with_front bytes_of (full_key t []) ps)
-full_behind t small ps full fits =
+full_after t small ps full fits =
     filter-alike full_key_of record_of bytes_of (λ p. begins_with (full_key t []) p.0.items) (λ r. r.tenant == t) ps
     (begin_keys t small ps full fits) (All-map IsFull (λ p. full_key_of (record_of p) ≡ bytes_of p) (λ p e. sym e) ps full)
 
 -- and so are the bytes of its numbers
-numbers_behind : (t : ℕ) → t < 2 ^ 32 → (ns : List NumberPair) → AllByRecursion StandsUnder ns
+numbers_after : (t : ℕ) → t < 2 ^ 32 → (ns : List NumberPair) → AllByRecursion StandsUnder ns
     → map number_key_of (filter (λ (r : NumberRecord). r.tenant == t) (map number_record_of ns)) ≡ map number_bytes (with_front number_bytes (full_key t []) ns)
-numbers_behind t small ns stand =
+numbers_after t small ns stand =
     filter-alike number_key_of number_record_of number_bytes (λ p. begins_with (full_key t []) p.0) (λ r. r.tenant == t) ns
     (begin_numbers t small ns stand) (All-map StandsUnder (λ p. number_key_of (number_record_of p) ≡ number_bytes p) (λ p under. sym under.key) ns stand)
 
@@ -143,16 +143,16 @@ module _ (t : ℕ) (small : t < 2 ^ 32) (ps : List Pair) (ns : List NumberPair) 
 
   -- the tenant has as many as begin so
   keys_counted : length (own t old).keys ≡ length (with_front bytes_of front ps)
-  keys_counted = ap (λ (o : Own). length o.keys) (own_is_behind_front t ps ns small are.stand nums) ∙ length-map _ (with_front bytes_of front ps)
+  keys_counted = ap (λ (o : Own). length o.keys) (own_is_under_prefix t ps ns small are.stand nums) ∙ length-map _ (with_front bytes_of front ps)
 
   numbers_counted : length (own t old).numbers ≡ length (with_front number_bytes front ns)
-  numbers_counted = ap (λ (o : Own). length o.numbers) (own_is_behind_front t ps ns small are.stand nums) ∙ length-map _ (with_front number_bytes front ns)
+  numbers_counted = ap (λ (o : Own). length o.numbers) (own_is_under_prefix t ps ns small are.stand nums) ∙ length-map _ (with_front number_bytes front ns)
 
   module _ (new_ps : List Pair) (new_ns : List NumberPair) where
     pub drop_done : (k n v : ℕ) → new_ps ≡ keys_left → new_ns ≡ numbers_left → k ≡ length (with_front bytes_of front ps) → n ≡ length (with_front number_bytes front ns)
         → IsWithin (dropping t old) v → IsDropDone (dropped.Gone k n v) t old (all_records_of new_ps new_ns)
     drop_done k n v is_left are_left keys numbers within = record {
-      told = ap (λ c. (name (codes "dropped") ∷ natural c ∷ []) ∷ []) (ap₂ (λ a b. a + b) (keys ∙ sym keys_counted) (numbers ∙ sym numbers_counted));
+      output = ap (λ c. (name (codes "dropped") ∷ natural c ∷ []) ∷ []) (ap₂ (λ a b. a + b) (keys ∙ sym keys_counted) (numbers ∙ sym numbers_counted));
       left = ap₂ all_records_of is_left are_left ∙ records_left;
       counted = within;
     }
@@ -170,18 +170,18 @@ module _ (t : ℕ) (small : t < 2 ^ 32) (ps : List Pair) (ns : List NumberPair) 
       inr ((λ none. h.0 (no_length _ (sym numbers_counted ∙ ap length none))), without_by_keys number_bytes number_key_of ns (map number_record_of ns) front (number_keys_are ns nums.stand) h.1),
     )
 
-  -- the nodes behind the front are told by the tenant's records
+  -- the nodes below the prefix are given by the tenant's records
   keys_freed : node_count bytes_of (with_front bytes_of front ps) ≡ node_count full_key_of (filter (λ (r : KeyRecord). r.tenant == t) (map record_of ps))
   keys_freed =
-      counted-map bytes_of (with_front bytes_of front ps) ∙ ap (node_count itself) (sym (full_behind t small ps are.stand.full are.stand.tenants))
+      counted-map bytes_of (with_front bytes_of front ps) ∙ ap (node_count itself) (sym (full_after t small ps are.stand.full are.stand.tenants))
       ∙ sym (counted-map full_key_of (filter (λ (r : KeyRecord). r.tenant == t) (map record_of ps)))
 
   numbers_freed : node_count number_bytes (with_front number_bytes front ns) ≡ node_count number_key_of (filter (λ (r : NumberRecord). r.tenant == t) (map number_record_of ns))
   numbers_freed =
-      counted-map number_bytes (with_front number_bytes front ns) ∙ ap (node_count itself) (sym (numbers_behind t small ns stand))
+      counted-map number_bytes (with_front number_bytes front ns) ∙ ap (node_count itself) (sym (numbers_after t small ns stand))
       ∙ sym (counted-map number_key_of (filter (λ (r : NumberRecord). r.tenant == t) (map number_record_of ns)))
 
-  -- so many nodes are read to find what begins so, r in the one tree and s in the other, and those behind are freed
+  -- so many nodes are read to find what begins so, r in the one tree and s in the other, and those after are freed
   pub drop_counts : (x y r s v : ℕ) → x ≡ min (r + node_count bytes_of (with_front bytes_of front ps)) (2 ^ 64 - 1) → y ≡ min (s + node_count number_bytes (with_front number_bytes front ns)) (2 ^ 64 - 1)
       → (ps ≢ [] → 1 ≤ r) → (ns ≢ [] → 1 ≤ s) → OpeningReads (longest full_key_of old.keys) 4 0 r → OpeningReads (longest number_key_of old.numbers) 4 0 s → v ≡ min (x + y) (2 ^ 64 - 1) → IsWithin (dropping t old) v
   drop_counts x y r s v keys numbers some_keys some_numbers first second is =

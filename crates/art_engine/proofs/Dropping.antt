@@ -83,8 +83,8 @@ module _ {X P : Type 0} (tenant_of : X → ℕ) (part_of : X → P) (t : ℕ) (T
   pub left_before : (xs : List X) → AllByRecursion IsOwnTest xs → filter (λ x. nat_lt (tenant_of x) t) (left xs) ≡ filter (λ x. nat_lt (tenant_of x) t) xs
   left_before xs h = others_stay (λ x. nat_lt (tenant_of x) t) (λ x e. let lt = ltb-true (tenant_of x) t e in ne_eqb (tenant_of x) t (λ k. omega arith)) xs h
 
-  pub left_behind : (xs : List X) → AllByRecursion IsOwnTest xs → filter (λ x. nat_lt t (tenant_of x)) (left xs) ≡ filter (λ x. nat_lt t (tenant_of x)) xs
-  left_behind xs h = others_stay (λ x. nat_lt t (tenant_of x)) (λ x e. let lt = ltb-true t (tenant_of x) e in ne_eqb (tenant_of x) t (λ k. omega arith)) xs h
+  pub left_after : (xs : List X) → AllByRecursion IsOwnTest xs → filter (λ x. nat_lt t (tenant_of x)) (left xs) ≡ filter (λ x. nat_lt t (tenant_of x)) xs
+  left_after xs h = others_stay (λ x. nat_lt t (tenant_of x)) (λ x e. let lt = ltb-true t (tenant_of x) e in ne_eqb (tenant_of x) t (λ k. omega arith)) xs h
 
 -- so where tenants ascend, the others are what is left with the tenant's own put in place
 module _ {X P : Type 0} (tenant_of : X → ℕ) (part_of : X → P) (made : ℕ → P → X)
@@ -96,5 +96,5 @@ module _ {X P : Type 0} (tenant_of : X → ℕ) (part_of : X → P) (made : ℕ 
       ++ filter (λ x. nat_lt t (tenant_of x)) xs
   left_in_place xs h up =
       let rest : List X = filter (λ x. not (T x)) xs in
-      rw (← left_before tenant_of part_of t T G xs h, ← left_mine tenant_of part_of t T G xs h, ← left_behind tenant_of part_of t T G xs h)
+      rw (← left_before tenant_of part_of t T G xs h, ← left_mine tenant_of part_of t T G xs h, ← left_after tenant_of part_of t T G xs h)
       (sym (in_place tenant_of part_of made makes_tenant makes_part made_again t rest (InOrder-filter (λ x y. tenant_of x ≤ tenant_of y) (λ x. not (T x)) xs up)))

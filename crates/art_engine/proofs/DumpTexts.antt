@@ -70,7 +70,7 @@ bytes_plain (b ∷ bs) h =
     let digits = (decode_of-ok (encode_lower (b ∷ bs)) (b ∷ bs) (decode_of-encode_lower (b ∷ bs) h)).1 in
     all_from (λ b. 45 ≤ b) (encode_lower (b ∷ bs)) (λ k lt. hex_high _ (digits k 0 lt))
 
--- words that are read as they are written, one behind another
+-- words that are read as they are written, one after another
 abbrev ReadBack : Word → Type 0
 ReadBack w = Plain w × Reads (shown w) w
 

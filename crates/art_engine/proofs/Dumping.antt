@@ -18,11 +18,11 @@ module _ {X R : Type 0} (made : X → R) (words : R → List Word) where
   abbrev pub dumped : List X → List ℕ
   dumped xs = flat_map line_of (map words (map made xs))
 
-  -- where some text is gathered, and then the line of the first of them, behind it stand the lines of the others
+  -- where some text is gathered, and then the line of the first of them, after it stand the lines of the others
   pub gathered_next : (x : X) (xs ys : List X) (line before after : List ℕ) → ys ≡ x ∷ xs → line ≡ line_of (words (made x)) → after ≡ before ++ line
       → before ++ dumped ys ≡ after ++ dumped xs
-  gathered_next x xs ys line before after steps same told =
-      ap (λ d. before ++ d) (ap dumped steps ∙ ap (λ l. l ++ dumped xs) (sym same)) ∙ sym (append_assoc before line (dumped xs)) ∙ ap (λ t. t ++ dumped xs) (sym told)
+  gathered_next x xs ys line before after steps same output =
+      ap (λ d. before ++ d) (ap dumped steps ∙ ap (λ l. l ++ dumped xs) (sym same)) ∙ sym (append_assoc before line (dumped xs)) ∙ ap (λ t. t ++ dumped xs) (sym output)
 
 -- a record's line is as long as it may be, and its newline
 pub line_fits : (r : KeyRecord) (line : List ℕ) → line ≡ line_of (words_put r) → KeyFits r → length line ≤ 4097

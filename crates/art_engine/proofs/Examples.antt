@@ -15,8 +15,8 @@ abbrev text : List (List ℕ) → List ℕ
 text ls = flat_map (λ l. l ++ 10 ∷ []) ls
 
 -- what an empty index replies to a text with memory to spare
-abbrev told : List ℕ → List ℕ
-told t = answers no_records (map (λ line. (line, false)) (lines_of t))
+abbrev output : List ℕ → List ℕ
+output t = answers no_records (map (λ line. (line, false)) (lines_of t))
 
 -- what the examples compute with
 computed : Unit {0}
@@ -125,63 +125,63 @@ drop_of_nothing-may_not_refuse (inr numbers) = numbers.0 refl
 -- Outcomes of lines.
 
 -- of no line, of an empty one, and of a last one without a newline
-texts-told : map told ([] ∷ (10 ∷ []) ∷ (text (codes "put 7 0a0b 6869" ∷ codes "get 7 0a0b" ∷ []) ++ codes "get 8 0a0b") ∷ [])
+texts-output : map output ([] ∷ (10 ∷ []) ∷ (text (codes "put 7 0a0b 6869" ∷ codes "get 7 0a0b" ∷ []) ++ codes "get 8 0a0b") ∷ [])
     ≡ [] ∷ text (codes "bad" ∷ []) ∷ text (codes "new" ∷ codes "is 6869" ∷ codes "none" ∷ []) ∷ []
 unfolding computed
-texts-told = refl
+texts-output = refl
 
-misspelt-is_bad : told (text (codes "get  1 0a" ∷ codes "get 1 0" ∷ codes "PUT 1 0a 61" ∷ codes "nget 1 -0" ∷ codes "put 1 0a" ∷ codes "end 2" ∷ []))
+misspelt-is_bad : output (text (codes "get  1 0a" ∷ codes "get 1 0" ∷ codes "PUT 1 0a 61" ∷ codes "nget 1 -0" ∷ codes "put 1 0a" ∷ codes "end 2" ∷ []))
     ≡ text (replicate 6 (codes "bad"))
 unfolding computed
 misspelt-is_bad = refl
 
 -- keys of one tenant conflict, those of two don't
-keys-conflict_within_a_tenant : told (text (codes "put 1 0a 61" ∷ codes "put 1 0a0b 62" ∷ codes "put 2 0a0b 63" ∷ codes "put 1 0a 64" ∷ codes "dump" ∷ []))
+keys-conflict_within_a_tenant : output (text (codes "put 1 0a 61" ∷ codes "put 1 0a0b 62" ∷ codes "put 2 0a0b 63" ∷ codes "put 1 0a 64" ∷ codes "dump" ∷ []))
     ≡ text (codes "new" ∷ codes "conflict" ∷ codes "new" ∷ codes "old 61" ∷ codes "put 1 0a 64" ∷ codes "put 2 0a0b 63" ∷ codes "end 2" ∷ [])
 unfolding computed
 keys-conflict_within_a_tenant = refl
 
-tenants-in_number_order : told (text (codes "put 256 00 61" ∷ codes "put 1 00 62" ∷ codes "put 2 AB 4A" ∷ codes "dump" ∷ []))
+tenants-in_number_order : output (text (codes "put 256 00 61" ∷ codes "put 1 00 62" ∷ codes "put 2 AB 4A" ∷ codes "dump" ∷ []))
     ≡ text (codes "new" ∷ codes "new" ∷ codes "new" ∷ codes "put 1 00 62" ∷ codes "put 2 ab 4a" ∷ codes "put 256 00 61" ∷ codes "end 3" ∷ [])
 unfolding computed
 tenants-in_number_order = refl
 
 -- a key takes the place of all that it begins or extends, and is found by a longer one
-keys-put_over_others : told (text (codes "put 3 616262 61" ∷ codes "put 3 62 62" ∷ codes "over 3 6162 6363" ∷ codes "find 3 616263" ∷ codes "list 3 -" ∷ []))
+keys-put_over_others : output (text (codes "put 3 616262 61" ∷ codes "put 3 62 62" ∷ codes "over 3 6162 6363" ∷ codes "find 3 616263" ∷ codes "list 3 -" ∷ []))
     ≡ text (codes "new" ∷ codes "new" ∷ codes "over 1" ∷ codes "at 6162 6363" ∷ codes "6162 6363" ∷ codes "62 62" ∷ codes "end 2" ∷ [])
 unfolding computed
 keys-put_over_others = refl
 
-keys-deleted : told (text (codes "put 1 0a 61" ∷ codes "del 1 0a" ∷ codes "del 1 0a" ∷ codes "dump" ∷ [])) ≡ text (codes "new" ∷ codes "gone 61" ∷ codes "none" ∷ codes "end 0" ∷ [])
+keys-deleted : output (text (codes "put 1 0a 61" ∷ codes "del 1 0a" ∷ codes "del 1 0a" ∷ codes "dump" ∷ [])) ≡ text (codes "new" ∷ codes "gone 61" ∷ codes "none" ∷ codes "end 0" ∷ [])
 unfolding computed
 keys-deleted = refl
 
 -- all that a tenant has is dropped, and another's stays
-tenants-dropped : told (text (codes "put 1 0a 61" ∷ codes "put 2 0a 62" ∷ codes "nput 1 5 63" ∷ codes "drop 1" ∷ codes "drop 1" ∷ codes "dump" ∷ []))
+tenants-dropped : output (text (codes "put 1 0a 61" ∷ codes "put 2 0a 62" ∷ codes "nput 1 5 63" ∷ codes "drop 1" ∷ codes "drop 1" ∷ codes "dump" ∷ []))
     ≡ text (codes "new" ∷ codes "new" ∷ codes "new" ∷ codes "dropped 2" ∷ codes "dropped 0" ∷ codes "put 2 0a 62" ∷ codes "end 1" ∷ [])
 unfolding computed
 tenants-dropped = refl
 
 -- bounds may end within a key, and are told where they are not in order
-keys-between_bounds : told (text (codes "put 1 0a 61" ∷ codes "put 1 0b0101 62" ∷ codes "put 1 0c 63" ∷ codes "span 1 0a 0b02" ∷ codes "span 1 0b 0a" ∷ codes "list 1 0b" ∷ []))
+keys-between_bounds : output (text (codes "put 1 0a 61" ∷ codes "put 1 0b0101 62" ∷ codes "put 1 0c 63" ∷ codes "span 1 0a 0b02" ∷ codes "span 1 0b 0a" ∷ codes "list 1 0b" ∷ []))
     ≡ text (codes "new" ∷ codes "new" ∷ codes "new" ∷ codes "0a 61" ∷ codes "0b0101 62" ∷ codes "end 2" ∷ codes "bounds" ∷ codes "0b0101 62" ∷ codes "end 1" ∷ [])
 unfolding computed
 keys-between_bounds = refl
 
--- numbers ascend, and are told behind all keys
-numbers-in_order : told (text (codes "nput 5 -1 61" ∷ codes "nput 5 256 62" ∷ codes "nput 5 -300 63" ∷ codes "nput 5 256 64" ∷ codes "put 6 0a 65" ∷ codes "nspan 5 -300 0" ∷ codes "dump" ∷ []))
+-- numbers ascend, and are told after all keys
+numbers-in_order : output (text (codes "nput 5 -1 61" ∷ codes "nput 5 256 62" ∷ codes "nput 5 -300 63" ∷ codes "nput 5 256 64" ∷ codes "put 6 0a 65" ∷ codes "nspan 5 -300 0" ∷ codes "dump" ∷ []))
     ≡ text (codes "new" ∷ codes "new" ∷ codes "new" ∷ codes "old 62" ∷ codes "new" ∷ codes "-300 63" ∷ codes "-1 61" ∷ codes "end 2"
     ∷ codes "put 6 0a 65" ∷ codes "nput 5 -300 63" ∷ codes "nput 5 -1 61" ∷ codes "nput 5 256 64" ∷ codes "end 4" ∷ [])
 unfolding computed
 numbers-in_order = refl
 
-numbers-deleted : told (text (codes "nput 1 5 61" ∷ codes "nget 1 5" ∷ codes "ndel 1 5" ∷ codes "ndel 1 5" ∷ codes "nget 1 5" ∷ codes "nspan 1 5 4" ∷ []))
+numbers-deleted : output (text (codes "nput 1 5 61" ∷ codes "nget 1 5" ∷ codes "ndel 1 5" ∷ codes "ndel 1 5" ∷ codes "nget 1 5" ∷ codes "nspan 1 5 4" ∷ []))
     ≡ text (codes "new" ∷ codes "is 61" ∷ codes "gone 61" ∷ codes "none" ∷ codes "none" ∷ codes "bounds" ∷ [])
 unfolding computed
 numbers-deleted = refl
 
--- a line of 4096 bytes, and one of 4097 behind it
-long_line-is_bad_once : told (text ((codes "put 1 " ++ replicate 4088 97 ++ codes " -") ∷ (codes "put 10 " ++ replicate 4088 97 ++ codes " -") ∷ codes "get 1 00" ∷ []))
+-- a line of 4096 bytes, and one of 4097 after it
+long_line-is_bad_once : output (text ((codes "put 1 " ++ replicate 4088 97 ++ codes " -") ∷ (codes "put 10 " ++ replicate 4088 97 ++ codes " -") ∷ codes "get 1 00" ∷ []))
     ≡ text (codes "new" ∷ codes "bad" ∷ codes "none" ∷ [])
 unfolding computed
 long_line-is_bad_once = refl
@@ -192,7 +192,7 @@ refused_line-changes_nothing : answers no_records ((codes "put 1 0a 61", false) 
 unfolding computed
 refused_line-changes_nothing = refl
 
--- Faults: a read that fails behind an unfinished line, and a sink that fails within a reply.
+-- Faults: a read that fails after an unfinished line, and a sink that fails within a reply.
 
 abbrev empty : State
 empty = unread no_records
@@ -200,7 +200,7 @@ empty = unread no_records
 one_record : Records
 one_record = record { keys = (record { tenant = 1; key = 10 ∷ []; value = 97 ∷ [] }) ∷ []; numbers = [] }
 
-put-done : IsLineDone false empty (codes "put 1 0a 61") (record { records = one_record; reads = 0 ∷ []; ahead = 0 ∷ []; met = [] })
+put-done : IsLineDone false empty (codes "put 1 0a 61") (record { records = one_record; reads = 0 ∷ []; ahead = 0 ∷ []; prefetched = [] })
 unfolding one_record computed
 put-done = record {
   lawful = λ no_memory. absurd (false≢true no_memory);
@@ -215,13 +215,13 @@ put-done = record {
   counted_ahead = refl;
 }
 
-read_fault-behind_a_line : IsOutcome empty (whole_lines_of (codes "put 1 0a 61" ++ 10 ∷ codes "get 1 0")) (codes "new" ++ 10 ∷ []) (record { records = one_record; reads = 0 ∷ []; ahead = 0 ∷ []; met = [] })
+read_fault-after_a_line : IsOutcome empty (whole_lines_of (codes "put 1 0a 61" ++ 10 ∷ codes "get 1 0")) (codes "new" ++ 10 ∷ []) (record { records = one_record; reads = 0 ∷ []; ahead = 0 ∷ []; prefetched = [] })
 unfolding one_record computed
-read_fault-behind_a_line = record { asked = (codes "put 1 0a 61", false) ∷ []; are = refl; told = refl; done = (record { records = one_record; reads = 0 ∷ []; ahead = 0 ∷ []; met = [] }, put-done, refl) }
+read_fault-after_a_line = record { asked = (codes "put 1 0a 61", false) ∷ []; are = refl; output = refl; done = (record { records = one_record; reads = 0 ∷ []; ahead = 0 ∷ []; prefetched = [] }, put-done, refl) }
 
--- one byte of three was taken, behind another
-text-cut_behind_a_byte : IsCut (codes "o") (codes "on") (codes "new")
-text-cut_behind_a_byte = record { begun = codes "n"; missing = codes "ew"; is_cut = λ e. cc; parts = refl; told = refl }
+-- one byte of three was taken, after another
+text-cut_after_a_byte : IsCut (codes "o") (codes "on") (codes "new")
+text-cut_after_a_byte = record { begun = codes "n"; missing = codes "ew"; is_cut = λ e. cc; parts = refl; output = refl }
 
 -- a put was carried out, and of its answer nothing was taken
 line-cut_at_once : IsCutLine empty (codes "put 1 0a 61") (codes "o") (codes "o") (unread one_record)
@@ -231,7 +231,7 @@ line-cut_at_once = record {
   lawful = λ no_memory. absurd (false≢true no_memory);
   begun = [];
   is_cut = refl;
-  told = refl;
+  output = refl;
   left = refl;
 }
 
@@ -243,13 +243,13 @@ line-cut_within = record {
   lawful = λ no_memory. absurd (false≢true no_memory);
   begun = codes "ne";
   is_cut = refl;
-  told = refl;
+  output = refl;
   left = refl;
 }
 
 -- so no line was answered whole
 write_fault-within_a_reply : AfterWriteFault empty (codes "put 1 0a 61" ∷ codes "get 1 0a" ∷ []) (codes "ne") (unread one_record)
-write_fault-within_a_reply = ([], codes "get 1 0a" ∷ [], codes "put 1 0a 61", [], empty, refl, record { asked = []; are = refl; told = refl; done = refl }, line-cut_within)
+write_fault-within_a_reply = ([], codes "get 1 0a" ∷ [], codes "put 1 0a 61", [], empty, refl, record { asked = []; are = refl; output = refl; done = refl }, line-cut_within)
 
 -- Records: a key is bytes, so that no record has 256 in its key.
 

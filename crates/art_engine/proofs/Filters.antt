@@ -32,7 +32,7 @@ module _ {X : Type 0} where
   filter-same p q [] h = refl
   filter-same p q (x ∷ xs) h = let first = h.0 in rw first (ap (λ l. cond (q x) (x ∷ l) l) (filter-same p q xs h.1))
 
-  -- one test behind another
+  -- one test after another
   pub filter-both : (p q : X → Bool) (xs : List X) → filter (λ x. p x && q x) xs ≡ filter q (filter p xs)
   filter-both p q [] = refl
   filter-both p q (x ∷ xs) = go (p x) (filter-both p q xs)

@@ -37,15 +37,15 @@ comes_before r s rs ss before =
         let p = and_parts _ _ same in
         inr (eqb-true r.tenant s.tenant p.0, p.1, (let e = p.0 in rw e at free))
 
-behind_first : (p : Pair) (ps : List Pair) → IsFull p → IsOfTenant (record_of p) → AllByRecursion IsFull ps → AllByRecursion IsOfTenant (map record_of ps)
+after_first : (p : Pair) (ps : List Pair) → IsFull p → IsOfTenant (record_of p) → AllByRecursion IsFull ps → AllByRecursion IsOfTenant (map record_of ps)
     → AllByRecursion (λ q. IsBefore (bytes_of p) (bytes_of q)) ps → AllByRecursion (KeyComesBefore (record_of p)) (map record_of ps)
-behind_first p [] full fits fulls small order = tt
-behind_first p (q ∷ qs) full fits fulls small order =
-    (comes_before (record_of p) (record_of q) fits small.0 (subst (λ k. IsBefore k (full_key_of (record_of q))) full (subst (IsBefore (bytes_of p)) fulls.0 order.0)), behind_first p qs full fits fulls.1 small.1 order.1)
+after_first p [] full fits fulls small order = tt
+after_first p (q ∷ qs) full fits fulls small order =
+    (comes_before (record_of p) (record_of q) fits small.0 (subst (λ k. IsBefore k (full_key_of (record_of q))) full (subst (IsBefore (bytes_of p)) fulls.0 order.0)), after_first p qs full fits fulls.1 small.1 order.1)
 
 records_in_order : (ps : List Pair) → AllByRecursion IsFull ps → AllByRecursion IsOfTenant (map record_of ps) → AscendsByKey bytes_of ps → InOrder KeyComesBefore (map record_of ps)
 records_in_order [] full small order = tt
-records_in_order (p ∷ ps) full small order = (behind_first p ps full.0 small.0 full.1 small.1 order.0, records_in_order ps full.1 small.1 order.1)
+records_in_order (p ∷ ps) full small order = (after_first p ps full.0 small.0 full.1 small.1 order.0, records_in_order ps full.1 small.1 order.1)
 
 -- a pair under a full key, whose record fits
 abbrev pub IsRecord : Pair → Type 0
@@ -58,13 +58,13 @@ are_pairs ps order all =
     let small = All-map KeyFits IsOfTenant (λ r fits. fits.tenant_fits) (map record_of ps) fit in
     record { stand = record { full = full; in_order = records_in_order ps full small order; tenants = small }; fit = fit }
 
--- bytes behind a tenant's four
-behind_small : (n : ℕ) (xs : List ℕ) → ((i : ℕ) → get_or xs i 0 < 256) → (i : ℕ) → get_or (drop n xs) i 0 < 256
-behind_small n xs small i = subst (λ b. b < 256) (sym (get_or-drop n xs i 0)) (small (n + i))
+-- bytes after a tenant's four
+after_small : (n : ℕ) (xs : List ℕ) → ((i : ℕ) → get_or xs i 0 < 256) → (i : ℕ) → get_or (drop n xs) i 0 < 256
+after_small n xs small i = subst (λ b. b < 256) (sym (get_or-drop n xs i 0)) (small (n + i))
 
 pub is_record : (full value : List ℕ) → ((i : ℕ) → get_or full i 0 < 256) → ((i : ℕ) → get_or value i 0 < 256) → IsShortRecord full value → IsRecordIn full value
 is_record full value small fine (long, short) =
-    (full_key_again full long small, record { tenant_fits = tenant_small full small; key_fits = behind_small 4 full small; value_fits = fine; line_fits = short })
+    (full_key_again full long small, record { tenant_fits = tenant_small full small; key_fits = after_small 4 full small; value_fits = fine; line_fits = short })
 
 -- how long some bytes are as they are shown
 pub length-shown : (v : List ℕ) → (length v == 0) ≡ false → length (shown (bytes v)) ≡ 2 * length v
@@ -95,8 +95,8 @@ number_again xs twelve small =
     let front : length (take 4 xs) ≡ 4 = length-take-le 4 xs (omega arith) in
     let eight : length rest ≡ 8 = length-drop 4 xs ∙ omega arith in
     let tenant = be_bytes_4 (take 4 xs) (from_be_bytes w32 (take 4 xs)) front (λ i. front_small 4 xs small i) refl in
-    let number : to_be_bytes w64 x ≡ rest = be_bytes_8 rest x eight (behind_small 4 xs small) refl in
-    let at = behind_small 4 xs small in
+    let number : to_be_bytes w64 x ≡ rest = be_bytes_8 rest x eight (after_small 4 xs small) refl in
+    let at = after_small 4 xs small in
     let a = at 0 in let b = at 1 in let c = at 2 in let d = at 3 in let e = at 4 in let f = at 5 in let g = at 6 in let h = at 7 in
     let low : x < 2 ^ 64 = omega arith in
     let turned : bit_xor x (top_bit w64) < 2 ^ 64 = xor_lt 64 x (top_bit w64) low (omega arith) in

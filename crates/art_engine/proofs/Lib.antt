@@ -15,7 +15,7 @@ pub mod Putting
 pub mod Standing
 pub mod Filters
 pub mod OwnLaws
-pub mod OwnWays
+pub mod OwnPaths
 pub mod Conflicts
 pub mod FullTests
 pub mod Dropping
@@ -30,7 +30,7 @@ pub mod Auditing
 pub mod NumberKeys
 pub mod OwnParts
 pub mod NumberPlaces
-pub mod OwnFronts
+pub mod OwnPrefixes
 pub mod BothMaps
 pub mod DumpTexts
 pub mod ReadBack
@@ -41,7 +41,7 @@ pub mod Listings
 pub mod RecordCounts
 pub mod HeldMaps
 pub mod SpanLemmas
-pub mod ReadTogether
+pub mod ReadBatches
 pub mod LineCounts
 pub mod DroppedTenants
 pub mod Undoing

@@ -43,7 +43,7 @@ whole_are text = go (pieces_of text)
         let n : ℕ = length ys in let one : suc (suc n) - 1 ≡ suc n = omega arith in let none : suc n - 1 ≡ n = omega arith in
         ap (λ k. take k (x ∷ y ∷ ys)) one ∙ ap (λ k. x ∷ take k (y ∷ ys)) (sym none) ∙ ap (λ qs. x ∷ qs) (go (y ∷ ys))
 
--- the pieces with a byte behind the last
+-- the pieces with a byte after the last
 abbrev onto_last : List (List ℕ) → ℕ → List (List ℕ)
 onto_last [] b = (b ∷ []) ∷ []
 onto_last (p ∷ []) b = (p ++ b ∷ []) ∷ []
@@ -154,7 +154,7 @@ next_line : (text : List ℕ) (b : ℕ) (ends : Bool) → (b == 10) ≡ ends →
 next_line text b true e = (unfinished_line_of text ∷ [], ap (λ x. whole_lines_of (text ++ x ∷ [])) (eqb-true b 10 e) ∙ whole_lines_of-newline text)
 next_line text b false e = ([], whole_lines_of-byte text b e ∙ sym (append-nil (whole_lines_of text)))
 
--- more bytes leave the whole lines as they are, and may bring others behind them
+-- more bytes leave the whole lines as they are, and may bring others after them
 pub whole_lines_of-more : (text more : List ℕ) → (others : List (List ℕ)) × (whole_lines_of (text ++ more) ≡ whole_lines_of text ++ others)
 whole_lines_of-more text [] = ([], ap whole_lines_of (append-nil text) ∙ sym (append-nil (whole_lines_of text)))
 whole_lines_of-more text (b ∷ more) =
@@ -176,27 +176,27 @@ none_before bytes i none = no_newline_before bytes i (λ k low within. false_fro
 pub none_at_all : (bytes : List ℕ) → ((k : ℕ) → 0 ≤ k → k < length bytes → (get_or bytes k 0 == 10) ≡ true → ⊥) → NoNewline bytes
 none_at_all bytes none = subst NoNewline (take_all (length bytes) bytes (omega arith)) (none_before bytes (length bytes) none)
 
--- what is left behind a newline
-pub behind_newline : (rest : List ℕ) (i n : ℕ) → n ≡ length rest → i < length rest → (get_or rest i 0 == 10) ≡ true
+-- what is left after a newline
+pub after_newline : (rest : List ℕ) (i n : ℕ) → n ≡ length rest → i < length rest → (get_or rest i 0 == 10) ≡ true
     → rest ≡ (take i rest ++ 10 ∷ []) ++ take (n - (i + 1)) (drop (i + 1) rest)
-behind_newline rest i n long within here =
+after_newline rest i n long within here =
     let e : drop i rest ≡ 10 ∷ drop (i + 1) rest = drop-cons rest i 0 within ∙ ap (λ b. b ∷ drop (suc i) rest) (eqb-true (get_or rest i 0) 10 here) ∙ ap (λ k. 10 ∷ drop k rest) (sym (add-one i)) in
     let whole : take (n - (i + 1)) (drop (i + 1) rest) ≡ drop (i + 1) rest = ap (λ m. take (m - (i + 1)) (drop (i + 1) rest)) long ∙ take_rest rest (i + 1) in
     sym (take-append-drop i rest) ∙ ap (λ l. take i rest ++ l) e ∙ ap (λ l. take i rest ++ 10 ∷ l) (sym whole) ∙ sym (append_assoc (take i rest) (10 ∷ []) (take (n - (i + 1)) (drop (i + 1) rest)))
 
--- a line at the front of a text, and those behind it
-pieces_of-front : (part behind : List ℕ) → NoNewline part → pieces_of ((part ++ 10 ∷ []) ++ behind) ≡ part ∷ pieces_of behind
-pieces_of-front [] behind none = refl
-pieces_of-front (b ∷ part) behind none = rw none.0 (ap (onto_first b) (pieces_of-front part behind none.1))
+-- a line at the front of a text, and those after it
+pieces_of-front : (part following : List ℕ) → NoNewline part → pieces_of ((part ++ 10 ∷ []) ++ following) ≡ part ∷ pieces_of following
+pieces_of-front [] following none = refl
+pieces_of-front (b ∷ part) following none = rw none.0 (ap (onto_first b) (pieces_of-front part following none.1))
 
 all_but_last-cons : (p : List ℕ) (ps : List (List ℕ)) → SomePieces ps → all_but_last (p ∷ ps) ≡ p ∷ all_but_last ps
 all_but_last-cons p [] h = elim h [ ]
 all_but_last-cons p (q ∷ ps) some = refl
 
-pub whole_lines_of-front : (part behind : List ℕ) → NoNewline part → whole_lines_of ((part ++ 10 ∷ []) ++ behind) ≡ part ∷ whole_lines_of behind
-whole_lines_of-front part behind none =
-    whole_are ((part ++ 10 ∷ []) ++ behind) ∙ ap all_but_last (pieces_of-front part behind none) ∙ all_but_last-cons part (pieces_of behind) (some_pieces behind)
-    ∙ ap (λ ls. part ∷ ls) (sym (whole_are behind))
+pub whole_lines_of-front : (part following : List ℕ) → NoNewline part → whole_lines_of ((part ++ 10 ∷ []) ++ following) ≡ part ∷ whole_lines_of following
+whole_lines_of-front part following none =
+    whole_are ((part ++ 10 ∷ []) ++ following) ∙ ap all_but_last (pieces_of-front part following none) ∙ all_but_last-cons part (pieces_of following) (some_pieces following)
+    ∙ ap (λ ls. part ∷ ls) (sym (whole_are following))
 
 -- a text without a newline has no whole line
 pub no_whole_line : (text : List ℕ) → NoNewline text → whole_lines_of text ≡ []

@@ -10,16 +10,16 @@ use Rattle.art_lines.specs.declared.command.fields.Fields.{Fields}
 use Rattle.art_lines.specs.declared.command.word.Word.{Word}
 use Rattle.art_lines.specs.Lines.{whole_lines_of}
 use Rattle.std.specs.Prelude.{slice_get}
-use Rattle.art_engine.specs.declared.upcoming.line.Line.{Line}
-use Rattle.art_engine.specs.Upcoming.{told_or}
+use Rattle.art_engine.specs.declared.read_ahead.line.Line.{Line}
+use Rattle.art_engine.specs.ReadAhead.{line_or}
 use Rattle.art_engine.proofs.Terms.{AreNext, IsNextLine, NoNewline, most_ahead, read_of, texts_of, total}
 use Rattle.art_engine.proofs.LineLemmas.{whole_lines_of-front, no_whole_line}
 
--- the lines of a text that begins with a line: if any are to come, that is the first, and the others come behind it
-pub next_is : (lines : List (List ℕ)) (part behind text : List ℕ) → NoNewline part → text ≡ (part ++ 10 ∷ []) ++ behind → AreNext lines text → IsNextLine part lines × AreNext (drop 1 lines) behind
-next_is [] part behind text none is next = (tt, (whole_lines_of behind, refl))
-next_is (l ∷ lines) part behind text none is next =
-    let same : part ∷ whole_lines_of behind ≡ l ∷ (lines ++ next.0) = sym (whole_lines_of-front part behind none) ∙ ap whole_lines_of (sym is) ∙ next.1 in (
+-- the lines of a text that begins with a line: if any are to come, that is the first, and the others come after it
+pub next_is : (lines : List (List ℕ)) (part following text : List ℕ) → NoNewline part → text ≡ (part ++ 10 ∷ []) ++ following → AreNext lines text → IsNextLine part lines × AreNext (drop 1 lines) following
+next_is [] part following text none is next = (tt, (whole_lines_of following, refl))
+next_is (l ∷ lines) part following text none is next =
+    let same : part ∷ whole_lines_of following ≡ l ∷ (lines ++ next.0) = sym (whole_lines_of-front part following none) ∙ ap whole_lines_of (sym is) ∙ next.1 in (
       sym (ap (λ ls. first_of ls) same),
       (next.0, ap (λ (ls : List (List ℕ)). drop 1 ls) same),
     )
@@ -41,16 +41,16 @@ none_to_come text_of (l ∷ lines) rest none next = absurd (no_cons (sym (no_who
     no_cons e = subst is_empty e tt
 
 -- what is told of one line more
-pub told_more : (ns : List ℕ) (n : ℕ) (told : List ℕ) → told ≡ ns ++ n ∷ [] → total told ≡ total ns + n
-told_more ns n told e = ap total e ∙ sum_by_push (λ (k : ℕ). k) ns n
+pub told_more : (ns : List ℕ) (n : ℕ) (output : List ℕ) → output ≡ ns ++ n ∷ [] → total output ≡ total ns + n
+told_more ns n output e = ap total e ∙ sum_by_push (λ (k : ℕ). k) ns n
 
--- what the line at a place tells, and what is left behind it
-pub told_behind : (lines : List Line) (len at : ℕ) → at < len → at < length lines
-    → told_or 0 (λ (l : Line). l.read) (slice_get lines at) + read_of (drop (suc at) (take len lines)) ≡ read_of (drop at (take len lines))
-told_behind lines zero at low fits = absurd (omega arith)
-told_behind [] (suc len) at low fits = absurd (omega arith)
-told_behind (x ∷ xs) (suc len) zero low fits = sym (sum_by-cons (λ (l : Line). l.read) x (take len xs))
-told_behind (x ∷ xs) (suc len) (suc at) low fits = told_behind xs len at (omega arith) (omega arith)
+-- what the line at a place tells, and what is left after it
+pub counted_after : (lines : List Line) (len at : ℕ) → at < len → at < length lines
+    → line_or 0 (λ (l : Line). l.read) (slice_get lines at) + read_of (drop (suc at) (take len lines)) ≡ read_of (drop at (take len lines))
+counted_after lines zero at low fits = absurd (omega arith)
+counted_after [] (suc len) at low fits = absurd (omega arith)
+counted_after (x ∷ xs) (suc len) zero low fits = sym (sum_by-cons (λ (l : Line). l.read) x (take len xs))
+counted_after (x ∷ xs) (suc len) (suc at) low fits = counted_after xs len at (omega arith) (omega arith)
 
 -- the line at that place is the next one
 pub next_there : (lines : List Line) (len at : ℕ) (line : List ℕ) → at < len → at < length lines → IsNextLine line (texts_of (drop at (take len lines)))
@@ -70,20 +70,20 @@ nothing f = subst is_there (sym f) tt
 -- a line that is found at a place is the one there
 pub found_there : (lines : List Line) (at : ℕ) (l d : Line) → slice_get lines at ≡ Some l → get_or lines at d ≡ l
 found_there [] at l d e = absurd (nothing e)
-found_there (x ∷ xs) zero l d e = ap (λ (o : Option Line). told_or x (λ y. y) o) e
+found_there (x ∷ xs) zero l d e = ap (λ (o : Option Line). line_or x (λ y. y) o) e
 found_there (x ∷ xs) (suc at) l d e = found_there xs at l d e
 
 -- what is asked by a line that is found
 pub read_there : (o : Option Line) (word : Option Word) (fields : Fields) (l : Line) (line : List ℕ) → o ≡ Some l → l.text.items ≡ line
     → option_map (λ w. command_with w l.fields) l.word ≡ command_of l.text.items
-    → option_map (λ w. command_with w (told_or fields (λ (x : Line). x.fields) o)) (told_or word (λ (x : Line). x.word) o) ≡ command_of line
+    → option_map (λ w. command_with w (line_or fields (λ (x : Line). x.fields) o)) (line_or word (λ (x : Line). x.word) o) ≡ command_of line
 read_there o word fields l line e t h =
-    subst (λ (p : Option Line). option_map (λ w. command_with w (told_or fields (λ (x : Line). x.fields) p)) (told_or word (λ (x : Line). x.word) p) ≡ command_of line) (sym e) (h ∙ ap command_of t)
+    subst (λ (p : Option Line). option_map (λ w. command_with w (line_or fields (λ (x : Line). x.fields) p)) (line_or word (λ (x : Line). x.word) p) ≡ command_of line) (sym e) (h ∙ ap command_of t)
 
 pub few_there : (o : Option Line) (l : Line) (line : List ℕ) → o ≡ Some l → l.text.items ≡ line → l.read ≤ most_ahead (command_of l.text.items)
-    → told_or 0 (λ (x : Line). x.read) o ≤ most_ahead (command_of line)
+    → line_or 0 (λ (x : Line). x.read) o ≤ most_ahead (command_of line)
 few_there o l line e t h =
-    subst (λ (p : Option Line). told_or 0 (λ (x : Line). x.read) p ≤ most_ahead (command_of line)) (sym e) (subst (λ b. l.read ≤ most_ahead (command_of b)) t h)
+    subst (λ (p : Option Line). line_or 0 (λ (x : Line). x.read) p ≤ most_ahead (command_of line)) (sym e) (subst (λ b. l.read ≤ most_ahead (command_of b)) t h)
 
 -- a line in another's place whose bytes are the same
 pub texts_kept : (lines : List Line) (at : ℕ) (y d : Line) → at < length lines → y.text.items ≡ (get_or lines at d).text.items → texts_of (set lines at y) ≡ texts_of lines
@@ -105,8 +105,8 @@ read_more (x ∷ xs) (suc len) y low =
     let more = read_more xs len y (omega arith) in
     omega (arith, all, some, more)
 
-pub next_more : (text rest part behind : List ℕ) (before now : List (List ℕ)) → whole_lines_of text ≡ before ++ whole_lines_of rest → rest ≡ (part ++ 10 ∷ []) ++ behind → NoNewline part
-    → now ≡ before ++ part ∷ [] → whole_lines_of text ≡ now ++ whole_lines_of behind
-next_more text rest part behind before now e is none more =
-    e ∙ ap (λ t. before ++ whole_lines_of t) is ∙ ap (λ ls. before ++ ls) (whole_lines_of-front part behind none)
-    ∙ sym (append_assoc before (part ∷ []) (whole_lines_of behind)) ∙ ap (λ ls. ls ++ whole_lines_of behind) (sym more)
+pub next_more : (text rest part following : List ℕ) (before now : List (List ℕ)) → whole_lines_of text ≡ before ++ whole_lines_of rest → rest ≡ (part ++ 10 ∷ []) ++ following → NoNewline part
+    → now ≡ before ++ part ∷ [] → whole_lines_of text ≡ now ++ whole_lines_of following
+next_more text rest part following before now e is none more =
+    e ∙ ap (λ t. before ++ whole_lines_of t) is ∙ ap (λ ls. before ++ ls) (whole_lines_of-front part following none)
+    ∙ sym (append_assoc before (part ∷ []) (whole_lines_of following)) ∙ ap (λ ls. ls ++ whole_lines_of following) (sym more)

@@ -15,7 +15,7 @@ module _ {X : Type 0} (words : X → List Word) (last : List ℕ) where
   abbrev pub lines_from : List X → List ℕ
   lines_from xs = flat_map line_of (map words xs) ++ last
 
-  -- where some text is gathered, and then the line of the first of them, behind it stand the lines of the others
+  -- where some text is gathered, and then the line of the first of them, after it stand the lines of the others
   pub lines_next : (x : X) (xs ys : List X) (line before : List ℕ) → ys ≡ x ∷ xs → line ≡ line_of (words x) → before ++ lines_from ys ≡ (before ++ line) ++ lines_from xs
   lines_next x xs ys line before steps same =
       ap (λ l. before ++ lines_from l) steps

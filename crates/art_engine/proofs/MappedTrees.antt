@@ -8,8 +8,8 @@ use Rattle.art_engine.proofs.Filters.{length-map}
 
 module _ {X Y : Type 0} (f : X → Y) (key : Y → List ℕ) where
   -- the key of what an item is turned into
-  abbrev key_behind : X → List ℕ
-  key_behind x = key (f x)
+  abbrev key_after : X → List ℕ
+  key_after x = key (f x)
 
   -- each item turned
   abbrev mutual
@@ -47,38 +47,38 @@ module _ {X Y : Type 0} (f : X → Y) (key : Y → List ℕ) where
         | false ↦ refl
       ]
 
-  grouped-turned : (depth : ℕ) (xs : List X) → grouped key depth (map f xs) ≡ map group (grouped key_behind depth xs)
+  grouped-turned : (depth : ℕ) (xs : List X) → grouped key depth (map f xs) ≡ map group (grouped key_after depth xs)
   grouped-turned depth [] = refl
   grouped-turned depth (x ∷ xs) =
-      ap (add_to (slice_index (key (f x)) depth) (f x)) (grouped-turned depth xs) ∙ add_to-turned (slice_index (key (f x)) depth) x (grouped key_behind depth xs)
+      ap (add_to (slice_index (key (f x)) depth) (f x)) (grouped-turned depth xs) ∙ add_to-turned (slice_index (key (f x)) depth) x (grouped key_after depth xs)
 
   children-turned : (T : List X → Tree X) (U : List Y → Tree Y) → ((xs : List X) → U (map f xs) ≡ turned (T xs)) → (gs : List (Group X))
       → children_of U (map group gs) ≡ turned_in (children_of T gs)
   children-turned T U same [] = refl
   children-turned T U same ((byte, xs) ∷ gs) = ap₂ (λ t cs. child byte t cs) (same xs) (children-turned T U same gs)
 
-  shared-turned : (xs : List X) → shared_prefix key (map f xs) ≡ shared_prefix key_behind xs
+  shared-turned : (xs : List X) → shared_prefix key (map f xs) ≡ shared_prefix key_after xs
   shared-turned [] = refl
   shared-turned (x ∷ []) = refl
   shared-turned (x ∷ y ∷ ys) = ap (common_prefix (key (f x))) (shared-turned (y ∷ ys))
 
-  below-turned : (fuel depth : ℕ) (xs : List X) → tree_below key fuel depth (map f xs) ≡ turned (tree_below key_behind fuel depth xs)
+  below-turned : (fuel depth : ℕ) (xs : List X) → tree_below key fuel depth (map f xs) ≡ turned (tree_below key_after fuel depth xs)
   below-turned zero depth xs = refl
   below-turned (suc fuel) depth [] = refl
   below-turned (suc fuel) depth (x ∷ []) = refl
   below-turned (suc fuel) depth (x ∷ y ∷ ys) =
       let xs = x ∷ y ∷ ys in
-      let front = shared_prefix key_behind xs in
+      let front = shared_prefix key_after xs in
       let tree = tree_below key fuel (suc (length front)) in
       ap (λ p. inner (drop depth p) (children_of (tree_below key fuel (suc (length p))) (grouped key (length p) (map f xs)))) (shared-turned xs)
       ∙ ap (λ gs. inner (drop depth front) (children_of tree gs)) (grouped-turned (length front) xs)
-      ∙ ap (inner (drop depth front)) (children-turned (tree_below key_behind fuel (suc (length front))) tree (below-turned fuel (suc (length front))) (grouped key_behind (length front) xs))
+      ∙ ap (inner (drop depth front)) (children-turned (tree_below key_after fuel (suc (length front))) tree (below-turned fuel (suc (length front))) (grouped key_after (length front) xs))
 
-  paths-turned : (k : List ℕ) (xs : List X) → path_length k (tree_of key (map f xs)) ≡ path_length k (tree_of key_behind xs)
+  paths-turned : (k : List ℕ) (xs : List X) → path_length k (tree_of key (map f xs)) ≡ path_length k (tree_of key_after xs)
   paths-turned k [] = refl
   paths-turned k (x ∷ xs) =
       ap (λ n. length (path_of (tree_below key n 0 (map f (x ∷ xs))) k)) (length-map f (x ∷ xs))
-      ∙ ap (λ t. length (path_of t k)) (below-turned (length (x ∷ xs)) 0 (x ∷ xs)) ∙ path-turned (tree_below key_behind (length (x ∷ xs)) 0 (x ∷ xs)) k
+      ∙ ap (λ t. length (path_of t k)) (below-turned (length (x ∷ xs)) 0 (x ∷ xs)) ∙ path-turned (tree_below key_after (length (x ∷ xs)) 0 (x ∷ xs)) k
 
 -- a list of keys is its own
 abbrev itself : List ℕ → List ℕ

@@ -54,12 +54,12 @@ number_record t n v p fits full value =
     rw (tenant, number, value) refl
 
 -- records of pairs are in order where the bytes of these are
-order_behind : (p : NumberPair) (ns : List NumberPair) → StandsUnder p → AllByRecursion StandsUnder ns → AllByRecursion (λ q. IsBefore p.0 q.0) ns → AllByRecursion (NumberComesBefore (number_record_of p)) (map number_record_of ns)
-order_behind p [] here stand order = tt
-order_behind p (q ∷ ns) here stand order =
+order_after : (p : NumberPair) (ns : List NumberPair) → StandsUnder p → AllByRecursion StandsUnder ns → AllByRecursion (λ q. IsBefore p.0 q.0) ns → AllByRecursion (NumberComesBefore (number_record_of p)) (map number_record_of ns)
+order_after p [] here stand order = tt
+order_after p (q ∷ ns) here stand order =
     let r = number_record_of p in let s = number_record_of q in
     let before = subst (λ a. IsBefore a (pair_key (s.tenant, s.key))) here.key (subst (IsBefore p.0) stand.0.key order.0) in
-    (comes r s (nat_lt r.tenant s.tenant) (r.tenant == s.tenant) (int_lt r.key s.key) refl refl refl (before_tested r.tenant s.tenant r.key s.key here.fits stand.0.fits before), order_behind p ns here stand.1 order.1)
+    (comes r s (nat_lt r.tenant s.tenant) (r.tenant == s.tenant) (int_lt r.key s.key) refl refl refl (before_tested r.tenant s.tenant r.key s.key here.fits stand.0.fits before), order_after p ns here stand.1 order.1)
   where
     comes : (r s : NumberRecord) (a b c : Bool) → nat_lt r.tenant s.tenant ≡ a → (r.tenant == s.tenant) ≡ b → int_lt r.key s.key ≡ c → (a || (b && c)) ≡ true → NumberComesBefore r s
     comes r s true b c e f g h = inl (ltb-true r.tenant s.tenant e)
@@ -68,7 +68,7 @@ order_behind p (q ∷ ns) here stand order =
 
 pub numbers_order : (ns : List NumberPair) → AllByRecursion StandsUnder ns → AscendsByKey number_bytes ns → InOrder NumberComesBefore (map number_record_of ns)
 numbers_order [] stand order = tt
-numbers_order (p ∷ ns) stand order = (order_behind p ns stand.0 stand.1 order.0, numbers_order ns stand.1 order.1)
+numbers_order (p ∷ ns) stand order = (order_after p ns stand.0 stand.1 order.0, numbers_order ns stand.1 order.1)
 
 pub are_in_order : (ns : List NumberPair) → AreNumberPairs ns → InOrder NumberComesBefore (map number_record_of ns)
 are_in_order ns are = numbers_order ns (stand_all ns are.stand are.fit) are.ascend
@@ -147,7 +147,7 @@ module _ (t : ℕ) (n : ℤ) (fits : HaveBytes t n) where
       ∙ sym (option_map-map (λ (p : ℤ × List ℕ). p.1) number_part (find Q (map number_record_of ns)))
       ∙ ap (option_map (λ (p : ℤ × List ℕ). p.1)) (own_find (λ (r : NumberRecord). r.tenant) number_part t Q (λ p. int_eq p.0 n) (map number_record_of ns) (own_tests t is_number_key (λ m. int_eq m n) key_tests (map number_record_of ns)))
 
-  -- the pairs before it, and those behind it
+  -- the pairs before it, and those after it
   abbrev lower : NumberPair → Bool
   lower p = is_before p.0 (pair_key (t, n))
 
@@ -174,7 +174,7 @@ module _ (t : ℕ) (n : ℤ) (fits : HaveBytes t n) where
       go false true e f = sym e ∙ before_true (pair_key (u, m)) (pair_key (s, l)) (tested_before u s m l hu hs f)
       go false false e f = refl
 
-  -- a pair that is neither at it nor before it is behind it
+  -- a pair that is neither at it nor before it is after it
   else_higher : (p : NumberPair) → StandsUnder p → lower p ≡ false → is_number_key p.0 ≡ false → higher p ≡ true
   else_higher p stand e f =
       let r = number_record_of p in
@@ -182,10 +182,10 @@ module _ (t : ℕ) (n : ℤ) (fits : HaveBytes t n) where
       let other : ((r.tenant == t) && int_eq r.key n) ≡ false = sym (key_tests r.tenant r.key stand.fits) ∙ ap is_number_key (sym stand.key) ∙ f in
       ap (is_before (pair_key (t, n))) stand.key ∙ tested t r.tenant n r.key fits stand.fits ∙ one_is_before r.tenant t r.key n no other
 
-  -- so the pairs without one at it are those before it and those behind it
-  pub parts_of : (ns : List NumberPair) → AllByRecursion StandsUnder ns → AscendsByKey number_bytes ns → filter (λ p. not (is_number_key p.0)) ns ≡ filter lower ns ++ filter higher ns
-  parts_of [] stand order = refl
-  parts_of (p ∷ ns) stand order = go (is_number_key p.0) (lower p) refl refl (parts_of ns stand.1 order.1)
+  -- so the pairs without one at it are those before it and those after it
+  pub split_full_key : (ns : List NumberPair) → AllByRecursion StandsUnder ns → AscendsByKey number_bytes ns → filter (λ p. not (is_number_key p.0)) ns ≡ filter lower ns ++ filter higher ns
+  split_full_key [] stand order = refl
+  split_full_key (p ∷ ns) stand order = go (is_number_key p.0) (lower p) refl refl (split_full_key ns stand.1 order.1)
     where
       go : (a b : Bool) → is_number_key p.0 ≡ a → lower p ≡ b → filter (λ p. not (is_number_key p.0)) ns ≡ filter lower ns ++ filter higher ns
           → cond (not a) (p ∷ filter (λ p. not (is_number_key p.0)) ns) (filter (λ p. not (is_number_key p.0)) ns) ≡ cond b (p ∷ filter lower ns) (filter lower ns) ++ filter higher (p ∷ ns)
@@ -223,7 +223,7 @@ module _ (t : ℕ) (n : ℤ) (fits : HaveBytes t n) where
     new_is : new ≡ filter lower ns ++ e ∷ filter higher ns
     new_is =
         is ∙ ap (λ k. put_in_order number_bytes e (without_key number_bytes k ns)) full
-        ∙ ap (put_in_order number_bytes e) (parts_of ns stand are.ascend)
+        ∙ ap (put_in_order number_bytes e) (split_full_key ns stand are.ascend)
         ∙ put_is number_bytes e (filter lower ns) (filter higher ns) put_ascends
 
     made_is : number_record_of e ≡ number_made t (n, v)
@@ -244,15 +244,15 @@ module _ (t : ℕ) (n : ℤ) (fits : HaveBytes t n) where
         All-map StandsUnder (λ p. is_before p.0 (pair_key (t, n)) ≡ stands_before (number_record_of p).tenant (number_record_of p).key t n)
         (λ p under. let r = number_record_of p in ap (λ k. is_before k (pair_key (t, n))) under.key ∙ tested r.tenant t r.key n under.fits fits) ns h
 
-    abbrev stands_behind : NumberRecord → Bool
-    stands_behind r = nat_lt t r.tenant || ((r.tenant == t) && int_lt n r.key)
+    abbrev stands_after : NumberRecord → Bool
+    stands_after r = nat_lt t r.tenant || ((r.tenant == t) && int_lt n r.key)
 
     turned : (u : ℕ) (m : ℤ) → stands_before t n u m ≡ (nat_lt t u || ((u == t) && int_lt n m))
     turned u m = ap (λ b. nat_lt t u || (b && int_lt n m)) (eq_turned t u)
 
-    higher_same : (ns : List NumberPair) → AllByRecursion StandsUnder ns → AllByRecursion (λ p. is_before (pair_key (t, n)) p.0 ≡ stands_behind (number_record_of p)) ns
+    higher_same : (ns : List NumberPair) → AllByRecursion StandsUnder ns → AllByRecursion (λ p. is_before (pair_key (t, n)) p.0 ≡ stands_after (number_record_of p)) ns
     higher_same ns h =
-        All-map StandsUnder (λ p. is_before (pair_key (t, n)) p.0 ≡ stands_behind (number_record_of p))
+        All-map StandsUnder (λ p. is_before (pair_key (t, n)) p.0 ≡ stands_after (number_record_of p))
         (λ p under. let r = number_record_of p in ap (is_before (pair_key (t, n))) under.key ∙ tested t r.tenant n r.key fits under.fits ∙ turned r.tenant r.key) ns h
 
     pub nput_records : map number_record_of new
@@ -262,8 +262,8 @@ module _ (t : ℕ) (n : ℤ) (fits : HaveBytes t n) where
         ap (map number_record_of) new_is ∙ map-append number_record_of (filter lower ns) (e ∷ filter higher ns)
         ∙ ap₂ (λ a b. a ++ number_record_of e ∷ b)
         (numbers_filter (λ k. is_before k (pair_key (t, n))) (λ r. stands_before r.tenant r.key t n) ns (lower_same ns stand))
-        (numbers_filter (is_before (pair_key (t, n))) stands_behind ns (higher_same ns stand))
-        ∙ ap (λ r. filter (λ r. stands_before r.tenant r.key t n) rs ++ r ∷ filter stands_behind rs) made_is
+        (numbers_filter (is_before (pair_key (t, n))) stands_after ns (higher_same ns stand))
+        ∙ ap (λ r. filter (λ r. stands_before r.tenant r.key t n) rs ++ r ∷ filter stands_after rs) made_is
         ∙ cut_put (λ (r : NumberRecord). r.tenant) number_part number_made (λ t p. refl) (λ t p. refl) (λ x. refl) t rs (number_ascends rs (numbers_order ns stand are.ascend))
         (λ p. int_lt p.0 n) (λ p. int_lt n p.0) (n, v)
 

@@ -15,7 +15,7 @@ use Rattle.art_engine.proofs.Filters.{filter-all, All-map, All-passes, length-ma
 use Rattle.art_engine.proofs.FullTests.{overlaps_full}
 use Rattle.art_engine.proofs.OwnLaws.{key_part, key_made, records_from_lists}
 use Rattle.art_engine.proofs.Placing.{full_record, IsPutAmong, put_among}
-use Rattle.art_engine.proofs.Removing.{IsFullTest, passing, without_keeps, without_mine, without_before, without_behind}
+use Rattle.art_engine.proofs.Removing.{IsFullTest, passing, without_keeps, without_mine, without_before, without_after}
 
 -- what does not overlap a key is not at it, and blocks it not
 module _ (k : List ℕ) (ps : List Pair) where
@@ -59,7 +59,7 @@ module _ (t : ℕ) (k v : List ℕ) (ps new : List Pair) (e : Pair) (are : AreFu
       (rw (
         without_before t (overlaps (full_key t k)) (overlaps k) tests ps are,
         without_mine t (overlaps (full_key t k)) (overlaps k) tests ps are,
-        without_behind t (overlaps (full_key t k)) (overlaps k) tests ps are,
+        without_after t (overlaps (full_key t k)) (overlaps k) tests ps are,
       ) refl) refl
 
   pub over_count : length (overlapping bytes_of (bytes_of e) ps) ≡ length (overlapped k (own t (records_of ps)).keys)

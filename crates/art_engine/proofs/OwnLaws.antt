@@ -16,11 +16,11 @@ module _ {X P : Type 0} (tenant_of : X → ℕ) (part_of : X → P) (made : ℕ 
   abbrev before : ℕ → List X → List X
   before t xs = filter (λ x. nat_lt (tenant_of x) t) xs
 
-  abbrev behind : ℕ → List X → List X
-  behind t xs = filter (λ x. nat_lt t (tenant_of x)) xs
+  abbrev following : ℕ → List X → List X
+  following t xs = filter (λ x. nat_lt t (tenant_of x)) xs
 
   abbrev put_back : ℕ → List P → List X → List X
-  put_back t ps xs = before t xs ++ map (made t) ps ++ behind t xs
+  put_back t ps xs = before t xs ++ map (made t) ps ++ following t xs
 
   made_mine : (t : ℕ) (ps : List P) → mine t (map (made t) ps) ≡ map (made t) ps
   made_mine t [] = refl
@@ -39,27 +39,27 @@ module _ {X P : Type 0} (tenant_of : X → ℕ) (part_of : X → P) (made : ℕ 
   pub reads_back : (t : ℕ) (ps : List P) (xs : List X) → map part_of (mine t (put_back t ps xs)) ≡ ps
   reads_back t ps xs =
       let low : mine t (before t xs) ≡ [] = filter-apart (λ x. tenant_of x == t) (λ x. nat_lt (tenant_of x) t) (λ x h. let lt = ltb-true (tenant_of x) t h in ne_eqb (tenant_of x) t (λ e. omega arith)) xs in
-      let high : mine t (behind t xs) ≡ [] = filter-apart (λ x. tenant_of x == t) (λ x. nat_lt t (tenant_of x)) (λ x h. let lt = ltb-true t (tenant_of x) h in ne_eqb (tenant_of x) t (λ e. omega arith)) xs in
+      let high : mine t (following t xs) ≡ [] = filter-apart (λ x. tenant_of x == t) (λ x. nat_lt t (tenant_of x)) (λ x h. let lt = ltb-true t (tenant_of x) h in ne_eqb (tenant_of x) t (λ e. omega arith)) xs in
       let all : mine t (put_back t ps xs) ≡ map (made t) ps =
-      filter-append (λ x. tenant_of x == t) (before t xs ++ map (made t) ps) (behind t xs)
-      ∙ ap (λ l. l ++ mine t (behind t xs)) (filter-append (λ x. tenant_of x == t) (before t xs) (map (made t) ps))
+      filter-append (λ x. tenant_of x == t) (before t xs ++ map (made t) ps) (following t xs)
+      ∙ ap (λ l. l ++ mine t (following t xs)) (filter-append (λ x. tenant_of x == t) (before t xs) (map (made t) ps))
       ∙ rw (low, high, made_mine t ps) (append-nil (map (made t) ps)) in
       ap (map part_of) all ∙ parts_made t ps
 
   pub untouched : (s t : ℕ) (ps : List P) (xs : List X) → s ≢ t → mine s (put_back t ps xs) ≡ mine s xs
   untouched s t ps xs apart =
-      let all : mine s (put_back t ps xs) ≡ mine s (before t xs) ++ mine s (behind t xs) =
-      filter-append (λ x. tenant_of x == s) (before t xs ++ map (made t) ps) (behind t xs)
-      ∙ ap (λ l. l ++ mine s (behind t xs)) (filter-append (λ x. tenant_of x == s) (before t xs) (map (made t) ps))
-      ∙ rw (made_other s t apart ps) (ap (λ l. l ++ mine s (behind t xs)) (append-nil (mine s (before t xs)))) in
+      let all : mine s (put_back t ps xs) ≡ mine s (before t xs) ++ mine s (following t xs) =
+      filter-append (λ x. tenant_of x == s) (before t xs ++ map (made t) ps) (following t xs)
+      ∙ ap (λ l. l ++ mine s (following t xs)) (filter-append (λ x. tenant_of x == s) (before t xs) (map (made t) ps))
+      ∙ rw (made_other s t apart ps) (ap (λ l. l ++ mine s (following t xs)) (append-nil (mine s (before t xs)))) in
       elim (cases_lt s t) [
         | inl low ↦
             let kept : mine s (before t xs) ≡ mine s xs = filter-within (λ x. tenant_of x == s) (λ x. nat_lt (tenant_of x) t) (λ x h. let e = eqb-true (tenant_of x) s h in lt-ltb (tenant_of x) t (omega arith)) xs in
-            let none : mine s (behind t xs) ≡ [] = filter-apart (λ x. tenant_of x == s) (λ x. nat_lt t (tenant_of x)) (λ x h. let lt = ltb-true t (tenant_of x) h in ne_eqb (tenant_of x) s (λ e. omega arith)) xs in
+            let none : mine s (following t xs) ≡ [] = filter-apart (λ x. tenant_of x == s) (λ x. nat_lt t (tenant_of x)) (λ x h. let lt = ltb-true t (tenant_of x) h in ne_eqb (tenant_of x) s (λ e. omega arith)) xs in
             all ∙ rw (kept, none) (append-nil (mine s xs))
         | inr high ↦
             let above : t < s = omega (arith, apart) in
-            let kept : mine s (behind t xs) ≡ mine s xs = filter-within (λ x. tenant_of x == s) (λ x. nat_lt t (tenant_of x)) (λ x h. let e = eqb-true (tenant_of x) s h in lt-ltb t (tenant_of x) (omega arith)) xs in
+            let kept : mine s (following t xs) ≡ mine s xs = filter-within (λ x. tenant_of x == s) (λ x. nat_lt t (tenant_of x)) (λ x h. let e = eqb-true (tenant_of x) s h in lt-ltb t (tenant_of x) (omega arith)) xs in
             let none : mine s (before t xs) ≡ [] = filter-apart (λ x. tenant_of x == s) (λ x. nat_lt (tenant_of x) t) (λ x h. let lt = ltb-true (tenant_of x) t h in ne_eqb (tenant_of x) s (λ e. omega arith)) xs in
             all ∙ rw (kept, none) refl
       ]
@@ -67,27 +67,27 @@ module _ {X P : Type 0} (tenant_of : X → ℕ) (part_of : X → P) (made : ℕ 
   made_not_before : (t : ℕ) (ps : List P) → before t (map (made t) ps) ≡ []
   made_not_before t ps = none_made (λ x. nat_lt (tenant_of x) t) t (λ p. let is = makes_tenant t p in le-ltb (tenant_of (made t p)) t (omega arith)) ps
 
-  made_not_behind : (t : ℕ) (ps : List P) → behind t (map (made t) ps) ≡ []
-  made_not_behind t ps = none_made (λ x. nat_lt t (tenant_of x)) t (λ p. let is = makes_tenant t p in le-ltb t (tenant_of (made t p)) (omega arith)) ps
+  made_not_after : (t : ℕ) (ps : List P) → following t (map (made t) ps) ≡ []
+  made_not_after t ps = none_made (λ x. nat_lt t (tenant_of x)) t (λ p. let is = makes_tenant t p in le-ltb t (tenant_of (made t p)) (omega arith)) ps
 
   before_again : (t : ℕ) (ps : List P) (xs : List X) → before t (put_back t ps xs) ≡ before t xs
   before_again t ps xs =
       let low : before t (before t xs) ≡ before t xs = filter-within (λ x. nat_lt (tenant_of x) t) (λ x. nat_lt (tenant_of x) t) (λ x h. h) xs in
-      let high : before t (behind t xs) ≡ [] = filter-apart (λ x. nat_lt (tenant_of x) t) (λ x. nat_lt t (tenant_of x)) (λ x h. let lt = ltb-true t (tenant_of x) h in le-ltb (tenant_of x) t (omega arith)) xs in
-      filter-append (λ x. nat_lt (tenant_of x) t) (before t xs ++ map (made t) ps) (behind t xs)
-      ∙ ap (λ l. l ++ before t (behind t xs)) (filter-append (λ x. nat_lt (tenant_of x) t) (before t xs) (map (made t) ps))
+      let high : before t (following t xs) ≡ [] = filter-apart (λ x. nat_lt (tenant_of x) t) (λ x. nat_lt t (tenant_of x)) (λ x h. let lt = ltb-true t (tenant_of x) h in le-ltb (tenant_of x) t (omega arith)) xs in
+      filter-append (λ x. nat_lt (tenant_of x) t) (before t xs ++ map (made t) ps) (following t xs)
+      ∙ ap (λ l. l ++ before t (following t xs)) (filter-append (λ x. nat_lt (tenant_of x) t) (before t xs) (map (made t) ps))
       ∙ rw (low, high, made_not_before t ps) (append-nil (before t xs ++ []) ∙ append-nil (before t xs))
 
-  behind_again : (t : ℕ) (ps : List P) (xs : List X) → behind t (put_back t ps xs) ≡ behind t xs
-  behind_again t ps xs =
-      let low : behind t (before t xs) ≡ [] = filter-apart (λ x. nat_lt t (tenant_of x)) (λ x. nat_lt (tenant_of x) t) (λ x h. let lt = ltb-true (tenant_of x) t h in le-ltb t (tenant_of x) (omega arith)) xs in
-      let high : behind t (behind t xs) ≡ behind t xs = filter-within (λ x. nat_lt t (tenant_of x)) (λ x. nat_lt t (tenant_of x)) (λ x h. h) xs in
-      filter-append (λ x. nat_lt t (tenant_of x)) (before t xs ++ map (made t) ps) (behind t xs)
-      ∙ ap (λ l. l ++ behind t (behind t xs)) (filter-append (λ x. nat_lt t (tenant_of x)) (before t xs) (map (made t) ps))
-      ∙ rw (low, high, made_not_behind t ps) refl
+  after_again : (t : ℕ) (ps : List P) (xs : List X) → following t (put_back t ps xs) ≡ following t xs
+  after_again t ps xs =
+      let low : following t (before t xs) ≡ [] = filter-apart (λ x. nat_lt t (tenant_of x)) (λ x. nat_lt (tenant_of x) t) (λ x h. let lt = ltb-true (tenant_of x) t h in le-ltb t (tenant_of x) (omega arith)) xs in
+      let high : following t (following t xs) ≡ following t xs = filter-within (λ x. nat_lt t (tenant_of x)) (λ x. nat_lt t (tenant_of x)) (λ x h. h) xs in
+      filter-append (λ x. nat_lt t (tenant_of x)) (before t xs ++ map (made t) ps) (following t xs)
+      ∙ ap (λ l. l ++ following t (following t xs)) (filter-append (λ x. nat_lt t (tenant_of x)) (before t xs) (map (made t) ps))
+      ∙ rw (low, high, made_not_after t ps) refl
 
   pub put_back_again : (t : ℕ) (ps qs : List P) (xs : List X) → put_back t qs (put_back t ps xs) ≡ put_back t qs xs
-  put_back_again t ps qs xs = ap₂ (λ low high. low ++ map (made t) qs ++ high) (before_again t ps xs) (behind_again t ps xs)
+  put_back_again t ps qs xs = ap₂ (λ low high. low ++ map (made t) qs ++ high) (before_again t ps xs) (after_again t ps xs)
 
   pub made_from_mine : (t : ℕ) (xs : List X) → map (made t) (map part_of (mine t xs)) ≡ mine t xs
   made_from_mine t [] = refl
@@ -100,12 +100,12 @@ module _ {X P : Type 0} (tenant_of : X → ℕ) (part_of : X → P) (made : ℕ 
   abbrev pub Ascends : List X → Type 0
   Ascends xs = InOrder (λ x y. tenant_of x ≤ tenant_of y) xs
 
-  pub three_parts : (t : ℕ) (xs : List X) → Ascends xs → before t xs ++ mine t xs ++ behind t xs ≡ xs
+  pub three_parts : (t : ℕ) (xs : List X) → Ascends xs → before t xs ++ mine t xs ++ following t xs ≡ xs
   three_parts t [] h = refl
   three_parts t (x ∷ xs) h = go (nat_lt (tenant_of x) t) (tenant_of x == t) refl refl (three_parts t xs h.1)
     where
-      go : (a b : Bool) → nat_lt (tenant_of x) t ≡ a → (tenant_of x == t) ≡ b → before t xs ++ mine t xs ++ behind t xs ≡ xs
-          → before t (x ∷ xs) ++ mine t (x ∷ xs) ++ behind t (x ∷ xs) ≡ x ∷ xs
+      go : (a b : Bool) → nat_lt (tenant_of x) t ≡ a → (tenant_of x == t) ≡ b → before t xs ++ mine t xs ++ following t xs ≡ xs
+          → before t (x ∷ xs) ++ mine t (x ∷ xs) ++ following t (x ∷ xs) ≡ x ∷ xs
       go true b e f ih =
           let low = ltb-true (tenant_of x) t e in
           let other : (tenant_of x == t) ≡ false = ne_eqb (tenant_of x) t (λ k. omega arith) in

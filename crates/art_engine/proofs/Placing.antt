@@ -22,7 +22,7 @@ use Rattle.art_engine.proofs.Filters.{All-left, All-right}
 use Rattle.art_engine.proofs.FullKeys.{full_before, cmp_itself}
 use Rattle.art_engine.proofs.OwnLaws.{key_made}
 use Rattle.art_engine.proofs.Standing.{AllBefore, AllBehind, stands_to, standing, cmp_same, Parted, absent, present, parted}
-use Rattle.art_engine.proofs.Putting.{pairs_of_tenant, value_in_gap, value_there, no_conflict_with, new_behind, new_before, same_behind, same_before, FitsBetween, put_keeps, put_records, InOrder-before, InOrder-behind}
+use Rattle.art_engine.proofs.Putting.{pairs_of_tenant, value_in_gap, value_there, no_conflict_with, new_after, new_before, same_after, same_before, FitsBetween, put_keeps, put_records, InOrder-before, InOrder-following}
 
 -- the record of a full key
 pub full_record : (t : ℕ) (k v : List ℕ) (p : Pair) → t < 2 ^ 32 → bytes_of p ≡ full_key t k → p.1.items ≡ v → record_of p ≡ key_made t (k, v)
@@ -37,19 +37,19 @@ full_is : (t : ℕ) (k v : List ℕ) (p : Pair) → bytes_of p ≡ full_key t k 
 full_is t k v p full is = full ∙ sym (ap (λ (r : KeyRecord). full_key r.tenant r.key) is)
 
 -- pairs that an index holds ascend by their full keys
-ascend_behind : (p : Pair) (qs : List Pair) → IsFull p → IsOfTenant (record_of p) → AllByRecursion IsFull qs → AllByRecursion (KeyComesBefore (record_of p)) (map record_of qs)
+ascend_after : (p : Pair) (qs : List Pair) → IsFull p → IsOfTenant (record_of p) → AllByRecursion IsFull qs → AllByRecursion (KeyComesBefore (record_of p)) (map record_of qs)
     → AllByRecursion IsOfTenant (map record_of qs) → AllByRecursion (λ q. IsBefore (bytes_of p) (bytes_of q)) qs
-ascend_behind p [] full fits fulls order fit = tt
-ascend_behind p (q ∷ qs) full fits fulls order fit =
+ascend_after p [] full fits fulls order fit = tt
+ascend_after p (q ∷ qs) full fits fulls order fit =
     let r = record_of p in
     let s = record_of q in (
       subst (λ a. IsBefore a (bytes_of q)) (sym full) (subst (IsBefore (full_key r.tenant r.key)) (sym fulls.0) (full_before r s fits fit.0 order.0)),
-      ascend_behind p qs full fits fulls.1 order.1 fit.1,
+      ascend_after p qs full fits fulls.1 order.1 fit.1,
     )
 
 ascend : (ps : List Pair) → AllByRecursion IsFull ps → InOrder KeyComesBefore (map record_of ps) → AllByRecursion IsOfTenant (map record_of ps) → AscendsByKey bytes_of ps
 ascend [] full order fit = tt
-ascend (p ∷ ps) full order fit = (ascend_behind p ps full.0 fit.0 full.1 order.0 fit.1, ascend ps full.1 order.1 fit.1)
+ascend (p ∷ ps) full order fit = (ascend_after p ps full.0 fit.0 full.1 order.0 fit.1, ascend ps full.1 order.1 fit.1)
 
 pub pairs_ascend : (ps : List Pair) → AreFull ps → AscendsByKey bytes_of ps
 pairs_ascend ps are = ascend ps are.full are.in_order are.tenants
@@ -128,8 +128,8 @@ module _ (t : ℕ) (k v : List ℕ) (e : Pair) (fits : t < 2 ^ 32) (full : bytes
         is = is_made;
         full = full_is t k v e full is_made;
         fits = fits;
-        before = new_behind t k v (map record_of fs) low (All-left _ (map record_of fs) (map record_of bs) parts);
-        behind = new_before t k v (map record_of bs) high (All-right _ (map record_of fs) (map record_of bs) parts);
+        before = new_after t k v (map record_of fs) low (All-left _ (map record_of fs) (map record_of bs) parts);
+        following = new_before t k v (map record_of bs) high (All-right _ (map record_of fs) (map record_of bs) parts);
       } in
       let keeps = put_keeps t k v fs [] bs e are between in
       (record { keeps = keeps; records_are = put_records t k v fs [] bs e are between }, (put_new bytes_of e fs bs (pairs_ascend (fs ++ e ∷ bs) keeps)).new_is)
@@ -146,8 +146,8 @@ module _ (t : ℕ) (k v : List ℕ) (e : Pair) (fits : t < 2 ^ 32) (full : bytes
         is = is_made;
         full = full_is t k v e full is_made;
         fits = fits;
-        before = same_behind t k v (map record_of fs) (record_of m) here (InOrder-before KeyComesBefore (map record_of fs) (map record_of bs) (record_of m) order);
-        behind = same_before t k v (map record_of bs) (record_of m) here (InOrder-behind KeyComesBefore (map record_of fs) (map record_of bs) (record_of m) order);
+        before = same_after t k v (map record_of fs) (record_of m) here (InOrder-before KeyComesBefore (map record_of fs) (map record_of bs) (record_of m) order);
+        following = same_before t k v (map record_of bs) (record_of m) here (InOrder-following KeyComesBefore (map record_of fs) (map record_of bs) (record_of m) order);
       } in
       let keeps = put_keeps t k v fs (m ∷ []) bs e are between in
       (record { keeps = keeps; records_are = put_records t k v fs (m ∷ []) bs e are between }, (put_replaced bytes_of e fs m bs same (pairs_ascend (fs ++ e ∷ bs) keeps)).new_is)
@@ -200,9 +200,9 @@ module _ (ps : List Pair) (t : ℕ) (k v : List ℕ) (are : AreFull ps) (fits : 
 
   pub conflict_placed : IsBlocked bytes_of (full_key t k) ps → IsPutDone changed.Conflict (records_of ps) t k v (records_of ps)
   conflict_placed blocked =
-      let told = blocked_told t k fits ps are.full are.tenants blocked in
+      let output = blocked_told t k fits ps are.full are.tenants blocked in
       let there = blocked_absent blocked in
-      conflict_done t (with_mine k v (own t (records_of ps))) (records_of ps) at_key in_conflict there told
+      conflict_done t (with_mine k v (own t (records_of ps))) (records_of ps) at_key in_conflict there output
 
   module _ (e : Pair) (new : List Pair) (full : bytes_of e ≡ full_key t k) (value : e.1.items ≡ v) (free : IsBlocked bytes_of (full_key t k) ps → ⊥)
       (is : IsNewList e ps new) where
@@ -220,8 +220,8 @@ module _ (ps : List Pair) (t : ℕ) (k v : List ℕ) (are : AreFull ps) (fits : 
     pub new_placed : None ≡ lookup (is_full_key t k) ps → IsPutDone changed.New (records_of ps) t k v (records_of new)
     new_placed none =
         let there : at_key ≡ None = sym (ap (option_map (λ (w : Vec ℕ). w.items)) none ∙ found t k fits ps are) in
-        let told = free_told t k fits ps are.full are.tenants free in
-        new_done t (with_mine k v (own t (records_of ps))) (records_of ps) (records_of new) at_key in_conflict there told done.records_are
+        let output = free_told t k fits ps are.full are.tenants free in
+        new_done t (with_mine k v (own t (records_of ps))) (records_of ps) (records_of new) at_key in_conflict there output done.records_are
 
     pub old_placed : (old : Vec ℕ) → Some old ≡ lookup (is_full_key t k) ps → IsPutDone (changed.Old old) (records_of ps) t k v (records_of new)
     old_placed old some =

@@ -45,18 +45,18 @@ module _ {X : Type 0} where
   -- one more in order, in the place of some
   InOrder-put : (B : X → X → Type 0) (fs ms bs : List X) (x : X) → InOrder B (fs ++ (ms ++ bs)) → AllByRecursion (λ a. B a x) fs → AllByRecursion (B x) bs
       → InOrder B (fs ++ x ∷ bs)
-  InOrder-put B [] ms bs x order before behind = (behind, InOrder-right B ms bs order)
-  InOrder-put B (a ∷ fs) ms bs x order before behind =
+  InOrder-put B [] ms bs x order before following = (following, InOrder-right B ms bs order)
+  InOrder-put B (a ∷ fs) ms bs x order before following =
       let rest = All-right (B a) fs (ms ++ bs) order.0 in
-      (All-append (B a) fs (x ∷ bs) (All-left (B a) fs (ms ++ bs) order.0) (before.0, All-right (B a) ms bs rest), InOrder-put B fs ms bs x order.1 before.1 behind)
+      (All-append (B a) fs (x ∷ bs) (All-left (B a) fs (ms ++ bs) order.0) (before.0, All-right (B a) ms bs rest), InOrder-put B fs ms bs x order.1 before.1 following)
 
   pub InOrder-before : (B : X → X → Type 0) (fs bs : List X) (m : X) → InOrder B (fs ++ m ∷ bs) → AllByRecursion (λ a. B a m) fs
   InOrder-before B [] bs m h = tt
   InOrder-before B (a ∷ fs) bs m h = ((All-right (B a) fs (m ∷ bs) h.0).0, InOrder-before B fs bs m h.1)
 
-  pub InOrder-behind : (B : X → X → Type 0) (fs bs : List X) (m : X) → InOrder B (fs ++ m ∷ bs) → AllByRecursion (B m) bs
-  InOrder-behind B [] bs m h = h.0
-  InOrder-behind B (a ∷ fs) bs m h = InOrder-behind B fs bs m h.1
+  pub InOrder-following : (B : X → X → Type 0) (fs bs : List X) (m : X) → InOrder B (fs ++ m ∷ bs) → AllByRecursion (B m) bs
+  InOrder-following B [] bs m h = h.0
+  InOrder-following B (a ∷ fs) bs m h = InOrder-following B fs bs m h.1
 
 -- a fact of the keys of a tenant's pairs, from its records
 pairs_all : (P : List ℕ → Type 0) (t : ℕ) (rs : List KeyRecord) → AllByRecursion (λ r. r.tenant ≡ t → P r.key) rs → AllByRecursion (λ p. P p.0) (pairs_of_tenant t rs)
@@ -70,20 +70,20 @@ module _ (t : ℕ) (k : List ℕ) where
   before_key : (r : KeyRecord) → stands_to t k r ≡ Less → r.tenant ≡ t → IsTrue (is_below r.key k)
   before_key r e same = elim (standing t k r Less e) [ inl low ↦ absurd (omega arith) | inr up ↦ up.1 ]
 
-  behind_key : (r : KeyRecord) → stands_to t k r ≡ Greater → r.tenant ≡ t → IsTrue (is_below k r.key)
-  behind_key r e same = elim (standing t k r Greater e) [ inl low ↦ absurd (omega arith) | inr up ↦ up.1 ]
+  after_key : (r : KeyRecord) → stands_to t k r ≡ Greater → r.tenant ≡ t → IsTrue (is_below k r.key)
+  after_key r e same = elim (standing t k r Greater e) [ inl low ↦ absurd (omega arith) | inr up ↦ up.1 ]
 
   before_tenant : (r : KeyRecord) → stands_to t k r ≡ Less → r.tenant ≤ t
   before_tenant r e = elim (standing t k r Less e) [ inl low ↦ omega arith | inr up ↦ let s = up.0 in omega arith ]
 
-  behind_tenant : (r : KeyRecord) → stands_to t k r ≡ Greater → t ≤ r.tenant
-  behind_tenant r e = elim (standing t k r Greater e) [ inl low ↦ omega arith | inr up ↦ let s = up.0 in omega arith ]
+  after_tenant : (r : KeyRecord) → stands_to t k r ≡ Greater → t ≤ r.tenant
+  after_tenant r e = elim (standing t k r Greater e) [ inl low ↦ omega arith | inr up ↦ let s = up.0 in omega arith ]
 
   pairs_before : (rs : List KeyRecord) → AllBefore t k rs → AllByRecursion (λ p. IsTrue (is_below p.0 k)) (pairs_of_tenant t rs)
   pairs_before rs h = pairs_all (λ j. IsTrue (is_below j k)) t rs (All-map (λ r. stands_to t k r ≡ Less) (λ r. r.tenant ≡ t → IsTrue (is_below r.key k)) before_key rs h)
 
-  pairs_behind : (rs : List KeyRecord) → AllBehind t k rs → AllByRecursion (λ p. IsTrue (is_below k p.0)) (pairs_of_tenant t rs)
-  pairs_behind rs h = pairs_all (λ j. IsTrue (is_below k j)) t rs (All-map (λ r. stands_to t k r ≡ Greater) (λ r. r.tenant ≡ t → IsTrue (is_below k r.key)) behind_key rs h)
+  pairs_after : (rs : List KeyRecord) → AllBehind t k rs → AllByRecursion (λ p. IsTrue (is_below k p.0)) (pairs_of_tenant t rs)
+  pairs_after rs h = pairs_all (λ j. IsTrue (is_below k j)) t rs (All-map (λ r. stands_to t k r ≡ Greater) (λ r. r.tenant ≡ t → IsTrue (is_below k r.key)) after_key rs h)
 
   pairs_at : (rs : List KeyRecord) → AllAt t k rs → AllByRecursion (λ p. p.0 ≡ k) (pairs_of_tenant t rs)
   pairs_at rs h = pairs_all (λ j. j ≡ k) t rs (All-map (λ r. stands_to t k r ≡ Equal) (λ r. r.tenant ≡ t → r.key ≡ k) (λ r e same. (standing t k r Equal e).1) rs h)
@@ -101,7 +101,7 @@ module _ (t : ℕ) (k : List ℕ) where
   pub value_in_gap : (fs bs : List KeyRecord) → AllBefore t k fs → AllBehind t k bs → value_at bytes_eq k (pairs_of_tenant t (fs ++ bs)) ≡ None
   value_in_gap fs bs low high = ap (λ ps. value_at bytes_eq k ps) (pairs_append fs bs) ∙ ap (option_map (λ p. p.1))
       (find-skips (λ p. bytes_eq p.0 k) (pairs_of_tenant t fs) (pairs_of_tenant t bs) (All-map (λ p. IsTrue (is_below p.0 k)) (λ p. bytes_eq p.0 k ≡ false) (λ p. below_other p.0) (pairs_of_tenant t fs) (pairs_before fs low))
-      ∙ find-none (λ p. bytes_eq p.0 k) (pairs_of_tenant t bs) (All-map (λ p. IsTrue (is_below k p.0)) (λ p. bytes_eq p.0 k ≡ false) (λ p. above_other p.0) (pairs_of_tenant t bs) (pairs_behind bs high)))
+      ∙ find-none (λ p. bytes_eq p.0 k) (pairs_of_tenant t bs) (All-map (λ p. IsTrue (is_below k p.0)) (λ p. bytes_eq p.0 k ≡ false) (λ p. above_other p.0) (pairs_of_tenant t bs) (pairs_after bs high)))
 
   pub value_there : (fs bs : List KeyRecord) (r : KeyRecord) → AllBefore t k fs → stands_to t k r ≡ Equal → value_at bytes_eq k (pairs_of_tenant t (fs ++ r ∷ bs)) ≡ Some r.value
   value_there fs bs r low here =
@@ -129,14 +129,14 @@ module _ (t : ℕ) (k : List ℕ) where
       ∙ rw (
         filter-all (λ p. is_below p.0 k) A (pairs_before fs low),
         filter-none (λ p. is_below p.0 k) M (All-map (λ p. p.0 ≡ k) (λ p. is_below p.0 k ≡ false) below_itself_not M (pairs_at ms here)),
-        filter-none (λ p. is_below p.0 k) B (All-map (λ p. IsTrue (is_below k p.0)) (λ p. is_below p.0 k ≡ false) (λ p. not_both_below k p.0) B (pairs_behind bs high)),
+        filter-none (λ p. is_below p.0 k) B (All-map (λ p. IsTrue (is_below k p.0)) (λ p. is_below p.0 k ≡ false) (λ p. not_both_below k p.0) B (pairs_after bs high)),
       ) (append-nil A) in
       let upper : filter (λ p. is_below k p.0) (A ++ (M ++ B)) ≡ B =
       filter-append (λ p. is_below k p.0) A (M ++ B) ∙ ap (λ l. filter (λ p. is_below k p.0) A ++ l) (filter-append (λ p. is_below k p.0) M B)
       ∙ rw (
         filter-none (λ p. is_below k p.0) A (All-map (λ p. IsTrue (is_below p.0 k)) (λ p. is_below k p.0 ≡ false) (λ p. not_both_below p.0 k) A (pairs_before fs low)),
         filter-none (λ p. is_below k p.0) M (All-map (λ p. p.0 ≡ k) (λ p. is_below k p.0 ≡ false) above_itself_not M (pairs_at ms here)),
-        filter-all (λ p. is_below k p.0) B (pairs_behind bs high),
+        filter-all (λ p. is_below k p.0) B (pairs_after bs high),
       ) refl in
       ap (with_pair is_below k v) parts ∙ rw (lower, upper) refl
 
@@ -148,7 +148,7 @@ module _ (t : ℕ) (k : List ℕ) where
       let lt : KeyRecord → Bool = λ r. nat_lt r.tenant t in let gt : KeyRecord → Bool = λ r. nat_lt t r.tenant in let eq : KeyRecord → Bool = λ r. r.tenant == t in
       let no_lt_ms : filter lt ms ≡ [] = filter-none lt ms (All-map (λ r. stands_to t k r ≡ Equal) (λ r. lt r ≡ false) (λ r e. let s = (standing t k r Equal e).0 in le-ltb r.tenant t (omega arith)) ms here) in
       let no_gt_ms : filter gt ms ≡ [] = filter-none gt ms (All-map (λ r. stands_to t k r ≡ Equal) (λ r. gt r ≡ false) (λ r e. let s = (standing t k r Equal e).0 in le-ltb t r.tenant (omega arith)) ms here) in
-      let no_lt_bs : filter lt bs ≡ [] = filter-none lt bs (All-map (λ r. stands_to t k r ≡ Greater) (λ r. lt r ≡ false) (λ r e. le-ltb r.tenant t (behind_tenant r e)) bs high) in
+      let no_lt_bs : filter lt bs ≡ [] = filter-none lt bs (All-map (λ r. stands_to t k r ≡ Greater) (λ r. lt r ≡ false) (λ r e. le-ltb r.tenant t (after_tenant r e)) bs high) in
       let no_gt_fs : filter gt fs ≡ [] = filter-none gt fs (All-map (λ r. stands_to t k r ≡ Less) (λ r. gt r ≡ false) (λ r e. le-ltb t r.tenant (before_tenant r e)) fs low) in
       let lows : filter lt (fs ++ (ms ++ bs)) ≡ filter lt fs =
       filter-append lt fs (ms ++ bs) ∙ ap (λ l. filter lt fs ++ l) (filter-append lt ms bs) ∙ rw (no_lt_ms, no_lt_bs) (append-nil (filter lt fs)) in
@@ -196,8 +196,8 @@ conflicts_back a b h = go (is_proper_front a b) (is_proper_front b a) h
 
 -- a new record among those of a gap, without a conflict
 module _ (t : ℕ) (k v : List ℕ) where
-  pub new_behind : (rs : List KeyRecord) → AllBefore t k rs → AllByRecursion (λ r. r.tenant ≡ t → conflicts k r.key ≡ false) rs → AllByRecursion (λ r. KeyComesBefore r (key_made t (k, v))) rs
-  new_behind rs low free = All-both (λ r. stands_to t k r ≡ Less) (λ r. r.tenant ≡ t → conflicts k r.key ≡ false) (λ r. KeyComesBefore r (key_made t (k, v))) step rs low free
+  pub new_after : (rs : List KeyRecord) → AllBefore t k rs → AllByRecursion (λ r. r.tenant ≡ t → conflicts k r.key ≡ false) rs → AllByRecursion (λ r. KeyComesBefore r (key_made t (k, v))) rs
+  new_after rs low free = All-both (λ r. stands_to t k r ≡ Less) (λ r. r.tenant ≡ t → conflicts k r.key ≡ false) (λ r. KeyComesBefore r (key_made t (k, v))) step rs low free
     where
       step : (r : KeyRecord) → stands_to t k r ≡ Less → (r.tenant ≡ t → conflicts k r.key ≡ false) → KeyComesBefore r (key_made t (k, v))
       step r e apart = elim (standing t k r Less e) [ inl lt ↦ inl lt | inr up ↦ inr (up.0, up.1, conflicts_back k r.key (apart up.0)) ]
@@ -209,8 +209,8 @@ module _ (t : ℕ) (k v : List ℕ) where
       step r e apart = elim (standing t k r Greater e) [ inl lt ↦ inl lt | inr up ↦ inr (sym up.0, up.1, apart up.0) ]
 
   -- a new value in the place of a record at the key
-  pub same_behind : (rs : List KeyRecord) (m : KeyRecord) → stands_to t k m ≡ Equal → AllByRecursion (λ r. KeyComesBefore r m) rs → AllByRecursion (λ r. KeyComesBefore r (key_made t (k, v))) rs
-  same_behind rs m here h =
+  pub same_after : (rs : List KeyRecord) (m : KeyRecord) → stands_to t k m ≡ Equal → AllByRecursion (λ r. KeyComesBefore r m) rs → AllByRecursion (λ r. KeyComesBefore r (key_made t (k, v))) rs
+  same_after rs m here h =
       let is = standing t k m Equal here in
       All-map (λ r. KeyComesBefore r m) (λ r. KeyComesBefore r (key_made t (k, v))) (λ r b. step r m is.0 is.1 b) rs h
     where
@@ -236,7 +236,7 @@ pub record FitsBetween (t : ℕ) (k v : List ℕ) (fs ms bs : List Pair) (e : Pa
   pub full : IsFull e
   pub fits : t < 2 ^ 32
   pub before : AllByRecursion (λ r. KeyComesBefore r (key_made t (k, v))) (map record_of fs)
-  pub behind : AllByRecursion (λ r. KeyComesBefore (key_made t (k, v)) r) (map record_of bs)
+  pub following : AllByRecursion (λ r. KeyComesBefore (key_made t (k, v)) r) (map record_of bs)
 
 three_lists : (fs ms bs : List Pair) → map record_of (fs ++ (ms ++ bs)) ≡ map record_of fs ++ (map record_of ms ++ map record_of bs)
 three_lists fs ms bs = map-append record_of fs (ms ++ bs) ∙ ap (λ l. map record_of fs ++ l) (map-append record_of ms bs)
@@ -263,7 +263,7 @@ module _ (t : ℕ) (k v : List ℕ) (fs ms bs : List Pair) (e : Pair) (are : Are
   pub put_keeps : AreFull (fs ++ e ∷ bs)
   put_keeps = record {
     full = All-append IsFull fs (e ∷ bs) (All-left IsFull fs (ms ++ bs) are.full) (f.full, All-right IsFull ms bs (All-right IsFull fs (ms ++ bs) are.full));
-    in_order = subst (InOrder KeyComesBefore) (sym new_list) (InOrder-put KeyComesBefore F M B (key_made t (k, v)) order f.before f.behind);
+    in_order = subst (InOrder KeyComesBefore) (sym new_list) (InOrder-put KeyComesBefore F M B (key_made t (k, v)) order f.before f.following);
     tenants = subst (AllByRecursion IsOfTenant) (sym new_list)
         (All-append IsOfTenant F (key_made t (k, v) ∷ B) (All-left IsOfTenant F (M ++ B) fit) (f.fits, All-right IsOfTenant M B (All-right IsOfTenant F (M ++ B) fit)));
   }

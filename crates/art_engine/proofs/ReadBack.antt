@@ -53,7 +53,7 @@ after_by r line o e = ap (λ x. command_after x r) e
 abbrev new_line : List ℕ
 new_line = line_of (name (codes "new") ∷ [])
 
--- a put of a key behind all others
+-- a put of a key after all others
 module _ (fs : List KeyRecord) (x : KeyRecord) (order : InOrder KeyComesBefore (fs ++ x ∷ [])) where
   befores : AllByRecursion (λ r. KeyComesBefore r x) fs
   befores = InOrder-before KeyComesBefore fs [] x order
@@ -98,7 +98,7 @@ module _ (fs : List KeyRecord) (x : KeyRecord) (order : InOrder KeyComesBefore (
       ∙ records_put x.tenant x.key x.value fs [] [] (subst (InOrder KeyComesBefore) (sym (append-nil fs)) (InOrder-left KeyComesBefore fs (x ∷ []) order)) low tt tt)
       refl
 
--- so of all, where the lines of the records behind some are each answered `new` and put one more in
+-- so of all, where the lines of the records after some are each answered `new` and put one more in
 module _ {X : Type 0} (words : X → List Word) (held : List X → Records) (Before : X → X → Type 0) (Fits : X → Type 0)
     (new : (fs : List X) (x : X) → InOrder Before (fs ++ x ∷ []) → Fits x → reply_to (held fs) (text_of (words x)) ≡ new_line)
     (put_in : (fs : List X) (x : X) → InOrder Before (fs ++ x ∷ []) → Fits x → records_after (held fs) (text_of (words x)) ≡ held (fs ++ x ∷ [])) where
@@ -115,7 +115,7 @@ module _ {X : Type 0} (words : X → List Word) (held : List X → Records) (Bef
         ap (λ r. after r (map text_of (map words rs))) put_is ∙ rest.1 ∙ ap held (sym whole),
       )
 
--- a put at a number behind all others
+-- a put at a number after all others
 module _ (ks : List KeyRecord) (keys_order : InOrder KeyComesBefore ks) (fs : List NumberRecord) (x : NumberRecord) (order : InOrder NumberComesBefore (fs ++ x ∷ [])) where
   all_before : AllByRecursion (λ r. NumberComesBefore r x) fs
   all_before = InOrder-before NumberComesBefore fs [] x order

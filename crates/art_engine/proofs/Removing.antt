@@ -6,7 +6,7 @@ use Rattle.std.specs.Map.{lookup_entry}
 use Rattle.art_lines.proofs.Common.{full_key}
 use Rattle.art_engine.proofs.Terms.{full_key_of, KeyRecord, InOrder, KeyComesBefore, Pair, record_of, IsFull, AreFull, IsOfTenant}
 use Rattle.art_engine.proofs.Filters.{All-filter, All-map, filter-mapped}
-use Rattle.art_engine.proofs.Dropping.{InOrder-filter, IsOwnTest, own_filter, own_find, left_mine, left_before, left_behind, left_in_place}
+use Rattle.art_engine.proofs.Dropping.{InOrder-filter, IsOwnTest, own_filter, own_find, left_mine, left_before, left_after, left_in_place}
 use Rattle.art_engine.proofs.OwnLaws.{key_part, key_made, key_ascends}
 use Rattle.art_engine.proofs.Putting.{pairs_of_tenant}
 
@@ -70,10 +70,10 @@ module _ (t : ℕ) (T G : List ℕ → Bool) (tests : IsFullTest t T G) where
       ap (filter (λ (r : KeyRecord). nat_lt r.tenant t)) (records_without ps are.full)
       ∙ left_before (λ (r : KeyRecord). r.tenant) key_part t (λ r. T (full_key_of r)) (λ p. G p.0) (map record_of ps) (own_tests (map record_of ps) are.tenants)
 
-  pub without_behind : (ps : List Pair) → AreFull ps → filter (λ r. nat_lt t r.tenant) (map record_of (without ps)) ≡ filter (λ r. nat_lt t r.tenant) (map record_of ps)
-  without_behind ps are =
+  pub without_after : (ps : List Pair) → AreFull ps → filter (λ r. nat_lt t r.tenant) (map record_of (without ps)) ≡ filter (λ r. nat_lt t r.tenant) (map record_of ps)
+  without_after ps are =
       ap (filter (λ (r : KeyRecord). nat_lt t r.tenant)) (records_without ps are.full)
-      ∙ left_behind (λ (r : KeyRecord). r.tenant) key_part t (λ r. T (full_key_of r)) (λ p. G p.0) (map record_of ps) (own_tests (map record_of ps) are.tenants)
+      ∙ left_after (λ (r : KeyRecord). r.tenant) key_part t (λ r. T (full_key_of r)) (λ p. G p.0) (map record_of ps) (own_tests (map record_of ps) are.tenants)
 
   -- and their records are those with the tenant's others in place
   pub without_is : (ps : List Pair) → AreFull ps

@@ -5,9 +5,9 @@ use Rattle.std.specs.Prelude.{Option, Some, None, flat_map, codes}
 use Rattle.art_lines.specs.Words.{Word}
 use Rattle.art_lines.proofs.Common.{line_of, name, put, drop, Command, of_tenant}
 use Rattle.art_lines.specs.Reading.{command_of}
-use Rattle.art_engine.proofs.Terms.{Records, command_reply, command_after, MayRefuse, answer, left_by, reply_to, records_after, IsPutDone, IsChangeDone, changed_words, found_no_memory, visits_of, line_visits, IsWithin}
-use Rattle.art_engine.specs.Dropped.{IsDropDone, dropped_words, was_refused, visits_told}
-use Rattle.art_engine.specs.Survey.{IsSurvey, survey_words, finds_no_memory}
+use Rattle.art_engine.proofs.Terms.{Records, command_reply, command_after, MayRefuse, answer, left_by, reply_to, records_after, IsPutDone, IsChangeDone, changed_words, change_is_memory, visits_of, line_visits, IsWithin}
+use Rattle.art_engine.specs.Dropped.{IsDropDone, dropped_words, drop_is_memory, drop_visits}
+use Rattle.art_engine.specs.Survey.{IsSurvey, survey_words, survey_is_memory}
 use Rattle.art_engine.specs.declared.drop_tenant.Dropped.{Dropped}
 use Rattle.art_engine.specs.declared.drop_tenant.Dropped.TheVariants as dropped
 use Rattle.art_engine.specs.declared.survey.Survey.{Survey}
@@ -25,20 +25,20 @@ told_once : (ws : List Word) (o : Option Command) (r : Records) (line : List ℕ
 told_once ws o r line e h = sym (append-nil (line_of ws)) ∙ ap (flat_map line_of) h ∙ reply_is o r line e
 
 -- what a change is answered by, and what it leaves
-done_reply : (p : Changed) (c : Command) (old new : Records) (line : List ℕ) → Some c ≡ command_of line → IsChangeDone p c old new → line_of (changed_words p) ≡ answer (found_no_memory p) old line
+done_reply : (p : Changed) (c : Command) (old new : Records) (line : List ℕ) → Some c ≡ command_of line → IsChangeDone p c old new → line_of (changed_words p) ≡ answer (change_is_memory p) old line
 done_reply changed.Memory c old new line e h = refl
 done_reply p c old new line e h = told_once (changed_words p) (Some c) old line e h.0
 
-done_after : (p : Changed) (c : Command) (old new : Records) (line : List ℕ) → Some c ≡ command_of line → IsChangeDone p c old new → new ≡ left_by (found_no_memory p) old line
+done_after : (p : Changed) (c : Command) (old new : Records) (line : List ℕ) → Some c ≡ command_of line → IsChangeDone p c old new → new ≡ left_by (change_is_memory p) old line
 done_after changed.Memory c old new line e h = h.0
 done_after p c old new line e h = h.1 ∙ after_is (Some c) old line e
 
 -- where it found no memory, it may do so
-done_may : (p : Changed) (c : Command) (old new : Records) → IsChangeDone p c old new → found_no_memory p ≡ true → MayRefuse old c
+done_may : (p : Changed) (c : Command) (old new : Records) → IsChangeDone p c old new → change_is_memory p ≡ true → MayRefuse old c
 done_may changed.Memory c old new h m = h.1
 done_may p c old new h m = absurd (false≢true m)
 
-module _ (p : Changed) (memory : Bool) (c : Command) (held old new : Records) (line : List ℕ) (found : memory ≡ found_no_memory p) (same : held ≡ old)
+module _ (p : Changed) (memory : Bool) (c : Command) (held old new : Records) (line : List ℕ) (found : memory ≡ change_is_memory p) (same : held ≡ old)
     (e : Some c ≡ command_of line) (h : IsChangeDone p c held new) where
   pub done_told : line_of (changed_words p) ≡ answer memory old line
   done_told = done_reply p c held new line e h ∙ ap (λ b. answer b held line) (sym found) ∙ ap (λ r. answer memory r line) same
@@ -70,20 +70,20 @@ same_left r c line e h = sym h ∙ after_is (Some c) r line e
 
 -- what is told of all records, and what that leaves
 told_answer : (t : Survey) (c : Command) (r : Records) (line : List ℕ) → Some c ≡ command_of line → IsSurvey t c r
-    → flat_map line_of (survey_words t r) ≡ answer (finds_no_memory t) r line
+    → flat_map line_of (survey_words t r) ≡ answer (survey_is_memory t) r line
 told_answer survey.Memory c r line e h = append-nil (line_of (name (codes "memory") ∷ []))
 told_answer t c r line e h = ap (flat_map line_of) h ∙ reply_is (Some c) r line e
 
 told_leaves : (t : Survey) (c : Command) (r : Records) (line : List ℕ) → Some c ≡ command_of line → command_after (Some c) r ≡ r
-    → r ≡ left_by (finds_no_memory t) r line
+    → r ≡ left_by (survey_is_memory t) r line
 told_leaves survey.Memory c r line e h = refl
 told_leaves t c r line e h = same_left r c line e h
 
-told_may : (t : Survey) (c : Command) (r : Records) → IsSurvey t c r → finds_no_memory t ≡ true → MayRefuse r c
+told_may : (t : Survey) (c : Command) (r : Records) → IsSurvey t c r → survey_is_memory t ≡ true → MayRefuse r c
 told_may survey.Memory c r h m = h
 told_may t c r h m = absurd (false≢true m)
 
-module _ (t : Survey) (memory : Bool) (c : Command) (held old : Records) (line : List ℕ) (found : memory ≡ finds_no_memory t) (same : held ≡ old)
+module _ (t : Survey) (memory : Bool) (c : Command) (held old : Records) (line : List ℕ) (found : memory ≡ survey_is_memory t) (same : held ≡ old)
     (e : Some c ≡ command_of line) (h : IsSurvey t c held) where
   pub all_told : flat_map line_of (survey_words t held) ≡ answer memory old line
   all_told = told_answer t c held line e h ∙ ap (λ b. answer b held line) (sym found) ∙ ap (λ r. answer memory r line) same
@@ -95,23 +95,23 @@ module _ (t : Survey) (memory : Bool) (c : Command) (held old : Records) (line :
   all_lawful m = subst (λ r. MayRefuse r c) same (told_may t c held h (sym found ∙ m))
 
 -- how the drop of a tenant went, what that leaves, and how many nodes it read and freed
-dropped_reply : (d : Dropped) (t : ℕ) (old new : Records) (line : List ℕ) → Some (of_tenant t drop) ≡ command_of line → IsDropDone d t old new → line_of (dropped_words d) ≡ answer (was_refused d) old line
+dropped_reply : (d : Dropped) (t : ℕ) (old new : Records) (line : List ℕ) → Some (of_tenant t drop) ≡ command_of line → IsDropDone d t old new → line_of (dropped_words d) ≡ answer (drop_is_memory d) old line
 dropped_reply dropped.Memory t old new line e h = refl
-dropped_reply (dropped.Gone k n v) t old new line e h = told_once (dropped_words (dropped.Gone k n v)) (Some (of_tenant t drop)) old line e h.told
+dropped_reply (dropped.Gone k n v) t old new line e h = told_once (dropped_words (dropped.Gone k n v)) (Some (of_tenant t drop)) old line e h.output
 
-dropped_after : (d : Dropped) (t : ℕ) (old new : Records) (line : List ℕ) → Some (of_tenant t drop) ≡ command_of line → IsDropDone d t old new → new ≡ left_by (was_refused d) old line
+dropped_after : (d : Dropped) (t : ℕ) (old new : Records) (line : List ℕ) → Some (of_tenant t drop) ≡ command_of line → IsDropDone d t old new → new ≡ left_by (drop_is_memory d) old line
 dropped_after dropped.Memory t old new line e h = h.0
 dropped_after (dropped.Gone k n v) t old new line e h = h.left ∙ after_is (Some (of_tenant t drop)) old line e
 
-dropped_may : (d : Dropped) (t : ℕ) (old new : Records) → IsDropDone d t old new → was_refused d ≡ true → MayRefuse old (of_tenant t drop)
+dropped_may : (d : Dropped) (t : ℕ) (old new : Records) → IsDropDone d t old new → drop_is_memory d ≡ true → MayRefuse old (of_tenant t drop)
 dropped_may dropped.Memory t old new h m = h.1
 dropped_may (dropped.Gone k n v) t old new h m = absurd (false≢true m)
 
-dropped_counts : (d : Dropped) (t : ℕ) (old new : Records) (line : List ℕ) → Some (of_tenant t drop) ≡ command_of line → IsDropDone d t old new → IsWithin (line_visits (was_refused d) line old) (visits_told d)
+dropped_counts : (d : Dropped) (t : ℕ) (old new : Records) (line : List ℕ) → Some (of_tenant t drop) ≡ command_of line → IsDropDone d t old new → IsWithin (line_visits (drop_is_memory d) line old) (drop_visits d)
 dropped_counts dropped.Memory t old new line e h = (omega arith, omega arith)
 dropped_counts (dropped.Gone k n v) t old new line e h = subst (λ o. IsWithin (visits_of o old) v) e h.counted
 
-module _ (d : Dropped) (memory : Bool) (t : ℕ) (held old new : Records) (line : List ℕ) (found : memory ≡ was_refused d) (same : held ≡ old)
+module _ (d : Dropped) (memory : Bool) (t : ℕ) (held old new : Records) (line : List ℕ) (found : memory ≡ drop_is_memory d) (same : held ≡ old)
     (e : Some (of_tenant t drop) ≡ command_of line) (h : IsDropDone d t held new) where
   pub drop_told : line_of (dropped_words d) ≡ answer memory old line
   drop_told = dropped_reply d t held new line e h ∙ ap (λ b. answer b held line) (sym found) ∙ ap (λ r. answer memory r line) same
@@ -122,8 +122,8 @@ module _ (d : Dropped) (memory : Bool) (t : ℕ) (held old new : Records) (line 
   pub drop_lawful : memory ≡ true → MayRefuse old (of_tenant t drop)
   drop_lawful m = subst (λ r. MayRefuse r (of_tenant t drop)) same (dropped_may d t held new h (sym found ∙ m))
 
-  pub drop_reads : (n : ℕ) → n ≡ visits_told d → IsWithin (line_visits memory line old) n
+  pub drop_reads : (n : ℕ) → n ≡ drop_visits d → IsWithin (line_visits memory line old) n
   drop_reads n is =
       subst (λ r. IsWithin (line_visits memory line r) n) same
       (subst (λ b. IsWithin (line_visits b line held) n) (sym found)
-      (subst (IsWithin (line_visits (was_refused d) line held)) (sym is) (dropped_counts d t held new line e h)))
+      (subst (IsWithin (line_visits (drop_is_memory d) line held)) (sym is) (dropped_counts d t held new line e h)))

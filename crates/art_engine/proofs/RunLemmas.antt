@@ -18,7 +18,7 @@ answers-snoc start now (m ∷ ms) l done =
     ap (λ t. first ++ t) again ∙ sym (append_assoc first (answers (left_by m.1 start.records m.0) ms) last)
 
 pub outcome-none : (start : State) → IsOutcome start [] [] start
-outcome-none start = record { asked = []; are = refl; told = refl; done = refl }
+outcome-none start = record { asked = []; are = refl; output = refl; done = refl }
 
 pub outcome-more : (start now new : State) (ls : List (List ℕ)) (written : List ℕ) (memory : Bool) (l : List ℕ) → IsOutcome start ls written now → IsLineDone memory now l new
     → IsOutcome start (ls ++ l ∷ []) (written ++ answer memory now.records l) new
@@ -26,6 +26,6 @@ outcome-more start now new ls written memory l o h =
     record {
       asked = o.asked ++ (l, memory) ∷ [];
       are = ap (λ t. t ++ l ∷ []) o.are ∙ sym (map-append (λ (m : List ℕ × Bool). m.0) o.asked ((l, memory) ∷ []));
-      told = ap (λ t. t ++ answer memory now.records l) o.told ∙ sym (answers-snoc start now o.asked (l, memory) o.done);
+      output = ap (λ t. t ++ answer memory now.records l) o.output ∙ sym (answers-snoc start now o.asked (l, memory) o.done);
       done = FoldsTo-push Step start o.asked now (l, memory) new o.done h;
     }

@@ -18,7 +18,7 @@ use Rattle.art_engine.proofs.Filters.{All-map}
 abbrev pub stands_to : ℕ → List ℕ → KeyRecord → Ordering
 stands_to tenant key r = ordering_then (nat_cmp r.tenant tenant) (slice_cmp nat_cmp r.key key)
 
--- a record stands before a tenant's key, or behind it
+-- a record stands before a tenant's key, or after it
 abbrev pub StandsBefore : ℕ → List ℕ → KeyRecord → Type 0
 StandsBefore t k r = (r.tenant < t) ⊎ ((r.tenant ≡ t) × IsTrue (is_below r.key k))
 
@@ -96,19 +96,19 @@ stands_before t k r (inr h) =
     let e = h.0 in let no : nat_lt r.tenant t ≡ false = le-ltb r.tenant t (omega arith) in
     rw (no, eq-eqb r.tenant t e) (cmp_less r.key k h.1)
 
-pub stands_behind : (t : ℕ) (k : List ℕ) (r : KeyRecord) → StandsBehind t k r → stands_to t k r ≡ Greater
-stands_behind t k r (inl high) =
+pub stands_after : (t : ℕ) (k : List ℕ) (r : KeyRecord) → StandsBehind t k r → stands_to t k r ≡ Greater
+stands_after t k r (inl high) =
     let no : nat_lt r.tenant t ≡ false = le-ltb r.tenant t (omega arith) in let other : (r.tenant == t) ≡ false = ne_eqb r.tenant t (λ e. omega arith) in
     rw (no, other) refl
-stands_behind t k r (inr h) =
+stands_after t k r (inr h) =
     let e = h.0 in let no : nat_lt r.tenant t ≡ false = le-ltb r.tenant t (omega arith) in
     rw (no, eq-eqb r.tenant t e) (cmp_above r.key k h.1)
 
-pub behind_behind : (t : ℕ) (k : List ℕ) (r s : KeyRecord) → KeyComesBefore r s → StandsBehind t k r → StandsBehind t k s
-behind_behind t k r s (inl low) (inl lt) = inl (omega arith)
-behind_behind t k r s (inl low) (inr same) = let e = same.0 in inl (omega arith)
-behind_behind t k r s (inr up) (inl lt) = let e = up.0 in inl (omega arith)
-behind_behind t k r s (inr up) (inr same) = inr (sym up.0 ∙ same.0, below_trans k r.key s.key same.1 up.1)
+pub after_after : (t : ℕ) (k : List ℕ) (r s : KeyRecord) → KeyComesBefore r s → StandsBehind t k r → StandsBehind t k s
+after_after t k r s (inl low) (inl lt) = inl (omega arith)
+after_after t k r s (inl low) (inr same) = let e = same.0 in inl (omega arith)
+after_after t k r s (inr up) (inl lt) = let e = up.0 in inl (omega arith)
+after_after t k r s (inr up) (inr same) = inr (sym up.0 ∙ same.0, below_trans k r.key s.key same.1 up.1)
 
 abbrev pub AllBefore : ℕ → List ℕ → List KeyRecord → Type 0
 AllBefore t k rs = AllByRecursion (λ r. stands_to t k r ≡ Less) rs
@@ -116,36 +116,36 @@ AllBefore t k rs = AllByRecursion (λ r. stands_to t k r ≡ Less) rs
 abbrev pub AllBehind : ℕ → List ℕ → List KeyRecord → Type 0
 AllBehind t k rs = AllByRecursion (λ r. stands_to t k r ≡ Greater) rs
 
--- all that come behind a record at the key, or behind one that stands behind it, stand behind the key
-behind_of_same : (t : ℕ) (k : List ℕ) (r s : KeyRecord) → KeyComesBefore r s → r.tenant ≡ t → r.key ≡ k → StandsBehind t k s
-behind_of_same t k r s (inl low) e f = inl (omega arith)
-behind_of_same t k r s (inr up) e f = inr (sym up.0 ∙ e, subst (λ x. IsTrue (is_below x s.key)) f up.1)
+-- all that come after a record at the key, or after one that stands after it, stand after the key
+after_of_same : (t : ℕ) (k : List ℕ) (r s : KeyRecord) → KeyComesBefore r s → r.tenant ≡ t → r.key ≡ k → StandsBehind t k s
+after_of_same t k r s (inl low) e f = inl (omega arith)
+after_of_same t k r s (inr up) e f = inr (sym up.0 ∙ e, subst (λ x. IsTrue (is_below x s.key)) f up.1)
 
-behind_found : (t : ℕ) (k : List ℕ) (r : KeyRecord) (rs : List KeyRecord) → stands_to t k r ≡ Equal → AllByRecursion (KeyComesBefore r) rs → AllBehind t k rs
-behind_found t k r rs here order =
+after_found : (t : ℕ) (k : List ℕ) (r : KeyRecord) (rs : List KeyRecord) → stands_to t k r ≡ Equal → AllByRecursion (KeyComesBefore r) rs → AllBehind t k rs
+after_found t k r rs here order =
     let same = standing t k r Equal here in
-    All-map (KeyComesBefore r) (λ s. stands_to t k s ≡ Greater) (λ s before. stands_behind t k s (behind_of_same t k r s before same.0 same.1)) rs order
+    All-map (KeyComesBefore r) (λ s. stands_to t k s ≡ Greater) (λ s before. stands_after t k s (after_of_same t k r s before same.0 same.1)) rs order
 
-behind_from : (t : ℕ) (k : List ℕ) (r : KeyRecord) (rs : List KeyRecord) → stands_to t k r ≡ Greater → AllByRecursion (KeyComesBefore r) rs → AllBehind t k rs
-behind_from t k r rs here order =
+after_from : (t : ℕ) (k : List ℕ) (r : KeyRecord) (rs : List KeyRecord) → stands_to t k r ≡ Greater → AllByRecursion (KeyComesBefore r) rs → AllBehind t k rs
+after_from t k r rs here order =
     let first = standing t k r Greater here in
-    All-map (KeyComesBefore r) (λ s. stands_to t k s ≡ Greater) (λ s before. stands_behind t k s (behind_behind t k r s before first)) rs order
+    All-map (KeyComesBefore r) (λ s. stands_to t k s ≡ Greater) (λ s before. stands_after t k s (after_after t k r s before first)) rs order
 
--- Pairs whose records are in order fall into those before a tenant's key, the one at it if there is one, and those behind.
+-- Pairs whose records are in order fall into those before a tenant's key, the one at it if there is one, and those after.
 pub data Parted (t : ℕ) (k : List ℕ) (ps : List Pair) : Type 0 where
   absent : (fs bs : List Pair) → ps ≡ fs ++ bs → AllBefore t k (map record_of fs) → AllBehind t k (map record_of bs) → Parted t k ps
   present : (fs : List Pair) (m : Pair) (bs : List Pair) → ps ≡ fs ++ m ∷ bs → AllBefore t k (map record_of fs) → stands_to t k (record_of m) ≡ Equal
       → AllBehind t k (map record_of bs) → Parted t k ps
 
-parted_behind : (t : ℕ) (k : List ℕ) (p : Pair) (ps : List Pair) → stands_to t k (record_of p) ≡ Less → Parted t k ps → Parted t k (p ∷ ps)
-parted_behind t k p ps first (absent fs bs e low high) = absent (p ∷ fs) bs (ap (λ l. p ∷ l) e) (first, low) high
-parted_behind t k p ps first (present fs m bs e low here high) = present (p ∷ fs) m bs (ap (λ l. p ∷ l) e) (first, low) here high
+parted_after : (t : ℕ) (k : List ℕ) (p : Pair) (ps : List Pair) → stands_to t k (record_of p) ≡ Less → Parted t k ps → Parted t k (p ∷ ps)
+parted_after t k p ps first (absent fs bs e low high) = absent (p ∷ fs) bs (ap (λ l. p ∷ l) e) (first, low) high
+parted_after t k p ps first (present fs m bs e low here high) = present (p ∷ fs) m bs (ap (λ l. p ∷ l) e) (first, low) here high
 
 parted_at : (t : ℕ) (k : List ℕ) (p : Pair) (ps : List Pair) (o : Ordering) → stands_to t k (record_of p) ≡ o → AllByRecursion (KeyComesBefore (record_of p)) (map record_of ps)
     → Parted t k ps → Parted t k (p ∷ ps)
-parted_at t k p ps Less e order rest = parted_behind t k p ps e rest
-parted_at t k p ps Equal e order rest = present [] p ps refl tt e (behind_found t k (record_of p) (map record_of ps) e order)
-parted_at t k p ps Greater e order rest = absent [] (p ∷ ps) refl tt (e, behind_from t k (record_of p) (map record_of ps) e order)
+parted_at t k p ps Less e order rest = parted_after t k p ps e rest
+parted_at t k p ps Equal e order rest = present [] p ps refl tt e (after_found t k (record_of p) (map record_of ps) e order)
+parted_at t k p ps Greater e order rest = absent [] (p ∷ ps) refl tt (e, after_from t k (record_of p) (map record_of ps) e order)
 
 pub parted : (t : ℕ) (k : List ℕ) (ps : List Pair) → InOrder KeyComesBefore (map record_of ps) → Parted t k ps
 parted t k [] order = absent [] [] refl tt tt

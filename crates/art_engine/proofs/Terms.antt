@@ -1,12 +1,12 @@
 -- The words of this crate that its proofs and those above name, from one place.
 pub use Rattle.art_engine.specs.Ahead.{AreNext, IsAllTold, IsNextLine, Tells, most_ahead, total}
-pub use Rattle.art_engine.specs.Upcoming.{read_of, texts_of, to_come}
-pub use Rattle.art_engine.specs.Changed.{IsChangeDone, IsPutDone, changed_words, found_no_memory}
+pub use Rattle.art_engine.specs.ReadAhead.{read_of, texts_of, to_come}
+pub use Rattle.art_engine.specs.Changed.{IsChangeDone, IsPutDone, changed_words, change_is_memory}
 pub use Rattle.art_engine.specs.Counts.{Grew, GrewBy, IsOwnPath, IsShort, IsWithin, ReadsOwnPath, Visits, dropping, exactly, fronts_shared, key_visits, line_visits, listing, longest, number_visits, path_nodes, visits_of}
 pub use Rattle.art_engine.specs.Faults.{AfterWriteFault, IsCutLine}
 pub use Rattle.art_engine.specs.Held.{IsNumberRecordIn, IsRecordIn, IsShortNumber, IsShortNumberPair, IsShortPair, IsShortRecord}
 pub use Rattle.art_engine.specs.Keys.{full_key_of, full_pair, number_key_of, number_of_bytes, number_pair}
-pub use Rattle.art_engine.specs.Laws.{DeletionsGoByOwnKeys, DeletionsGoByOwnNumbers, DropsReadFew, DumpsAreReadBack, DumpsTellRecords, FullKeysKeepConflicts, FullKeysKeepOrder, NumberPutsAreUndone, OthersAreUntouched, OwnIsBehindFront, OwnIsInPlace, OwnReadsBack, PutsAreUndone, RequestsLeaveOthers, TenantsStandAlone, WaysAreOwn, dump_text, own_at_end, own_behind, own_changed, own_replies, own_told, request_to, with_reply}
+pub use Rattle.art_engine.specs.Laws.{DeletionsGoByOwnKeys, DeletionsGoByOwnNumbers, DropsReadFew, DumpsAreReadBack, DumpsTellRecords, FullKeysKeepConflicts, FullKeysKeepOrder, NumberPutsAreUndone, OthersAreUntouched, OwnIsUnderPrefix, OwnIsInPlace, OwnReadsBack, PutsAreUndone, RequestsLeaveOthers, TenantsStandAlone, PathsAreOwn, dump_text, own_at_end, own_after_line, own_changed, own_replies, own_output, request_to, with_reply}
 pub use Rattle.art_engine.specs.Outcome.{IsLineDone, IsOutcome, answer, answers, left_by, records_after, reply_to}
 pub use Rattle.art_engine.specs.Progress.{Carried, IsLineAnswered, IsCutRun, NoNewline}
 pub use Rattle.art_engine.specs.Records.{AreRecords, InOrder, KeyComesBefore, KeyFits, KeyRecord, NumberComesBefore, NumberFits, NumberRecord, Own, Records, no_records, own, with_own}

@@ -26,10 +26,10 @@ module _ {X P : Type 0} (tenant_of : X → ℕ) (part_of : X → P) (Before : X 
   abbrev parts : ℕ → List X → List P
   parts t xs = map part_of (filter (λ x. tenant_of x == t) xs)
 
-  all_behind : (t : ℕ) (x : X) (xs : List X) → tenant_of x ≡ t → AllByRecursion (Before x) xs → AllByRecursion (Comes (part_of x)) (parts t xs)
-  all_behind t x [] is all = tt
-  all_behind t x (y ∷ xs) is all =
-      let ih = all_behind t x xs is all.1 in
+  all_after : (t : ℕ) (x : X) (xs : List X) → tenant_of x ≡ t → AllByRecursion (Before x) xs → AllByRecursion (Comes (part_of x)) (parts t xs)
+  all_after t x [] is all = tt
+  all_after t x (y ∷ xs) is all =
+      let ih = all_after t x xs is all.1 in
       cond_both (tenant_of y == t) (y ∷ filter (λ x. tenant_of x == t) xs) (filter (λ x. tenant_of x == t) xs) (λ l. AllByRecursion (Comes (part_of x)) (map part_of l))
       (λ e. (own_comes x y all.0 (is ∙ sym (eqb-true (tenant_of y) t e)), ih)) (λ e. ih)
 
@@ -38,7 +38,7 @@ module _ {X P : Type 0} (tenant_of : X → ℕ) (part_of : X → P) (Before : X 
   own_in_order t (x ∷ xs) order =
       let ih = own_in_order t xs order.1 in
       cond_both (tenant_of x == t) (x ∷ filter (λ x. tenant_of x == t) xs) (filter (λ x. tenant_of x == t) xs) (λ l. InOrder Comes (map part_of l))
-      (λ e. (all_behind t x xs (eqb-true (tenant_of x) t e) order.0, ih)) (λ e. ih)
+      (λ e. (all_after t x xs (eqb-true (tenant_of x) t e) order.0, ih)) (λ e. ih)
 
 -- where nothing is found nothing passes the test
 pub none_passes : {X Y : Type 0} (f : X → Y) (test : X → Bool) (xs : List X) → option_map f (find test xs) ≡ None → AllByRecursion (λ x. test x ≡ false) xs
@@ -109,10 +109,10 @@ puts_are_undone t k v r are new =
     let others = none_passes (λ (p : List ℕ × List ℕ). p.1) (λ p. bytes_eq p.0 k) mine.keys is.0 in
     let keys_are : without_at bytes_eq k made.keys ≡ mine.keys =
     undone is_below bytes_eq k ((bytes_eq-Decides k k).1 refl) (key_apart k) not_both_below (below_trans k) v mine.keys order others in
-    let behind : Own → Own = λ o. record { keys = without_at bytes_eq k o.keys; numbers = o.numbers } in
+    let following : Own → Own = λ o. record { keys = without_at bytes_eq k o.keys; numbers = o.numbers } in
     ap (command_after (Some (of_tenant t (del k)))) put_is
-    ∙ ap (λ o. with_own t (behind o) (with_own t made r)) (own_reads_back t made r)
-    ∙ with_own_again t made (behind made) r
+    ∙ ap (λ o. with_own t (following o) (with_own t made r)) (own_reads_back t made r)
+    ∙ with_own_again t made (following made) r
     ∙ ap (λ keys. with_own t (record { keys = keys; numbers = mine.numbers }) r) keys_are
     ∙ own_is_in_place t r are
 
@@ -144,8 +144,8 @@ number_puts_are_undone t n v r are new =
     let others = none_passes (λ (p : ℤ × List ℕ). p.1) (λ p. int_eq p.0 n) mine.numbers is.0 in
     let numbers_are : without_at int_eq n made.numbers ≡ mine.numbers =
     undone int_lt int_eq n ((Decides-int_eq n n).1 refl) (number_apart n) int_lt_turned (number_upward n) v mine.numbers order others in
-    let behind : Own → Own = λ o. record { keys = o.keys; numbers = without_at int_eq n o.numbers } in
-    ap (λ o. with_own t (behind o) (with_own t made r)) (own_reads_back t made r)
-    ∙ with_own_again t made (behind made) r
+    let following : Own → Own = λ o. record { keys = o.keys; numbers = without_at int_eq n o.numbers } in
+    ap (λ o. with_own t (following o) (with_own t made r)) (own_reads_back t made r)
+    ∙ with_own_again t made (following made) r
     ∙ ap (λ numbers. with_own t (record { keys = mine.keys; numbers = numbers }) r) numbers_are
     ∙ own_is_in_place t r are

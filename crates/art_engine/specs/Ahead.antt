@@ -15,23 +15,23 @@ use Rattle.art_engine.specs.State.{State}
 
 -- The full key along whose path nodes may be read ahead of a command: its own, or that of its prefix or lower bound. Of
 -- other commands, and where bounds are out of order, there is none.
-abbrev pub way_ahead : Option Command → Option (List ℕ)
-way_ahead (Some (of_tenant tenant (get key))) = Some (full_key tenant key)
-way_ahead (Some (of_tenant tenant (find key))) = Some (full_key tenant key)
-way_ahead (Some (of_tenant tenant (list front))) = Some (full_key tenant front)
-way_ahead (Some (of_tenant tenant (span low high))) = if is_below high low then None else Some (full_key tenant low)
-way_ahead (Some (of_tenant tenant (over key value))) = Some (full_key tenant key)
-way_ahead (Some (of_tenant tenant (del key))) = Some (full_key tenant key)
-way_ahead (Some (of_tenant tenant (nget number))) = Some (pair_key (tenant, number))
-way_ahead (Some (of_tenant tenant (ndel number))) = Some (pair_key (tenant, number))
-way_ahead (Some (of_tenant tenant (nspan low high))) = if int_lt high low then None else Some (pair_key (tenant, low))
-way_ahead other = None
+abbrev pub path_ahead : Option Command → Option (List ℕ)
+path_ahead (Some (of_tenant tenant (get key))) = Some (full_key tenant key)
+path_ahead (Some (of_tenant tenant (find key))) = Some (full_key tenant key)
+path_ahead (Some (of_tenant tenant (list front))) = Some (full_key tenant front)
+path_ahead (Some (of_tenant tenant (span low high))) = if is_below high low then None else Some (full_key tenant low)
+path_ahead (Some (of_tenant tenant (over key value))) = Some (full_key tenant key)
+path_ahead (Some (of_tenant tenant (del key))) = Some (full_key tenant key)
+path_ahead (Some (of_tenant tenant (nget number))) = Some (pair_key (tenant, number))
+path_ahead (Some (of_tenant tenant (ndel number))) = Some (pair_key (tenant, number))
+path_ahead (Some (of_tenant tenant (nspan low high))) = if int_lt high low then None else Some (pair_key (tenant, low))
+path_ahead other = None
 
 -- at most as many nodes as the path of that key may have
 abbrev pub most_ahead : Option Command → ℕ
-most_ahead command = unwrap_or (option_map (λ full. suc (length full)) (way_ahead command)) 0
+most_ahead command = unwrap_or (option_map (λ full. suc (length full)) (path_ahead command)) 0
 
--- From one place of a way, a node and how many bytes of the key lead there, to the next: there is none, or the node is
+-- From one place of a path, a node and how many bytes of the key lead there, to the next: there is none, or the node is
 -- an inner one whose prefix the key meets, as much of it as is stored, and goes on from by its next byte.
 abbrev pub IsStepAhead : {K V : Type 0} → Arena K V → List ℕ → Name × ℕ → Name × ℕ → Type 0
 IsStepAhead arena key from to = (to ≡ from)
@@ -42,10 +42,10 @@ IsStepAhead arena key from to = (to ≡ from)
 abbrev pub total : List ℕ → ℕ
 total ns = sum_by (λ n. n) ns
 
--- From one state to another, with so many nodes of lines to come that are not told yet: what is told more as read ahead
--- is what the readers counted more.
+-- From one state to another, with so many nodes prefetched for lines to come: what is told more as read ahead is what
+-- the readers counted more.
 abbrev pub Tells : State → ℕ → State → ℕ → Type 0
-Tells old untold new left = total new.ahead + left + total old.met ≡ total old.ahead + untold + total new.met
+Tells old due new left = total new.ahead + left + total old.prefetched ≡ total old.ahead + due + total new.prefetched
 
 -- all that the readers counted is told
 abbrev pub IsAllTold : State → State → Type 0

@@ -19,9 +19,9 @@ changed_words (changed.Gone value) = name (codes "gone") ∷ bytes value.items �
 changed_words changed.Absent = name (codes "none") ∷ []
 
 -- whether it found no memory
-abbrev pub found_no_memory : Changed → Bool
-found_no_memory changed.Memory = true
-found_no_memory other = false
+abbrev pub change_is_memory : Changed → Bool
+change_is_memory changed.Memory = true
+change_is_memory other = false
 
 -- A put was done as it is answered; where it found no memory, nothing is changed.
 abbrev pub IsPutDone : Changed → Records → ℕ → List ℕ → List ℕ → Records → Type 0

@@ -15,7 +15,7 @@ use Rattle.art_lines.specs.Keys.{full_key}
 use Rattle.art_engine.specs.Keys.{full_key_of, number_key_of}
 use Rattle.art_lines.specs.Reading.{command_of}
 use Rattle.art_engine.specs.Records.{Records, own}
-use Rattle.art_engine.specs.Replies.{value_at, front_at, behind_front, pairs_from_to, numbers_from_to}
+use Rattle.art_engine.specs.Replies.{value_at, front_at, pairs_with_prefix, pairs_from_to, numbers_from_to}
 
 -- At least so many nodes are read, and at most so many.
 pub record Visits : Type 0 where
@@ -40,7 +40,7 @@ module _ {X : Type 0} (key : X → List ℕ) where
   longest [] = 0
   longest (x ∷ xs) = max (length (key x)) (longest xs)
 
--- What dropping what a tenant holds reads and frees: the nodes that lie behind its four bytes in both trees, a leaf for
+-- What dropping what a tenant holds reads and frees: the nodes that lie below its four bytes in both trees, a leaf for
 -- each of its records and an inner node for each of the different longest fronts that neighbours among them share, and
 -- what is read to find the first and the last of them: in each tree that is there its root at least. The greatest count
 -- stays.
@@ -58,7 +58,7 @@ abbrev pub visits_of : Option Command → Records → Visits
 visits_of (Some (of_tenant t (get key))) records = exactly (path_nodes full_key_of records.keys (full_key t key))
 visits_of (Some (of_tenant t (find key))) records = exactly (path_nodes full_key_of records.keys (full_key t key))
 visits_of (Some (of_tenant t (list front))) records =
-    listing (length (behind_front front (own t records).keys)) (length front) (longest full_key_of records.keys)
+    listing (length (pairs_with_prefix front (own t records).keys)) (length front) (longest full_key_of records.keys)
 visits_of (Some (of_tenant t (span low high))) records =
     if is_below high low then exactly 0
     else listing (length (pairs_from_to low high (own t records).keys)) (max (length low) (length high))

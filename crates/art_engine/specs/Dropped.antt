@@ -15,21 +15,21 @@ dropped_words (dropped.Gone keys numbers visits) = name (codes "dropped") ∷ na
 dropped_words dropped.Memory = name (codes "memory") ∷ []
 
 -- whether there was no memory for it
-abbrev pub was_refused : Dropped → Bool
-was_refused (dropped.Gone keys numbers visits) = false
-was_refused dropped.Memory = true
+abbrev pub drop_is_memory : Dropped → Bool
+drop_is_memory (dropped.Gone keys numbers visits) = false
+drop_is_memory dropped.Memory = true
 
 -- how many nodes were read and freed
-abbrev pub visits_told : Dropped → ℕ
-visits_told (dropped.Gone keys numbers visits) = visits
-visits_told dropped.Memory = 0
+abbrev pub drop_visits : Dropped → ℕ
+drop_visits (dropped.Gone keys numbers visits) = visits
+drop_visits dropped.Memory = 0
 
 -- All of a tenant's records were dropped: it is told how many they were, nothing of them is left, and so many nodes
 -- were read and freed.
 pub record AreGone (d : Dropped) (tenant : ℕ) (old new : Records) : Type 0 where
-  pub told : dropped_words d ∷ [] ≡ command_reply (Some (of_tenant tenant drop)) old
+  pub output : dropped_words d ∷ [] ≡ command_reply (Some (of_tenant tenant drop)) old
   pub left : new ≡ command_after (Some (of_tenant tenant drop)) old
-  pub counted : IsWithin (visits_of (Some (of_tenant tenant drop)) old) (visits_told d)
+  pub counted : IsWithin (visits_of (Some (of_tenant tenant drop)) old) (drop_visits d)
 
 -- So it was done; where there was no memory for it, there may be none, and nothing is changed.
 abbrev pub IsDropDone : Dropped → ℕ → Records → Records → Type 0

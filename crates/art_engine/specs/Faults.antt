@@ -12,13 +12,13 @@ pub record IsCutLine (old : State) (line before after : List ℕ) (new : State) 
   pub lawful : memory ≡ true → LineMayRefuse old.records line
   pub begun : List ℕ
   pub is_cut : IsTrue (is_proper_front begun (answer memory old.records line))
-  pub told : after ≡ before ++ begun
-  pub left : new ≡ record old { records = left_by memory old.records line; met = new.met }
+  pub output : after ≡ before ++ begun
+  pub left : new ≡ record old { records = left_by memory old.records line; prefetched = new.prefetched }
 
 -- After a failed write, one line more than the `answered` ones was carried out. Their answers were written whole,
 -- and of the answer to the last a beginning that is not all of it.
 abbrev pub AfterWriteFault : State → List (List ℕ) → List ℕ → State → Type 0
 AfterWriteFault start lines written now =
-    (answered others : List (List ℕ)) × (line told : List ℕ) × (middle : State)
-    × (lines ≡ answered ++ line ∷ others) × IsOutcome start answered told middle
-    × IsCutLine middle line told written now
+    (answered others : List (List ℕ)) × (line output : List ℕ) × (middle : State)
+    × (lines ≡ answered ++ line ∷ others) × IsOutcome start answered output middle
+    × IsCutLine middle line output written now

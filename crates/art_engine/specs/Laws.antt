@@ -9,7 +9,7 @@ use Rattle.art_arena.specs.tree.Tenants.{with_front}
 use Rattle.art_lines.specs.Commands.{Request, put, del, nput, ndel, Command, of_tenant}
 use Rattle.art_lines.specs.Reading.{command_of}
 use Rattle.art_bytes.specs.Keys.{is_below, conflicts}
-use Rattle.art_engine.specs.Ahead.{way_ahead}
+use Rattle.art_engine.specs.Ahead.{path_ahead}
 use Rattle.art_engine.specs.Counts.{dropping, longest}
 use Rattle.art_lines.specs.Keys.{full_key}
 use Rattle.art_engine.specs.Keys.{full_key_of, number_key_of, number_of_bytes}
@@ -45,9 +45,9 @@ abbrev pub FullKeysKeepConflicts : Type 0
 FullKeysKeepConflicts = (t u : ℕ) (k j : List ℕ) → t < 2 ^ 32 → u < 2 ^ 32
     → conflicts (full_key t k) (full_key u j) ≡ ((t == u) && conflicts k j)
 
--- what a tenant holds is what the pairs of an index have behind its front, the front cut off
-abbrev pub OwnIsBehindFront : Type 0
-OwnIsBehindFront = (tenant : ℕ) (ps : List Pair) (ns : List NumberPair) → tenant < 2 ^ 32 → AreFull ps
+-- what a tenant holds is what the pairs of an index have under its prefix, the prefix cut off
+abbrev pub OwnIsUnderPrefix : Type 0
+OwnIsUnderPrefix = (tenant : ℕ) (ps : List Pair) (ns : List NumberPair) → tenant < 2 ^ 32 → AreFull ps
     → AreNumberPairs ns → own tenant (all_records_of ps ns) ≡ record {
       keys = map (λ p. (drop 4 p.0.items, p.1.items)) (with_front (λ p. p.0.items) (full_key tenant []) ps);
       numbers = map (λ p. (number_of_bytes (drop 4 p.0), p.1.items)) (with_front (λ p. p.0) (full_key tenant []) ns);
@@ -63,7 +63,7 @@ abbrev pub own_changed : Option Own → Own → Own
 own_changed None mine = mine
 own_changed (Some changed) mine = changed
 
--- a reply and the ones behind it, where a tenant's request was not refused; else these alone
+-- a reply and the ones after it, where a tenant's request was not refused; else these alone
 abbrev pub with_reply : Bool → Option Request → List ℕ → List (List ℕ) → List (List ℕ)
 with_reply false (Some request) reply rest = reply ∷ rest
 with_reply false None reply rest = rest
@@ -78,25 +78,25 @@ replies_among tenant records (l ∷ lines) =
     (replies_among tenant (left_by l.1 records l.0) lines)
 
 -- what a tenant holds after a line: what its request leaves, where the line asks for one and is not refused
-abbrev pub own_behind : Bool → Option Request → Own → Own
-own_behind false (Some request) mine = own_changed (own_after request mine) mine
-own_behind false None mine = mine
-own_behind true request mine = mine
+abbrev pub own_after_line : Bool → Option Request → Own → Own
+own_after_line false (Some request) mine = own_changed (own_after request mine) mine
+own_after_line false None mine = mine
+own_after_line true request mine = mine
 
 -- the reply to a tenant's request, if there is one
-abbrev pub own_told : Option Request → Own → List ℕ
-own_told None mine = []
-own_told (Some request) mine = flat_map line_of (own_reply request mine)
+abbrev pub own_output : Option Request → Own → List ℕ
+own_output None mine = []
+own_output (Some request) mine = flat_map line_of (own_reply request mine)
 
 -- The same replies from what the tenant holds alone, and what it holds then: the lines of others are passed over.
 abbrev pub own_replies : ℕ → Own → List (List ℕ × Bool) → List (List ℕ)
 own_replies tenant mine [] = []
 own_replies tenant mine (l ∷ lines) =
-    with_reply l.1 (request_to tenant (command_of l.0)) (own_told (request_to tenant (command_of l.0)) mine)
-    (own_replies tenant (own_behind l.1 (request_to tenant (command_of l.0)) mine) lines)
+    with_reply l.1 (request_to tenant (command_of l.0)) (own_output (request_to tenant (command_of l.0)) mine)
+    (own_replies tenant (own_after_line l.1 (request_to tenant (command_of l.0)) mine) lines)
 
 abbrev pub own_at_end : ℕ → Own → List (List ℕ × Bool) → Own
-own_at_end tenant mine lines = fold (λ m l. own_behind l.1 (request_to tenant (command_of l.0)) m) mine lines
+own_at_end tenant mine lines = fold (λ m l. own_after_line l.1 (request_to tenant (command_of l.0)) m) mine lines
 
 -- a request of one tenant leaves what all others hold
 abbrev pub RequestsLeaveOthers : Type 0
@@ -165,6 +165,6 @@ DropsReadFew = (tenant : ℕ) (records : Records)
     (min n (2 ^ 64 - 1) ≤ (dropping tenant records).least) × ((dropping tenant records).most ≤ 20 * (L + 2) + 2 * n)
 
 -- The way along which nodes are read ahead of a tenant's line is that of a full key of this tenant.
-abbrev pub WaysAreOwn : Type 0
-WaysAreOwn = (tenant : ℕ) (request : Request) (full : List ℕ)
-    → way_ahead (Some (of_tenant tenant request)) ≡ Some full → (key : List ℕ) × (full ≡ full_key tenant key)
+abbrev pub PathsAreOwn : Type 0
+PathsAreOwn = (tenant : ℕ) (request : Request) (full : List ℕ)
+    → path_ahead (Some (of_tenant tenant request)) ≡ Some full → (key : List ℕ) × (full ≡ full_key tenant key)

@@ -2,7 +2,7 @@ pub mod Keys
 pub mod Records
 pub mod State
 pub mod Ahead
-pub mod Upcoming
+pub mod ReadAhead
 pub mod Replies
 pub mod Refusals
 pub mod Outcome

@@ -31,7 +31,7 @@ abbrev pub answers : Records → List (List ℕ × Bool) → List ℕ
 answers records [] = []
 answers records (l ∷ lines) = answer l.1 records l.0 ++ answers (left_by l.1 records l.0) lines
 
--- A line was carried out, and found no memory only if it may. What it has read is counted behind what was read before,
+-- A line was carried out, and found no memory only if it may. What it has read is counted after what was read before,
 -- and so is what was read ahead of it.
 pub record IsLineDone (memory : Bool) (old : State) (line : List ℕ) (new : State) : Type 0 where
   pub lawful : memory ≡ true → LineMayRefuse old.records line
@@ -50,5 +50,5 @@ pub record IsLineDone (memory : Bool) (old : State) (line : List ℕ) (new : Sta
 pub record IsOutcome (start : State) (lines : List (List ℕ)) (written : List ℕ) (now : State) : Type 0 where
   pub asked : List (List ℕ × Bool)
   pub are : lines ≡ map (λ l. l.0) asked
-  pub told : written ≡ answers start.records asked
+  pub output : written ≡ answers start.records asked
   pub done : FoldsTo (λ old l new. IsLineDone l.1 old l.0 new) start asked now

@@ -13,13 +13,13 @@ use Rattle.art_engine.specs.Faults.{AfterWriteFault}
 pub record Carried (start now : State) (text held before taken : List ℕ) : Type 0 where
   pub written : List ℕ
   pub outcome : IsOutcome start (whole_lines_of text) written now
-  pub told : taken ≡ before ++ written
+  pub output : taken ≡ before ++ written
   pub rest : held ≡ take 4097 (unfinished_line_of text)
 
 -- A write failed within the answer to one of these lines, and the ones before it were answered.
 pub record IsCutRun (start now : State) (ls : List (List ℕ)) (before taken : List ℕ) : Type 0 where
   pub written : List ℕ
-  pub told : taken ≡ before ++ written
+  pub output : taken ≡ before ++ written
   pub fault : AfterWriteFault start ls written now
 
 -- no byte is a newline
@@ -30,7 +30,7 @@ NoNewline bytes = AllByRecursion (λ b. (b == 10) ≡ false) bytes
 -- ahead of it.
 pub record IsLineAnswered (memory : Bool) (visits : ℕ) (line : List ℕ) (old new : State)
     (before after : List ℕ) : Type 0 where
-  pub told : after ≡ before ++ answer memory old.records line
+  pub output : after ≡ before ++ answer memory old.records line
   pub left : new.records ≡ left_by memory old.records line
   pub lawful : memory ≡ true → LineMayRefuse old.records line
   pub within : IsWithin (line_visits memory line old.records) visits

@@ -60,7 +60,7 @@ KeyComesBefore r s = (r.tenant < s.tenant)
 abbrev pub NumberComesBefore : NumberRecord → NumberRecord → Type 0
 NumberComesBefore r s = (r.tenant < s.tenant) ⊎ ((r.tenant ≡ s.tenant) × IsTrue (int_lt r.key s.key))
 
--- each of some things comes before all behind it
+-- each of some things comes before all after it
 abbrev pub InOrder : {X : Type 0} → (X → X → Type 0) → List X → Type 0
 InOrder Before [] = Unit {0}
 InOrder Before (x ∷ xs) = AllByRecursion (Before x) xs × InOrder Before xs

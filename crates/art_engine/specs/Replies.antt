@@ -13,7 +13,7 @@ use Rattle.art_arena.specs.tree.Tenants.{begins_with}
 use Rattle.art_operations.specs.KeyedLists.{overlaps}
 use Rattle.art_walks.specs.declared.stats.WellFormedTreeStats.{WellFormedTreeStats}
 use Rattle.art_map.specs.Audit.{audit_of}
-use Rattle.art_lines.specs.ReplyWords.{found_or, put_reply, front_reply, end_words, listed_as}
+use Rattle.art_lines.specs.ReplyWords.{found_or, put_reply, find_reply, end_words, listed_as}
 use Rattle.art_engine.specs.Keys.{full_key_of, number_key_of}
 use Rattle.art_engine.specs.Records.{Own, Record, Records, own, with_own}
 
@@ -45,8 +45,8 @@ abbrev pub front_at : List ℕ → List (List ℕ × List ℕ) → Option (List 
 front_at key pairs = find (λ p. begins_with p.0 key) pairs
 
 -- the pairs whose keys begin with a front, and those from a low key on and below a high one
-abbrev pub behind_front : List ℕ → List (List ℕ × List ℕ) → List (List ℕ × List ℕ)
-behind_front front pairs = filter (λ p. begins_with front p.0) pairs
+abbrev pub pairs_with_prefix : List ℕ → List (List ℕ × List ℕ) → List (List ℕ × List ℕ)
+pairs_with_prefix front pairs = filter (λ p. begins_with front p.0) pairs
 
 abbrev pub pairs_from_to : List ℕ → List ℕ → List (List ℕ × List ℕ) → List (List ℕ × List ℕ)
 pairs_from_to low high pairs = filter (λ p. not (is_below p.0 low) && is_below p.0 high) pairs
@@ -65,8 +65,8 @@ own_reply (put key value) mine = put_reply (value_at bytes_eq key mine.keys) (ha
 own_reply (over key value) mine = (name (codes "over") ∷ natural (length (overlapped key mine.keys)) ∷ []) ∷ []
 own_reply (del key) mine = found_or (value_at bytes_eq key mine.keys) (codes "gone") (codes "none") ∷ []
 own_reply (get key) mine = found_or (value_at bytes_eq key mine.keys) (codes "is") (codes "none") ∷ []
-own_reply (find_front key) mine = front_reply (front_at key mine.keys) ∷ []
-own_reply (list front) mine = listed_as bytes (behind_front front mine.keys)
+own_reply (find_front key) mine = find_reply (front_at key mine.keys) ∷ []
+own_reply (list front) mine = listed_as bytes (pairs_with_prefix front mine.keys)
 own_reply (span low high) mine =
     if is_below high low then (name (codes "bounds") ∷ []) ∷ [] else listed_as bytes (pairs_from_to low high mine.keys)
 own_reply (nput number value) mine = put_reply (value_at int_eq number mine.numbers) false ∷ []

@@ -24,17 +24,17 @@ pub record ReadsNumbers (P : ℕ) (map : ReadMap (List ℕ) (Vec ℕ)) (pairs : 
   pub are : AreNumberPairs pairs
   pub few : length pairs < 2 ^ 64
 
--- the one that was read ahead, if there is one, and those behind it
+-- the one that was read ahead, if there is one, and those after it
 abbrev pub pending : {X : Type 0} → Option X → List X → List X
 pending None rest = rest
 pending (Some x) rest = x ∷ rest
 
--- those that were read ahead, each if there is one, and those behind them
+-- those that were read ahead, each if there is one, and those after them
 abbrev pub pending_all : {R X : Type 0} → (R → X) → List (Option R) → List X → List X
 pending_all read [] rest = rest
 pending_all read (o ∷ os) rest = pending (option_map read o) (pending_all read os rest)
 
--- where there is none, there is none behind it
+-- where there is none, there is none after it
 abbrev pub IsClosed : {R X : Type 0} → (R → X) → List (Option R) → List X → Type 0
 IsClosed read [] rest = Unit {0}
 IsClosed read (None ∷ os) rest = pending_all read os rest ≡ []

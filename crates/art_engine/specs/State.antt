@@ -8,8 +8,8 @@ pub record State : Type 0 where
   pub records : Records
   pub reads : List ℕ
   pub ahead : List ℕ
-  pub met : List ℕ
+  pub prefetched : List ℕ
 
 -- nothing was read yet
 abbrev pub unread : Records → State
-unread records = record { records = records; reads = []; ahead = []; met = [] }
+unread records = record { records = records; reads = []; ahead = []; prefetched = [] }

@@ -16,9 +16,9 @@ survey_words (survey.Counts keys numbers) records =
 survey_words survey.Memory records = (name (codes "memory") ∷ []) ∷ []
 
 -- whether there was no memory for it
-abbrev pub finds_no_memory : Survey → Bool
-finds_no_memory survey.Memory = true
-finds_no_memory other = false
+abbrev pub survey_is_memory : Survey → Bool
+survey_is_memory survey.Memory = true
+survey_is_memory other = false
 
 -- This is what a command asks for; where there was no memory for it, there may be none.
 abbrev pub IsSurvey : Survey → Command → Records → Type 0

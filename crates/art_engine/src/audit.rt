@@ -19,7 +19,7 @@ const ROOM: usize = 268;
 /// Puts a space and a number in digits.
 fn put_count(room: &mut [u8], at: usize, count: usize) -> usize
     requires { at + 21 ≤ length room.old }
-    ensures told { Puts result at (32 ∷ decimal count) room.old room.new }
+    ensures output { Puts result at (32 ∷ decimal count) room.old room.new }
     ensures few { result ≤ at + 21 }
 {
     let next = put_text(room, at, b" ");
@@ -30,7 +30,7 @@ fn put_count(room: &mut [u8], at: usize, count: usize) -> usize
 fn put_counts(room: &mut [u8], at: usize, tree: &[u8], counts: &WellFormedTreeStats) -> usize
     requires name { length tree.now ≤ 7 }
     requires room { at + 134 ≤ length room.old }
-    ensures told { Puts result at (line_of (count_words tree.now counts.now)) room.old room.new }
+    ensures output { Puts result at (line_of (count_words tree.now counts.now)) room.old room.new }
     ensures few { result ≤ at + 134 }
 {
     let leaves = put_text(room, at, tree);

@@ -15,8 +15,8 @@ use art_lines::command::word::Change;
 use art_lines::reply::{write_found, write_over, write_piece};
 use art_lines::{Sink, WriteFailed};
 use art_map::TreeMap;
-use keys::{put_over, put_value, take_out};
-use numbers::{put_at_number, take_number_out};
+use keys::{put_over, put_value, remove_key};
+use numbers::{put_at_number, remove_number};
 use std::alloc::Global;
 
 /// How a change went.
@@ -40,10 +40,10 @@ pub(crate) enum Changed {
 
 impl Changed {
     ghost use Rattle.std.specs.Prelude.{◌≡◌};
-    ghost use Rattle.art_engine.specs.Changed.{found_no_memory};
+    ghost use Rattle.art_engine.specs.Changed.{change_is_memory};
 
     pub(crate) fn is_memory(&self) -> bool
-        ensures { result ≡ found_no_memory self.now }
+        ensures { result ≡ change_is_memory self.now }
     {
         matches!(self, Changed::Memory)
     }
@@ -68,9 +68,9 @@ pub(crate) fn change<const PREFIX_LEN: usize>(
     match word {
         Change::Put => put_value(alloc, records, fields),
         Change::Over => put_over(alloc, records, fields),
-        Change::Del => take_out(records, fields),
+        Change::Del => remove_key(records, fields),
         Change::NPut => put_at_number(alloc, numbers, fields),
-        Change::NDel => take_number_out(numbers, fields),
+        Change::NDel => remove_number(numbers, fields),
     }
 }
 

@@ -28,17 +28,17 @@ pub(crate) enum Dropped {
 
 impl Dropped {
     ghost use Rattle.std.specs.Prelude.{◌≡◌};
-    ghost use Rattle.art_engine.specs.Dropped.{was_refused, visits_told};
+    ghost use Rattle.art_engine.specs.Dropped.{drop_is_memory, drop_visits};
 
     pub(crate) fn is_memory(self) -> bool
-        ensures { result ≡ was_refused self }
+        ensures { result ≡ drop_is_memory self }
     {
         matches!(self, Dropped::Memory)
     }
 
     /// How many nodes were read and freed.
     pub(crate) fn visits(self) -> u64
-        ensures { result ≡ visits_told self }
+        ensures { result ≡ drop_visits self }
     {
         match self {
             Dropped::Gone { visits, .. } => visits,
@@ -62,18 +62,18 @@ pub(crate) fn drop_tenant<const PREFIX_LEN: usize>(
     ensures done { IsDropDone result (tenant_in_place fields.now) (all_records_of records.old.pairs numbers.old.pairs)
         (all_records_of records.new.pairs numbers.new.pairs) }
 {
-    let front = fields.tenant().to_be_bytes();
-    let Ok(keys) = records.prepare_remove_prefix(&front) else {
+    let prefix = fields.tenant().to_be_bytes();
+    let Ok(keys) = records.prepare_remove_prefix(&prefix) else {
         return Dropped::Memory;
     };
-    match numbers.prepare_remove_prefix(&front) {
-        Ok(others) => gone(keys.apply(), others.apply()),
+    match numbers.prepare_remove_prefix(&prefix) {
+        Ok(others) => sum_removed(keys.apply(), others.apply()),
         Err(_) => Dropped::Memory,
     }
 }
 
 // What both removals did.
-fn gone(keys: Removed, others: Removed) -> Dropped
+fn sum_removed(keys: Removed, others: Removed) -> Dropped
     ensures { result ≡ Gone keys.pairs others.pairs (min (keys.visits + others.visits) (2 ^ 64 - 1)) }
 {
     Dropped::Gone {

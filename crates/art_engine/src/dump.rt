@@ -9,10 +9,10 @@ ghost use Rattle.art_lines.specs.Gathered.{IsPartTaken};
 ghost use Rattle.art_engine.specs.Stored.{records_of, number_records_of, all_records_of, ArePairs, AreNumberPairs};
 ghost use Rattle.art_engine.specs.Stored.{IsFullKey};
 
-use crate::change::numbers::numbers_of;
-use crate::together::Together;
+use crate::change::numbers::split_number_key;
+use crate::pair_batch::PairBatch;
 use art_lines::command::fields::NUMBER_KEY;
-use art_lines::gather::{ROOM, make_room};
+use art_lines::gather::{ROOM, reserve_line};
 use art_lines::head::Head;
 use art_lines::reply::{write_piece, write_total};
 use art_lines::room::{put_number_record, put_record};
@@ -20,7 +20,7 @@ use art_lines::{Sink, WriteFailed};
 use art_map::TreeMap;
 
 /// The tenant and the key of a full key.
-fn parts_of(full: &[u8]) -> (u32, &[u8])
+fn split_full_key(full: &[u8]) -> (u32, &[u8])
     requires { IsFullKey full.now }
     ensures tenant { result.0 ≡ from_be_bytes w32 (take 4 full.now) }
     ensures key { result.1.now ≡ drop 4 full.now }
@@ -49,12 +49,12 @@ fn gather_keys<W: Sink, const PREFIX_LEN: usize>(
     let mut held = 0;
     let mut head = Head::new(0);
     let mut pairs = records.iter();
-    let mut together = Together::new();
-    'pairs: while let Some((full, value)) = together.next(&mut pairs, &mut ()) {
-        let (tenant, key) = parts_of(full.as_slice());
-        let at = make_room(sink, room, held)?;
-        room[ROOM - 1] = together.seen();
-        head.turn_to(tenant);
+    let mut batch = PairBatch::new();
+    'pairs: while let Some((full, value)) = batch.next(&mut pairs, &mut ()) {
+        let (tenant, key) = split_full_key(full.as_slice());
+        let at = reserve_line(sink, room, held)?;
+        room[ROOM - 1] = batch.checksum();
+        head.set_tenant(tenant);
         held = put_record(room, at, &head, key, value.as_slice());
     }
     Ok(held)
@@ -80,11 +80,11 @@ fn gather_numbers<W: Sink, const PREFIX_LEN: usize>(
 {
     let mut held = before;
     let mut pairs = numbers.iter();
-    let mut together = Together::new();
-    'pairs: while let Some((key, value)) = together.next(&mut pairs, &mut ()) {
-        let (tenant, number) = numbers_of(key);
-        let at = make_room(sink, room, held)?;
-        room[ROOM - 1] = together.seen();
+    let mut batch = PairBatch::new();
+    'pairs: while let Some((key, value)) = batch.next(&mut pairs, &mut ()) {
+        let (tenant, number) = split_number_key(key);
+        let at = reserve_line(sink, room, held)?;
+        room[ROOM - 1] = batch.checksum();
         held = put_number_record(room, at, tenant, number, value.as_slice());
     }
     Ok(held)

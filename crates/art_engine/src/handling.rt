@@ -41,7 +41,7 @@ impl From<WriteFailed> for RunFault {
     }
 }
 
-/// How a line was carried out.
+/// How a line was executed.
 #[derive(Clone, Copy, Debug)]
 pub struct Handled {
     /// Whether the reply was `memory`.
@@ -52,7 +52,7 @@ pub struct Handled {
 }
 
 impl<const PREFIX_LEN: usize> Index<PREFIX_LEN> {
-    /// Carries out one line, which is passed without its newline, and writes its whole reply.
+    /// Executes one line, which is passed without its newline, and writes its whole reply.
     ///
     /// Returns `RunFault::Write` if the sink fails. What the line does is done then, and its reply is cut.
     ///
@@ -65,13 +65,13 @@ impl<const PREFIX_LEN: usize> Index<PREFIX_LEN> {
     /// ```
     pub fn handle<W: Sink>(&mut self, line: &[u8], sink: &mut W) -> Result<Handled, RunFault>
         requires { W.has_failed sink.old ≡ false }
-        ensures told { IfOk result (λ done.
+        ensures output { IfOk result (λ done.
             W.taken sink.new ≡ W.taken sink.old ++ answer done.memory self.old.records line.now) }
         ensures left { IfOk result (λ done. self.new.records ≡ left_by done.memory self.old.records line.now) }
         ensures lawful { IfOk result (λ done. done.memory ≡ true → LineMayRefuse self.old.records line.now) }
 
-        // A look-up reads so many nodes, and a drop reads and frees so many, told by the records alone; each other line
-        // reads none, nor does one that found no memory. They are counted.
+        // A look-up reads so many nodes, and a drop reads and frees so many, given by the records alone; each other
+        // line reads none, nor does one that found no memory. They are counted.
         ensures visits { IfOk result (λ done.
             IsWithin (line_visits done.memory line.now self.old.records) done.visits) }
         ensures short { IfOk result (λ done. IsShort (command_of line.now) done.visits) }
@@ -80,7 +80,7 @@ impl<const PREFIX_LEN: usize> Index<PREFIX_LEN> {
 
         // Nothing is read ahead of it.
         ensures ahead { IfOk result (λ done. self.new.ahead ≡ self.old.ahead ++ 0 ∷ []) }
-        ensures met { self.new.met ≡ self.old.met }
+        ensures prefetched { self.new.prefetched ≡ self.old.prefetched }
 
         ensures err { IfErr result (λ fault. fault ≡ RunFault.Write) }
         ensures failed { is_err result ≡ W.has_failed sink.new }
@@ -88,11 +88,11 @@ impl<const PREFIX_LEN: usize> Index<PREFIX_LEN> {
     {
         let mut fields = Fields::new();
         let word = read_line(line, &mut fields);
-        self.carry_out(line, word, &fields, 0, sink)
+        self.execute_parsed(line, word, &fields, 0, sink)
     }
 
-    /// Carries out one line as `handle` does, whose word and fields were read, as were so many nodes ahead of it.
-    pub(crate) fn carry_out<W: Sink>(
+    /// Executes one line as `handle` does, whose word and fields were read, as were so many nodes ahead of it.
+    pub(crate) fn execute_parsed<W: Sink>(
         &mut self,
         line: &[u8],
         word: Option<Word>,
@@ -102,7 +102,7 @@ impl<const PREFIX_LEN: usize> Index<PREFIX_LEN> {
     ) -> Result<Handled, RunFault>
         requires open { W.has_failed sink.old ≡ false }
         requires read { option_map (λ word. command_with word fields.now) word ≡ command_of line.now }
-        ensures told { IfOk result (λ done.
+        ensures output { IfOk result (λ done.
             W.taken sink.new ≡ W.taken sink.old ++ answer done.memory self.old.records line.now) }
         ensures left { IfOk result (λ done. self.new.records ≡ left_by done.memory self.old.records line.now) }
         ensures lawful { IfOk result (λ done. done.memory ≡ true → LineMayRefuse self.old.records line.now) }
@@ -112,18 +112,18 @@ impl<const PREFIX_LEN: usize> Index<PREFIX_LEN> {
         ensures own_path { IfOk result (λ done. ReadsOwnPath (command_of line.now) self.old.records done.visits) }
         ensures counted { IfOk result (λ done. self.new.reads ≡ self.old.reads ++ done.visits ∷ []) }
         ensures ahead { IfOk result (λ done. self.new.ahead ≡ self.old.ahead ++ ahead ∷ []) }
-        ensures met { self.new.met ≡ self.old.met }
+        ensures prefetched { self.new.prefetched ≡ self.old.prefetched }
         ensures err { IfErr result (λ fault. fault ≡ RunFault.Write) }
         ensures failed { is_err result ≡ W.has_failed sink.new }
         ensures cut { OnErr result (IsCutLine self.old line.now (W.taken sink.old) (W.taken sink.new) self.new) }
     {
-        let handled = self.answer(line, word, fields, sink)?;
-        self.tell_ahead(ahead);
+        let handled = self.execute(line, word, fields, sink)?;
+        self.count_ahead(ahead);
         Ok(handled)
     }
 
-    // Carries out a line as `carry_out` does, and tells nothing of what was read ahead of it.
-    fn answer<W: Sink>(
+    // Executes a line as `execute_parsed` does, and counts nothing of what was read ahead of it.
+    fn execute<W: Sink>(
         &mut self,
         _line: &[u8],
         word: Option<Word>,
@@ -134,22 +134,22 @@ impl<const PREFIX_LEN: usize> Index<PREFIX_LEN> {
         requires read { option_map (λ word. command_with word fields.now) word ≡ command_of _line.now }
         ensures done { IfOk result (λ done. IsLineAnswered done.memory done.visits _line.now self.old self.new
             (W.taken sink.old) (W.taken sink.new)) }
-        ensures met { self.new.met ≡ self.old.met }
+        ensures prefetched { self.new.prefetched ≡ self.old.prefetched }
         ensures err { IfErr result (λ fault. fault ≡ RunFault.Write) }
         ensures failed { is_err result ≡ W.has_failed sink.new }
         ensures cut { OnErr result (IsCutLine self.old _line.now (W.taken sink.old) (W.taken sink.new) self.new) }
     {
         match word {
-            Some(Word::LookUp(word)) => self.answer_look_up(_line, word, fields, sink),
-            Some(Word::Change(word)) => self.answer_change(_line, word, fields, sink),
-            Some(Word::Drop) => self.answer_drop(_line, fields, sink),
-            Some(Word::Whole(word)) => self.answer_survey(_line, word, fields, sink),
-            None => self.answer_bad(_line, sink),
+            Some(Word::LookUp(word)) => self.execute_look_up(_line, word, fields, sink),
+            Some(Word::Change(word)) => self.execute_change(_line, word, fields, sink),
+            Some(Word::Drop) => self.execute_drop(_line, fields, sink),
+            Some(Word::Whole(word)) => self.execute_survey(_line, word, fields, sink),
+            None => self.reply_bad(_line, sink),
         }
     }
 
     // Answers a look-up.
-    fn answer_look_up<W: Sink>(
+    fn execute_look_up<W: Sink>(
         &mut self,
         _line: &[u8],
         word: LookUp,
@@ -160,7 +160,7 @@ impl<const PREFIX_LEN: usize> Index<PREFIX_LEN> {
         requires read { Some (looks_up word fields.now) ≡ command_of _line.now }
         ensures done { IfOk result (λ done. IsLineAnswered done.memory done.visits _line.now self.old self.new
             (W.taken sink.old) (W.taken sink.new)) }
-        ensures met { self.new.met ≡ self.old.met }
+        ensures prefetched { self.new.prefetched ≡ self.old.prefetched }
         ensures err { IfErr result (λ fault. fault ≡ RunFault.Write) }
         ensures failed { is_err result ≡ W.has_failed sink.new }
         ensures cut { OnErr result (IsCutLine self.old _line.now (W.taken sink.old) (W.taken sink.new) self.new) }
@@ -173,7 +173,7 @@ impl<const PREFIX_LEN: usize> Index<PREFIX_LEN> {
     }
 
     // Makes a change, and writes how it went.
-    fn answer_change<W: Sink>(
+    fn execute_change<W: Sink>(
         &mut self,
         _line: &[u8],
         word: Change,
@@ -184,7 +184,7 @@ impl<const PREFIX_LEN: usize> Index<PREFIX_LEN> {
         requires read { Some (changes word fields.now) ≡ command_of _line.now }
         ensures done { IfOk result (λ done. IsLineAnswered done.memory done.visits _line.now self.old self.new
             (W.taken sink.old) (W.taken sink.new)) }
-        ensures met { self.new.met ≡ self.old.met }
+        ensures prefetched { self.new.prefetched ≡ self.old.prefetched }
         ensures err { IfErr result (λ fault. fault ≡ RunFault.Write) }
         ensures failed { is_err result ≡ W.has_failed sink.new }
         ensures cut { OnErr result (IsCutLine self.old _line.now (W.taken sink.old) (W.taken sink.new) self.new) }
@@ -199,7 +199,7 @@ impl<const PREFIX_LEN: usize> Index<PREFIX_LEN> {
     }
 
     // Drops a tenant, and writes how that went.
-    fn answer_drop<W: Sink>(
+    fn execute_drop<W: Sink>(
         &mut self,
         _line: &[u8],
         fields: &Fields,
@@ -209,7 +209,7 @@ impl<const PREFIX_LEN: usize> Index<PREFIX_LEN> {
         requires read { Some (drops fields.now) ≡ command_of _line.now }
         ensures done { IfOk result (λ done. IsLineAnswered done.memory done.visits _line.now self.old self.new
             (W.taken sink.old) (W.taken sink.new)) }
-        ensures met { self.new.met ≡ self.old.met }
+        ensures prefetched { self.new.prefetched ≡ self.old.prefetched }
         ensures err { IfErr result (λ fault. fault ≡ RunFault.Write) }
         ensures failed { is_err result ≡ W.has_failed sink.new }
         ensures cut { OnErr result (IsCutLine self.old _line.now (W.taken sink.old) (W.taken sink.new) self.new) }
@@ -224,7 +224,7 @@ impl<const PREFIX_LEN: usize> Index<PREFIX_LEN> {
     }
 
     // Writes what is asked of all records.
-    fn answer_survey<W: Sink>(
+    fn execute_survey<W: Sink>(
         &mut self,
         _line: &[u8],
         word: Whole,
@@ -235,7 +235,7 @@ impl<const PREFIX_LEN: usize> Index<PREFIX_LEN> {
         requires read { Some (asks_all word) ≡ command_of _line.now }
         ensures done { IfOk result (λ done. IsLineAnswered done.memory done.visits _line.now self.old self.new
             (W.taken sink.old) (W.taken sink.new)) }
-        ensures met { self.new.met ≡ self.old.met }
+        ensures prefetched { self.new.prefetched ≡ self.old.prefetched }
         ensures err { IfErr result (λ fault. fault ≡ RunFault.Write) }
         ensures failed { is_err result ≡ W.has_failed sink.new }
         ensures cut { OnErr result (IsCutLine self.old _line.now (W.taken sink.old) (W.taken sink.new) self.new) }
@@ -250,12 +250,12 @@ impl<const PREFIX_LEN: usize> Index<PREFIX_LEN> {
     }
 
     // Answers a line that spells no command.
-    fn answer_bad<W: Sink>(&mut self, _line: &[u8], sink: &mut W) -> Result<Handled, RunFault>
+    fn reply_bad<W: Sink>(&mut self, _line: &[u8], sink: &mut W) -> Result<Handled, RunFault>
         requires open { W.has_failed sink.old ≡ false }
         requires read { command_of _line.now ≡ None }
         ensures done { IfOk result (λ done. IsLineAnswered done.memory done.visits _line.now self.old self.new
             (W.taken sink.old) (W.taken sink.new)) }
-        ensures met { self.new.met ≡ self.old.met }
+        ensures prefetched { self.new.prefetched ≡ self.old.prefetched }
         ensures err { IfErr result (λ fault. fault ≡ RunFault.Write) }
         ensures failed { is_err result ≡ W.has_failed sink.new }
         ensures cut { OnErr result (IsCutLine self.old _line.now (W.taken sink.old) (W.taken sink.new) self.new) }

@@ -15,14 +15,14 @@ ghost use Rattle.art_engine.specs.Replies.{command_reply};
 ghost use Rattle.art_engine.specs.State.{unread};
 ghost use Rattle.art_engine.specs.Stored.{all_records_of, ArePairs, AreNumberPairs};
 ghost use Rattle.art_engine.specs.Survey.{IsSurvey, survey_words};
-ghost use Rattle.art_engine.specs.Upcoming.{to_come, read_of, texts_of};
+ghost use Rattle.art_engine.specs.ReadAhead.{to_come, read_of, texts_of};
 
 use crate::change::{Changed, change};
 use crate::drop_tenant::{Dropped, drop_tenant};
 use crate::handling::RunFault;
+use crate::read_ahead::{MIN_RECORDS, PathReader, ReadAhead};
 use crate::readers::Readers;
 use crate::survey::{Survey, take_survey, write_survey};
-use crate::upcoming::{FEW, Upcoming, WayReader};
 use art_bytes::{Count, History};
 use art_lines::command::fields::{Fields, NUMBER_KEY};
 use art_lines::command::word::{Change, LookUp, Whole};
@@ -31,7 +31,7 @@ use art_map::TreeMap;
 use std::alloc::Global;
 use std::marker::Model;
 
-/// The records of all tenants. For proofs alone, it also keeps how many nodes each line has read, how many are told as
+/// The records of all tenants. For proofs alone, it also keeps how many nodes each line has read, how many were
 /// read ahead of it, and what the readers counted that went ahead.
 ///
 /// ```
@@ -48,7 +48,7 @@ pub struct Index<const PREFIX_LEN: usize> {
     numbers: TreeMap<[u8; NUMBER_KEY], Vec<u8>, PREFIX_LEN>,
     reads: History,
     ahead: History,
-    met: History,
+    prefetched: History,
 }
 
 impl<const PREFIX_LEN: usize> Model for Index<PREFIX_LEN> {
@@ -62,7 +62,7 @@ impl<const PREFIX_LEN: usize> Model for Index<PREFIX_LEN> {
       records = all_records_of s.records.pairs s.numbers.pairs;
       reads = s.reads.items;
       ahead = s.ahead.items;
-      met = s.met.items;
+      prefetched = s.prefetched.items;
     } };
 
     ghost invariant = { λ s. ArePairs s.records.pairs × AreNumberPairs s.numbers.pairs };
@@ -86,11 +86,11 @@ impl<const PREFIX_LEN: usize> Index<PREFIX_LEN> {
             numbers: TreeMap::with_prefix_len(alloc),
             reads: History::new(),
             ahead: History::new(),
-            met: History::new(),
+            prefetched: History::new(),
         }
     }
 
-    /// Makes an index of these two maps and nothing else. They have to be maps of records, as `are_records` tells. It
+    /// Makes an index of these two maps and nothing else. They have to be maps of records, as `are_records` says. It
     /// allocates nothing.
     ///
     /// ```
@@ -116,7 +116,7 @@ impl<const PREFIX_LEN: usize> Index<PREFIX_LEN> {
             numbers: number_map,
             reads: History::new(),
             ahead: History::new(),
-            met: History::new(),
+            prefetched: History::new(),
         }
     }
 
@@ -163,7 +163,7 @@ impl<const PREFIX_LEN: usize> Index<PREFIX_LEN> {
         &self.numbers
     }
 
-    /// Answers a look-up through a reader of each map, and returns how many nodes both have read. That is counted.
+    /// Executes a look-up through a reader of each map, and returns how many nodes both have read. That is counted.
     pub(crate) fn look_up<W: Sink>(
         &mut self,
         word: LookUp,
@@ -171,7 +171,7 @@ impl<const PREFIX_LEN: usize> Index<PREFIX_LEN> {
         sink: &mut W,
     ) -> Result<u64, RunFault>
         requires open { W.has_failed sink.old ≡ false }
-        ensures told { Writes result (W.taken sink.old) (W.taken sink.new)
+        ensures output { Writes result (W.taken sink.old) (W.taken sink.new)
             (flat_map line_of (command_reply (Some (looks_up word fields.now)) self.old.records))
             (W.has_failed sink.new) }
         ensures err { IfErr result (λ fault. fault ≡ RunFault.Write) }
@@ -180,11 +180,11 @@ impl<const PREFIX_LEN: usize> Index<PREFIX_LEN> {
         ensures counted { IfOk result (λ count. self.new.reads ≡ self.old.reads ++ count ∷ []) }
         ensures uncounted { OnErr result (self.new.reads ≡ self.old.reads) }
         ensures kept { (self.new.records ≡ self.old.records) × (self.new.ahead ≡ self.old.ahead)
-            × (self.new.met ≡ self.old.met) }
+            × (self.new.prefetched ≡ self.old.prefetched) }
         ensures are { AreRecords self.old.records }
     {
-        let readers = Readers::of(&self.records, &self.numbers);
-        let visits = readers.answer(word, fields, sink)?;
+        let readers = Readers::new(&self.records, &self.numbers);
+        let visits = readers.execute(word, fields, sink)?;
         self.count(visits);
         Ok(visits)
     }
@@ -193,40 +193,40 @@ impl<const PREFIX_LEN: usize> Index<PREFIX_LEN> {
     pub(crate) fn count(&mut self, visits: u64)
         ensures counted { self.new.reads ≡ self.old.reads ++ visits ∷ [] }
         ensures kept { (self.new.records ≡ self.old.records) × (self.new.ahead ≡ self.old.ahead)
-            × (self.new.met ≡ self.old.met) }
+            × (self.new.prefetched ≡ self.old.prefetched) }
     {
         self.reads = self.reads.then_count(&Count { number: visits });
     }
 
-    /// Tells how many nodes were read ahead of a line.
-    pub(crate) fn tell_ahead(&mut self, ahead: u64)
-        ensures told { self.new.ahead ≡ self.old.ahead ++ ahead ∷ [] }
+    /// Counts how many nodes were read ahead of a line.
+    pub(crate) fn count_ahead(&mut self, ahead: u64)
+        ensures counted { self.new.ahead ≡ self.old.ahead ++ ahead ∷ [] }
         ensures kept { (self.new.records ≡ self.old.records) × (self.new.reads ≡ self.old.reads)
-            × (self.new.met ≡ self.old.met) }
+            × (self.new.prefetched ≡ self.old.prefetched) }
     {
         self.ahead = self.ahead.then_count(&Count { number: ahead });
     }
 
-    /// Has the next lines of a text read ahead, through a reader of each map, if those that were read before their turn
-    /// are used up and where it may pay. What each reader has counted is kept.
+    /// Prefetches for the next lines of a text, through a reader of each map, if those that were parsed before their
+    /// turn are used up and where it may pay. What each reader has counted is kept.
     #[inline]
-    pub(crate) fn read_ahead(&mut self, upcoming: &mut Upcoming, text: &[u8])
-        requires comes { AreNext (texts_of (to_come upcoming.old)) text.now }
-        ensures comes { AreNext (texts_of (to_come upcoming.new)) text.now }
-        ensures counted { total self.new.met + read_of (to_come upcoming.old)
-            ≡ total self.old.met + read_of (to_come upcoming.new) }
+    pub(crate) fn prefetch(&mut self, read_ahead: &mut ReadAhead, text: &[u8])
+        requires comes { AreNext (texts_of (to_come read_ahead.old)) text.now }
+        ensures comes { AreNext (texts_of (to_come read_ahead.new)) text.now }
+        ensures counted { total self.new.prefetched + read_of (to_come read_ahead.old)
+            ≡ total self.old.prefetched + read_of (to_come read_ahead.new) }
         ensures kept { (self.new.records ≡ self.old.records) × (self.new.reads ≡ self.old.reads)
             × (self.new.ahead ≡ self.old.ahead) }
     {
-        if upcoming.wants(self.records.len().max(self.numbers.len())) {
-            let mut keys = WayReader::new(&self.records);
-            let mut numbers = WayReader::new(&self.numbers);
-            upcoming.read_maps(&mut keys, &mut numbers, FEW, text);
+        if read_ahead.should_read(self.records.len().max(self.numbers.len())) {
+            let mut keys = PathReader::new(&self.records);
+            let mut numbers = PathReader::new(&self.numbers);
+            read_ahead.read_maps(&mut keys, &mut numbers, MIN_RECORDS, text);
             let of_keys = Count { number: keys.end() };
             let of_numbers = Count {
                 number: numbers.end(),
             };
-            self.met = self.met.then_count(&of_keys).then_count(&of_numbers);
+            self.prefetched = self.prefetched.then_count(&of_keys).then_count(&of_numbers);
         }
     }
 
@@ -235,7 +235,7 @@ impl<const PREFIX_LEN: usize> Index<PREFIX_LEN> {
         requires spelled { (line : List ℕ) × Spells line (changes word fields.now) }
         ensures done { IsChangeDone result (changes word fields.now) self.old.records self.new.records }
         ensures kept { (self.new.reads ≡ self.old.reads) × (self.new.ahead ≡ self.old.ahead)
-            × (self.new.met ≡ self.old.met) }
+            × (self.new.prefetched ≡ self.old.prefetched) }
     {
         change(
             self.alloc,
@@ -250,19 +250,19 @@ impl<const PREFIX_LEN: usize> Index<PREFIX_LEN> {
     pub(crate) fn drop_tenant(&mut self, fields: &Fields) -> Dropped
         ensures done { IsDropDone result (tenant_in_place fields.now) self.old.records self.new.records }
         ensures kept { (self.new.reads ≡ self.old.reads) × (self.new.ahead ≡ self.old.ahead)
-            × (self.new.met ≡ self.old.met) }
+            × (self.new.prefetched ≡ self.old.prefetched) }
     {
         drop_tenant(&mut self.records, &mut self.numbers, fields)
     }
 
-    /// Finds what is to be told of all records.
+    /// Surveys all records.
     pub(crate) fn survey(&self, word: Whole) -> Survey
         ensures { IsSurvey result (asks_all word) self.now.records }
     {
         take_survey(&self.records, &self.numbers, word)
     }
 
-    /// Writes what is told of all records.
+    /// Writes a survey of all records.
     pub(crate) fn write_survey<W: Sink>(
         &self,
         found: Survey,

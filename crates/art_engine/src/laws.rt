@@ -2,8 +2,8 @@
 ghost use Rattle.art_engine.specs.Laws.{OwnReadsBack, OthersAreUntouched, OwnIsInPlace};
 ghost use Rattle.art_engine.specs.Laws.{RequestsLeaveOthers, TenantsStandAlone, DeletionsGoByOwnKeys};
 ghost use Rattle.art_engine.specs.Laws.{DeletionsGoByOwnNumbers, DropsReadFew, DumpsTellRecords, DumpsAreReadBack};
-ghost use Rattle.art_engine.specs.Laws.{FullKeysKeepOrder, FullKeysKeepConflicts, OwnIsBehindFront};
-ghost use Rattle.art_engine.specs.Laws.{PutsAreUndone, NumberPutsAreUndone, WaysAreOwn};
+ghost use Rattle.art_engine.specs.Laws.{FullKeysKeepOrder, FullKeysKeepConflicts, OwnIsUnderPrefix};
+ghost use Rattle.art_engine.specs.Laws.{PutsAreUndone, NumberPutsAreUndone, PathsAreOwn};
 
 /// What is put in place for a tenant is what it holds then.
 #[tactic(auto, using(crate::proofs::OwnLaws::own_reads_back))]
@@ -35,10 +35,10 @@ pub fn full_keys_keep_conflicts()
     ensures { FullKeysKeepConflicts }
 {}
 
-/// What a tenant holds is what the two maps have after the tenant's prefix, with the prefix cut off.
-#[tactic(auto, using(crate::proofs::OwnFronts::own_is_behind_front))]
-pub fn own_is_behind_front()
-    ensures { OwnIsBehindFront }
+/// What a tenant holds is what the two maps have under the tenant's prefix, with the prefix cut off.
+#[tactic(auto, using(crate::proofs::OwnPrefixes::own_is_under_prefix))]
+pub fn own_is_under_prefix()
+    ensures { OwnIsUnderPrefix }
 {}
 
 /// A request of one tenant leaves what all others hold.
@@ -94,9 +94,9 @@ pub fn drops_read_few()
     ensures { DropsReadFew }
 {}
 
-/// What is read ahead of a tenant's line lies on the way of a full key of this tenant: that of the key, the number, the
-/// prefix or the lower bound that the line has.
-#[tactic(auto, using(crate::proofs::OwnWays::ways_are_own))]
-pub fn ways_are_own()
-    ensures { WaysAreOwn }
+/// What is read ahead of a tenant's line lies on the path of a full key of this tenant: that of the key, the number,
+/// the prefix or the lower bound that the line has.
+#[tactic(auto, using(crate::proofs::OwnPaths::paths_are_own))]
+pub fn paths_are_own()
+    ensures { PathsAreOwn }
 {}

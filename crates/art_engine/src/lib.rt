@@ -17,15 +17,15 @@ pub mod laws;
 mod listing;
 mod lookup;
 mod maps;
+mod pair_batch;
 mod piece;
+pub mod read_ahead;
 mod readers;
 mod running;
 mod survey;
-mod together;
-pub mod upcoming;
 
 pub use handling::{Handled, RunFault};
 pub use index::Index;
-pub use lookup::look;
+pub use lookup::look_up;
 pub use maps::are_records;
 pub use running::{flushed, run};

@@ -20,8 +20,8 @@ ghost use Rattle.art_engine.specs.Stored.{Pair, NumberPair, records_of, number_r
 ghost use Rattle.art_engine.specs.Spans.{span_pairs, own_pair, IsListed, ReadsRecords};
 ghost use Rattle.art_engine.specs.Spans.{own_number, IsNumbered, ReadsNumbers};
 
-use crate::change::numbers::numbers_of;
-use crate::together::Together;
+use crate::change::numbers::split_number_key;
+use crate::pair_batch::PairBatch;
 use art_bytes::{AsBytes, SliceKey};
 use art_lines::command::fields::{Fields, NUMBER_KEY};
 use art_lines::gather::{gather_number, gather_pair, write_end};
@@ -93,7 +93,7 @@ impl ListedKey for [u8; NUMBER_KEY] {
         room: &mut [u8],
         held: usize,
     ) -> Result<usize, WriteFailed> {
-        let (_tenant, number) = numbers_of(self);
+        let (_tenant, number) = split_number_key(self);
         gather_number(sink, room, held, number, value.as_slice())
     }
 }
@@ -120,9 +120,9 @@ fn write_pairs<K: ListedKey, W: Sink, const PREFIX_LEN: usize>(
 {
     let mut room = [0; ROOM];
     let (mut held, mut count) = (0, 0);
-    let mut together = Together::new();
-    'pairs: while let Some((key, value)) = together.next(records, span) {
-        room[ROOM - 1] = together.seen();
+    let mut batch = PairBatch::new();
+    'pairs: while let Some((key, value)) = batch.next(records, span) {
+        room[ROOM - 1] = batch.checksum();
         let next = key.gather(value, sink, &mut room, held)?;
         held = next;
         count += 1;
@@ -138,7 +138,7 @@ pub(crate) fn write_list<W: Sink, const PREFIX_LEN: usize>(
 ) -> Result<(), WriteFailed>
     requires open { W.has_failed sink.old ≡ false }
     requires reads { (ps : List Pair) × ReadsRecords PREFIX_LEN records.old ps }
-    ensures told { (ps : List Pair) → ReadsRecords PREFIX_LEN records.old ps
+    ensures output { (ps : List Pair) → ReadsRecords PREFIX_LEN records.old ps
         → Writes result (W.taken sink.old) (W.taken sink.new)
         (flat_map line_of (own_reply (list (key_in_place fields.now))
         (own (tenant_in_place fields.now) (records_of ps))))
@@ -161,7 +161,7 @@ pub(crate) fn write_span<W: Sink, const PREFIX_LEN: usize>(
 ) -> Result<(), WriteFailed>
     requires open { W.has_failed sink.old ≡ false }
     requires reads { (ps : List Pair) × ReadsRecords PREFIX_LEN records.old ps }
-    ensures told { (ps : List Pair) → ReadsRecords PREFIX_LEN records.old ps
+    ensures output { (ps : List Pair) → ReadsRecords PREFIX_LEN records.old ps
         → Writes result (W.taken sink.old) (W.taken sink.new)
         (flat_map line_of (own_reply (span (key_in_place fields.now) (value_in_place fields.now))
         (own (tenant_in_place fields.now) (records_of ps))))
@@ -187,7 +187,7 @@ fn write_between<W: Sink, const PREFIX_LEN: usize>(
     requires open { W.has_failed sink.old ≡ false }
     requires reads { (ps : List Pair) × ReadsRecords PREFIX_LEN records.old ps }
     requires order { is_below (value_in_place fields.now) (key_in_place fields.now) ≡ false }
-    ensures told { (ps : List Pair) → ReadsRecords PREFIX_LEN records.old ps
+    ensures output { (ps : List Pair) → ReadsRecords PREFIX_LEN records.old ps
         → Writes result (W.taken sink.old) (W.taken sink.new)
         (flat_map line_of (listed (pairs_from_to (key_in_place fields.now) (value_in_place fields.now)
         (own (tenant_in_place fields.now) (records_of ps)).keys)))
@@ -214,7 +214,7 @@ pub(crate) fn write_number_span<W: Sink, const PREFIX_LEN: usize>(
 ) -> Result<(), WriteFailed>
     requires open { W.has_failed sink.old ≡ false }
     requires reads { (ns : List NumberPair) × ReadsNumbers PREFIX_LEN numbers.old ns }
-    ensures told { (ns : List NumberPair) → ReadsNumbers PREFIX_LEN numbers.old ns
+    ensures output { (ns : List NumberPair) → ReadsNumbers PREFIX_LEN numbers.old ns
         → Writes result (W.taken sink.old) (W.taken sink.new)
         (flat_map line_of (own_reply (nspan (number_in_place fields.now) (bound_in_place fields.now))
         (own (tenant_in_place fields.now) (number_records_of ns))))
@@ -240,7 +240,7 @@ fn write_numbers_between<W: Sink, const PREFIX_LEN: usize>(
     requires open { W.has_failed sink.old ≡ false }
     requires reads { (ns : List NumberPair) × ReadsNumbers PREFIX_LEN numbers.old ns }
     requires order { int_lt (bound_in_place fields.now) (number_in_place fields.now) ≡ false }
-    ensures told { (ns : List NumberPair) → ReadsNumbers PREFIX_LEN numbers.old ns
+    ensures output { (ns : List NumberPair) → ReadsNumbers PREFIX_LEN numbers.old ns
         → Writes result (W.taken sink.old) (W.taken sink.new)
         (flat_map line_of (numbers_listed (numbers_from_to (number_in_place fields.now) (bound_in_place fields.now)
         (own (tenant_in_place fields.now) (number_records_of ns)).numbers)))

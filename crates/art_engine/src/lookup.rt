@@ -16,16 +16,16 @@ use crate::handling::RunFault;
 use crate::listing::{write_list, write_number_span, write_span};
 use art_lines::command::fields::{Fields, NUMBER_KEY};
 use art_lines::command::word::LookUp;
-use art_lines::reply::{write_front, write_value};
+use art_lines::reply::{write_prefix_pair, write_value};
 use art_lines::{Sink, WriteFailed};
 use art_walks::MapReader;
-use record::{front_of, value_at_number, value_of};
+use record::{prefix_pair_of, value_at_number, value_of};
 
 /// Answers a look-up, which changes nothing, through a reader of each map: those of an index's records. It requires a
 /// sink that has not failed, and returns `RunFault::Write` if the sink fails.
 ///
 /// The readers count what they read, each by itself, whatever they had read before. If it returns `Ok`, `Grew` says how
-/// many nodes these are, told by the records alone: one of both maps is read, and nothing of the other.
+/// many nodes these are, given by the records alone: one of both maps is read, and nothing of the other.
 ///
 /// ```
 /// use art_lines::command::{fields::Fields, read_line, word::LookUp};
@@ -35,10 +35,10 @@ use record::{front_of, value_at_number, value_of};
 /// let mut fields = Fields::new();
 /// read_line(b"get 7 0a", &mut fields);
 /// let (mut bytes, mut numbers) = (index.byte_map().reader(), index.number_map().reader());
-/// look(&mut bytes, &mut numbers, LookUp::Get, &fields, &mut ToWriter::new(&mut replies))?;
+/// look_up(&mut bytes, &mut numbers, LookUp::Get, &fields, &mut ToWriter::new(&mut replies))?;
 /// assert_eq!(rt; replies.as_slice(), b"new\nis 6869\n".as_slice());
 /// ```
-pub fn look<W: Sink, const PREFIX_LEN: usize>(
+pub fn look_up<W: Sink, const PREFIX_LEN: usize>(
     bytes: &mut MapReader<'_, Vec<u8>, Vec<u8>, PREFIX_LEN>,
     numbers: &mut MapReader<'_, [u8; NUMBER_KEY], Vec<u8>, PREFIX_LEN>,
     word: LookUp,
@@ -48,7 +48,7 @@ pub fn look<W: Sink, const PREFIX_LEN: usize>(
     requires open { W.has_failed sink.old ≡ false }
     requires bytes { (ps : List Pair) × ReadsRecords PREFIX_LEN bytes.old ps }
     requires numbers { (ns : List NumberPair) × ReadsNumbers PREFIX_LEN numbers.old ns }
-    ensures told { (ps : List Pair) (ns : List NumberPair) → ReadsRecords PREFIX_LEN bytes.old ps
+    ensures output { (ps : List Pair) (ns : List NumberPair) → ReadsRecords PREFIX_LEN bytes.old ps
         → ReadsNumbers PREFIX_LEN numbers.old ns → Writes result (W.taken sink.old) (W.taken sink.new)
         (flat_map line_of (command_reply (Some (looks_up word fields.now)) (all_records_of ps ns)))
         (W.has_failed sink.new) }
@@ -61,12 +61,12 @@ pub fn look<W: Sink, const PREFIX_LEN: usize>(
         → ReadsNumbers PREFIX_LEN numbers.old ns → OnOk result (Grew
         (number_visits (Some (looks_up word fields.now)) (all_records_of ps ns)) numbers.old.count numbers.new.count) }
 {
-    look_up(bytes, numbers, word, fields, sink)?;
+    write_look_up(bytes, numbers, word, fields, sink)?;
     Ok(())
 }
 
-/// Answers a look-up as `look` does, and returns the sink's own fault.
-fn look_up<W: Sink, const PREFIX_LEN: usize>(
+/// Answers a look-up as `look_up` does, and returns the sink's own fault.
+fn write_look_up<W: Sink, const PREFIX_LEN: usize>(
     bytes: &mut MapReader<'_, Vec<u8>, Vec<u8>, PREFIX_LEN>,
     numbers: &mut MapReader<'_, [u8; NUMBER_KEY], Vec<u8>, PREFIX_LEN>,
     word: LookUp,
@@ -76,7 +76,7 @@ fn look_up<W: Sink, const PREFIX_LEN: usize>(
     requires open { W.has_failed sink.old ≡ false }
     requires bytes { (ps : List Pair) × ReadsRecords PREFIX_LEN bytes.old ps }
     requires numbers { (ns : List NumberPair) × ReadsNumbers PREFIX_LEN numbers.old ns }
-    ensures told { (ps : List Pair) (ns : List NumberPair) → ReadsRecords PREFIX_LEN bytes.old ps
+    ensures output { (ps : List Pair) (ns : List NumberPair) → ReadsRecords PREFIX_LEN bytes.old ps
         → ReadsNumbers PREFIX_LEN numbers.old ns → Writes result (W.taken sink.old) (W.taken sink.new)
         (flat_map line_of (command_reply (Some (looks_up word fields.now)) (all_records_of ps ns)))
         (W.has_failed sink.new) }
@@ -90,7 +90,7 @@ fn look_up<W: Sink, const PREFIX_LEN: usize>(
 {
     match word {
         LookUp::Get => write_value(sink, value_of(bytes, fields)),
-        LookUp::Find => write_front(sink, front_of(bytes, fields)),
+        LookUp::Find => write_prefix_pair(sink, prefix_pair_of(bytes, fields)),
         LookUp::List => write_list(bytes, fields, sink),
         LookUp::Span => write_span(bytes, fields, sink),
         LookUp::NGet => write_value(sink, value_at_number(numbers, fields)),

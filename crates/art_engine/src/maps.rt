@@ -7,7 +7,7 @@ ghost use Rattle.art_engine.specs.Held.{IsRecordIn, IsNumberRecordIn};
 ghost use Rattle.art_engine.specs.Stored.{ArePairs, AreNumberPairs};
 ghost use Rattle.art_lines.specs.Words.{shown, bytes};
 
-use crate::change::numbers::numbers_of;
+use crate::change::numbers::split_number_key;
 use art_lines::command::LINE;
 use art_lines::command::fields::NUMBER_KEY;
 use art_map::TreeMap;
@@ -83,8 +83,8 @@ fn is_short(full: &[u8], value: &[u8]) -> bool
         return false;
     }
     let tenant = u32::from_be_bytes([full[0], full[1], full[2], full[3]]);
-    let front = digits_of(tenant).saturating_add(letters_of(&full[4..]));
-    front.saturating_add(6).saturating_add(letters_of(value)) <= LINE
+    let first = digits_of(tenant).saturating_add(letters_of(&full[4..]));
+    first.saturating_add(6).saturating_add(letters_of(value)) <= LINE
 }
 
 // Whether a value may stand under the bytes of a number.
@@ -99,9 +99,9 @@ fn is_number_record(key: &[u8; NUMBER_KEY], value: &[u8]) -> bool
 fn is_short_number(key: &[u8; NUMBER_KEY], value: &[u8]) -> bool
     ensures { IsTrue result ↔ IsShortNumber key.now value.now }
 {
-    let (tenant, number) = numbers_of(key);
-    let front = digits_of(tenant).saturating_add(digits_of_signed(number));
-    front.saturating_add(7).saturating_add(letters_of(value)) <= LINE
+    let (tenant, number) = split_number_key(key);
+    let first = digits_of(tenant).saturating_add(digits_of_signed(number));
+    first.saturating_add(7).saturating_add(letters_of(value)) <= LINE
 }
 
 // How many digits a tenant has.

@@ -9,15 +9,15 @@ ghost use Rattle.art_engine.specs.Spans.{ReadsRecords, ReadsNumbers};
 ghost use Rattle.art_engine.specs.Stored.{Pair, NumberPair, all_records_of, ArePairs, AreNumberPairs};
 
 use crate::handling::RunFault;
-use crate::lookup::look;
+use crate::lookup::look_up;
 use art_lines::Sink;
 use art_lines::command::fields::{Fields, NUMBER_KEY};
 use art_lines::command::word::LookUp;
 use art_map::TreeMap;
 use art_walks::MapReader;
 
-/// A reader of each map. It can't be let go: `answer` alone ends it, which answers a look-up by it and tells how many
-/// nodes were read through it.
+/// A reader of each map. It can't be let go: `execute` alone ends it, which executes a look-up by it and returns how
+/// many nodes were read through it.
 pub(crate) struct Readers<'a, const PREFIX_LEN: usize> {
     bytes: MapReader<'a, Vec<u8>, Vec<u8>, PREFIX_LEN>,
     numbers: MapReader<'a, [u8; NUMBER_KEY], Vec<u8>, PREFIX_LEN>,
@@ -25,7 +25,7 @@ pub(crate) struct Readers<'a, const PREFIX_LEN: usize> {
 
 impl<'a, const PREFIX_LEN: usize> Readers<'a, PREFIX_LEN> {
     /// Readers of these maps, which have read nothing yet.
-    pub(crate) fn of(
+    pub(crate) fn new(
         records: &'a TreeMap<Vec<u8>, Vec<u8>, PREFIX_LEN>,
         numbers: &'a TreeMap<[u8; NUMBER_KEY], Vec<u8>, PREFIX_LEN>,
     ) -> Self
@@ -42,8 +42,8 @@ impl<'a, const PREFIX_LEN: usize> Readers<'a, PREFIX_LEN> {
         }
     }
 
-    /// Answers a look-up through a reader of each map, and tells how many nodes both have read.
-    pub(crate) fn answer<W: Sink>(
+    /// Executes a look-up through a reader of each map, and returns how many nodes both have read.
+    pub(crate) fn execute<W: Sink>(
         self,
         word: LookUp,
         fields: &Fields,
@@ -53,7 +53,7 @@ impl<'a, const PREFIX_LEN: usize> Readers<'a, PREFIX_LEN> {
         requires bytes { (ps : List Pair) × ReadsRecords PREFIX_LEN self.bytes ps }
         requires numbers { (ns : List NumberPair) × ReadsNumbers PREFIX_LEN self.numbers ns }
         requires unread { (self.bytes.count ≡ 0) × (self.numbers.count ≡ 0) }
-        ensures told { (ps : List Pair) (ns : List NumberPair) → ReadsRecords PREFIX_LEN self.entry.bytes ps
+        ensures output { (ps : List Pair) (ns : List NumberPair) → ReadsRecords PREFIX_LEN self.entry.bytes ps
             → ReadsNumbers PREFIX_LEN self.entry.numbers ns → Writes result (W.taken sink.old) (W.taken sink.new)
             (flat_map line_of (command_reply (Some (looks_up word fields.now)) (all_records_of ps ns)))
             (W.has_failed sink.new) }
@@ -66,7 +66,7 @@ impl<'a, const PREFIX_LEN: usize> Readers<'a, PREFIX_LEN> {
             mut bytes,
             mut numbers,
         } = self;
-        look(&mut bytes, &mut numbers, word, fields, sink)?;
+        look_up(&mut bytes, &mut numbers, word, fields, sink)?;
         Ok(bytes.visits().saturating_add(numbers.visits()))
     }
 }

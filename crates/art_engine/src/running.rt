@@ -5,7 +5,7 @@ ghost use Rattle.art_lines.specs.Ends.{calls_to_flush, has_write_failed};
 ghost use Rattle.art_lines.specs.Lines.{lines_of, whole_lines_of, lines_so_far};
 ghost use Rattle.art_engine.specs.State.{State};
 ghost use Rattle.art_engine.specs.Ahead.{AreNext, IsAllTold, Tells};
-ghost use Rattle.art_engine.specs.Upcoming.{to_come, read_of, texts_of};
+ghost use Rattle.art_engine.specs.ReadAhead.{to_come, read_of, texts_of};
 ghost use Rattle.art_engine.specs.Outcome.{IsOutcome};
 ghost use Rattle.art_engine.specs.Faults.{AfterWriteFault};
 ghost use Rattle.art_engine.specs.Progress.{Carried, IsCutRun, NoNewline};
@@ -13,7 +13,7 @@ ghost use Rattle.art_engine.specs.Progress.{Carried, IsCutRun, NoNewline};
 use crate::handling::RunFault;
 use crate::index::Index;
 use crate::piece::PieceRoom;
-use crate::upcoming::Upcoming;
+use crate::read_ahead::ReadAhead;
 use arrayvec::ArrayVec;
 use art_lines::{Sink, Source, ToWriter};
 use memchr::memchr;
@@ -49,7 +49,7 @@ pub fn run<S: Source, W: Sink, const PREFIX_LEN: usize>(
         × (W.taken sink.new ≡ W.taken sink.old ++ written)
         × IsOutcome index.old (lines_of text) written index.new) }
 
-    // All that the readers counted that went ahead of lines is told of these lines, and nothing else is.
+    // All that the readers counted that went ahead of lines is counted for these lines, and nothing else is.
     ensures ahead { OnOk result (IsAllTold index.old index.new) }
 
     // A fault is that of the end that failed.
@@ -71,7 +71,7 @@ pub fn run<S: Source, W: Sink, const PREFIX_LEN: usize>(
 {
     let mut held: ArrayVec<u8, HELD> = ArrayVec::new();
     let mut room = PieceRoom::new(index.alloc());
-    let mut upcoming = Upcoming::new(index.alloc());
+    let mut read_ahead = ReadAhead::new(index.alloc());
     'reads: loop {
         sink.send();
         let buf = room.as_mut_slice();
@@ -81,35 +81,35 @@ pub fn run<S: Source, W: Sink, const PREFIX_LEN: usize>(
         if n == 0 {
             break 'reads;
         }
-        feed(index, &mut held, &mut upcoming, &buf[..n], sink)?;
+        feed(index, &mut held, &mut read_ahead, &buf[..n], sink)?;
     }
     drop(room);
     if held.is_empty() {
         return Ok(());
     }
     let line = held.as_slice();
-    upcoming.read_now(line);
-    let asked = upcoming.asked();
-    index.carry_out(line, asked.word, asked.fields, 0, sink)?;
+    read_ahead.parse_now(line);
+    let parsed = read_ahead.parsed();
+    index.execute_parsed(line, parsed.word, parsed.fields, 0, sink)?;
     Ok(())
 }
 
-/// Carries out the lines that the piece ends, and holds what stands behind them. A line that lies whole in the piece is
+/// Executes the lines that the piece ends, and holds what stands after them. A line that lies whole in the piece is
 /// handled there; only a line that was cut is put together. What the look-ups among them read is read ahead.
 fn feed<W: Sink, const PREFIX_LEN: usize>(
     index: &mut Index<PREFIX_LEN>,
     held: &mut ArrayVec<u8, HELD>,
-    upcoming: &mut Upcoming,
+    read_ahead: &mut ReadAhead,
     piece: &[u8],
     sink: &mut W,
 ) -> Result<(), RunFault>
     requires open { W.has_failed sink.old ≡ false }
-    requires used_up { to_come upcoming.old ≡ [] }
+    requires used_up { to_come read_ahead.old ≡ [] }
     ensures carried { OnOk result ((start : State) (text before : List ℕ)
         → Carried start index.old text held.old.items before (W.taken sink.old)
         → Carried start index.new (text ++ piece.now) held.new.items before (W.taken sink.new)) }
-    ensures used_up { OnOk result (to_come upcoming.new ≡ []) }
-    ensures told { OnOk result (Tells index.old 0 index.new 0) }
+    ensures used_up { OnOk result (to_come read_ahead.new ≡ []) }
+    ensures counted { OnOk result (Tells index.old 0 index.new 0) }
     ensures cut { OnErr result ((start : State) (text before : List ℕ)
         → Carried start index.old text held.old.items before (W.taken sink.old)
         → IsCutRun start index.new (whole_lines_of (text ++ piece.now)) before (W.taken sink.new)) }
@@ -118,35 +118,35 @@ fn feed<W: Sink, const PREFIX_LEN: usize>(
 {
     let mut rest = piece;
     'lines: while let Some(at) = memchr(b'\n', rest) {
-        finish(index, held, upcoming, rest, &rest[..at], sink)?;
+        finish_line(index, held, read_ahead, rest, &rest[..at], sink)?;
         rest = &rest[at + 1..];
     }
-    hold(held, rest);
+    append_capped(held, rest);
     Ok(())
 }
 
 /// Carries out the line that is held and then ends with the part, with which the rest of the piece begins.
-fn finish<W: Sink, const PREFIX_LEN: usize>(
+fn finish_line<W: Sink, const PREFIX_LEN: usize>(
     index: &mut Index<PREFIX_LEN>,
     held: &mut ArrayVec<u8, HELD>,
-    upcoming: &mut Upcoming,
+    read_ahead: &mut ReadAhead,
     rest: &[u8],
     part: &[u8],
     sink: &mut W,
 ) -> Result<(), RunFault>
     requires open { W.has_failed sink.old ≡ false }
-    requires part { NoNewline part.now × ((behind : List ℕ) × (rest.now ≡ (part.now ++ 10 ∷ []) ++ behind)) }
-    requires comes { AreNext (texts_of (to_come upcoming.old)) rest.now }
-    requires cut { (held.old.items ≡ []) ⊎ (to_come upcoming.old ≡ []) }
+    requires part { NoNewline part.now × ((following : List ℕ) × (rest.now ≡ (part.now ++ 10 ∷ []) ++ following)) }
+    requires comes { AreNext (texts_of (to_come read_ahead.old)) rest.now }
+    requires cut { (held.old.items ≡ []) ⊎ (to_come read_ahead.old ≡ []) }
     ensures carried { OnOk result ((start : State) (text before : List ℕ)
         → NoNewline part.now
         → Carried start index.old text held.old.items before (W.taken sink.old)
         → Carried start index.new (text ++ part.now ++ 10 ∷ []) held.new.items before (W.taken sink.new)) }
     ensures emptied { OnOk result (held.new.items ≡ []) }
-    ensures comes { OnOk result ((behind : List ℕ) → rest.now ≡ (part.now ++ 10 ∷ []) ++ behind
-        → AreNext (texts_of (to_come upcoming.new)) behind) }
-    ensures told { OnOk result
-        (Tells index.old (read_of (to_come upcoming.old)) index.new (read_of (to_come upcoming.new))) }
+    ensures comes { OnOk result ((following : List ℕ) → rest.now ≡ (part.now ++ 10 ∷ []) ++ following
+        → AreNext (texts_of (to_come read_ahead.new)) following) }
+    ensures counted { OnOk result
+        (Tells index.old (read_of (to_come read_ahead.old)) index.new (read_of (to_come read_ahead.new))) }
     ensures cut { OnErr result ((start : State) (text before : List ℕ)
         → NoNewline part.now
         → Carried start index.old text held.old.items before (W.taken sink.old)
@@ -155,23 +155,23 @@ fn finish<W: Sink, const PREFIX_LEN: usize>(
     ensures failed { is_err result ≡ W.has_failed sink.new }
 {
     if held.is_empty() {
-        index.read_ahead(upcoming, rest);
-        upcoming.next(part);
-        let asked = upcoming.asked();
-        index.carry_out(part, asked.word, asked.fields, asked.ahead, sink)?;
+        index.prefetch(read_ahead, rest);
+        read_ahead.next(part);
+        let parsed = read_ahead.parsed();
+        index.execute_parsed(part, parsed.word, parsed.fields, parsed.ahead, sink)?;
         return Ok(());
     }
-    hold(held, part);
+    append_capped(held, part);
     let line = held.as_slice();
-    upcoming.read_now(line);
-    let asked = upcoming.asked();
-    index.carry_out(line, asked.word, asked.fields, 0, sink)?;
+    read_ahead.parse_now(line);
+    let parsed = read_ahead.parsed();
+    index.execute_parsed(line, parsed.word, parsed.fields, 0, sink)?;
     held.clear();
     Ok(())
 }
 
-/// Adds the part to what is held, as far as there is room.
-fn hold(held: &mut ArrayVec<u8, HELD>, part: &[u8])
+/// Appends the part to what is held, as far as there is room.
+fn append_capped(held: &mut ArrayVec<u8, HELD>, part: &[u8])
     ensures { held.new.items ≡ take 4097 (held.old.items ++ part.now) }
 {
     let room = part.len().min(HELD - held.len());

@@ -1,4 +1,4 @@
-//! The words that are told of all records: how they are surveyed, and what is written of that.
+//! A survey of all records, as `dump` and `audit` ask for it: how it is taken, and what is written of it.
 ghost use Rattle.std.specs.Prelude.{◌≡◌, List, false, flat_map};
 ghost use Rattle.art_lines.specs.Words.{line_of};
 ghost use Rattle.art_lines.specs.Commands.{audit};
@@ -16,7 +16,7 @@ use art_lines::{Sink, WriteFailed};
 use art_map::TreeMap;
 use art_walks::WellFormedTreeStats;
 
-/// What is told of all records.
+/// A survey of all records.
 #[derive(Clone, Copy)]
 pub(crate) enum Survey {
     /// The lines that make them.
@@ -29,16 +29,16 @@ pub(crate) enum Survey {
 
 impl Survey {
     ghost use Rattle.std.specs.Prelude.{◌≡◌};
-    ghost use Rattle.art_engine.specs.Survey.{finds_no_memory};
+    ghost use Rattle.art_engine.specs.Survey.{survey_is_memory};
 
     pub(crate) fn is_memory(&self) -> bool
-        ensures { result ≡ finds_no_memory self.now }
+        ensures { result ≡ survey_is_memory self.now }
     {
         matches!(self, Survey::Memory)
     }
 }
 
-/// Finds what is to be told of all records. It allocates only to count nodes. If there is no memory for that, it says
+/// Surveys all records. It allocates only to count nodes. If there is no memory for that, it says
 /// so.
 pub(crate) fn take_survey<const PREFIX_LEN: usize>(
     records: &TreeMap<Vec<u8>, Vec<u8>, PREFIX_LEN>,
@@ -73,7 +73,7 @@ fn count_nodes<const PREFIX_LEN: usize>(
     Survey::Counts(keys, others)
 }
 
-/// Writes what is told of all records.
+/// Writes a survey of all records.
 pub(crate) fn write_survey<W: Sink, const PREFIX_LEN: usize>(
     records: &TreeMap<Vec<u8>, Vec<u8>, PREFIX_LEN>,
     numbers: &TreeMap<[u8; NUMBER_KEY], Vec<u8>, PREFIX_LEN>,

@@ -9,7 +9,7 @@ ghost use Rattle.art_engine.specs.Outcome.{IsOutcome};
 use art_engine::{Index, RunFault, run};
 use art_lines::{Buffered, Sink, Source};
 
-/// Answers what a source gives out of an index, and has the sink behind the buffered one take all replies.
+/// Answers what a source gives out of an index, and has the inner sink of the buffered one take all replies.
 pub fn run_buffered<S: Source, W: Sink, const PREFIX_LEN: usize>(
     index: &mut Index<PREFIX_LEN>,
     source: &mut S,
@@ -32,7 +32,7 @@ pub fn run_buffered<S: Source, W: Sink, const PREFIX_LEN: usize>(
     ensures read { (result ≡ Err RunFault.Read) ↔ (S.has_failed source.new ≡ true) }
     ensures write { W.has_failed sink.new.sink ≡ true → IsErr result }
 
-    // After a failed read, the whole lines of the text given are answered, and nothing else. The sink behind the
+    // After a failed read, the whole lines of the text given are answered, and nothing else. The inner sink of the
     // buffered one has taken all answers, or where it failed, too, all but some at their end.
     ensures after_read_fault { result ≡ Err RunFault.Read → (text written rest : List ℕ)
         × (S.given source.new ≡ S.given source.old ++ text)
@@ -41,7 +41,7 @@ pub fn run_buffered<S: Source, W: Sink, const PREFIX_LEN: usize>(
         × IsOutcome index.old (whole_lines_of text) written index.new }
 
     // After a failed write, one line more is carried out than is answered whole; or all lines are, and the last answers
-    // did not leave. The sink behind has taken all of them but some bytes at their end.
+    // did not leave. The inner sink has taken all of them but some bytes at their end.
     ensures after_write_fault { result ≡ Err RunFault.Write → (text written rest : List ℕ)
         × (S.given source.new ≡ S.given source.old ++ text)
         × (W.taken sink.new.sink ++ rest ≡ ⟦<Buffered<W> as Sink>⟧.taken sink.old ++ written)

@@ -16,7 +16,7 @@ mod buffered;
 mod serving;
 
 use art_engine::{Index, RunFault, flushed, run};
-use art_lines::buffered::make_room;
+use art_lines::buffered::reserve_buffer;
 use art_lines::{Buffered, FromReader, ToWriter};
 use buffered::run_buffered;
 use serving::{report, touch_stack};
@@ -57,7 +57,7 @@ fn main(rt: HostRuntime) -> ExitCode {
     }
     let filler = touch_stack(count, count / 2);
     let mut index: Index<PREFIX_LEN> = Index::new(rt.alloc());
-    let done = match make_room(rt.alloc(), filler) {
+    let done = match reserve_buffer(rt.alloc(), filler) {
         Ok(room) => serve(&rt, &mut index, room),
         Err(_) => serve_at_once(&rt, &mut index),
     };

@@ -1,4 +1,4 @@
--- Hexadecimal digits in groups: the values of sixteen side by side, and groups one behind another.
+-- Hexadecimal digits in groups: the values of sixteen side by side, and groups one after another.
 use Rattle.std.proofs.Common.{◌≡◌, ℕ, suc, ◌+◌, ◌-◌, ◌*◌, ◌%◌, ◌^◌, ◌<◌, ◌≤◌, Bool, true, false, cond, ltb, eqb, w8, Fits, bit_and, bit_or, List, [], ◌∷◌, ◌++◌, map, length, take, drop, replicate, refl, sym, ap, ap₂, ◌∙◌, subst, arith, inl, inr, take-add, take-append-drop}
 use Rattle.std.specs.Prelude.{Option, Some, None, Result, Ok, Err, ◌==◌, ◌&&◌, nat_lt, is_ok, MatchBool}
 use Rattle.std.proofs.lemmas.Bool.{eqb-true, ltb-true, ltb-false, lt-ltb, le-ltb, eq-eqb, ne_eqb, and_parts, and_left, cases_eq, agree_below_at}
@@ -57,15 +57,15 @@ agrees v None = nat_lt 15 v
 agrees_at : (d : ℕ) → d < 256 → agrees (value d) (hex_digit_value d) ≡ true
 agrees_at d low = agree_below_at (λ n. agrees (value n) (hex_digit_value n)) (λ n. true) 256 d refl low
 
-told : (d v : ℕ) (o : Option ℕ) → hex_digit_value d ≡ o → agrees v o ≡ true → IsValue d v
-told d v (Some w) is h =
+output : (d v : ℕ) (o : Option ℕ) → hex_digit_value d ≡ o → agrees v o ≡ true → IsValue d v
+output d v (Some w) is h =
     let parts = and_parts (v == w) (nat_lt v 16) h in let same = eqb-true v w parts.0 in let low = ltb-true v 16 parts.1 in
     record { some = λ _. is ∙ ap (λ k. Some k) (sym same); none = λ high. absurd (omega arith) }
-told d v None is h = let high = ltb-true 15 v h in record { some = λ low. absurd (omega arith); none = λ _. is }
+output d v None is h = let high = ltb-true 15 v h in record { some = λ low. absurd (omega arith); none = λ _. is }
 
 each_is : (ds : List ℕ) → Each1 (Fits w8) ds → AreValues ds (values (length ds) ds)
 each_is [] fits = tt
-each_is (d ∷ ds) fits = (told d (value d) (hex_digit_value d) refl (agrees_at d fits.0.fits), each_is ds fits.1)
+each_is (d ∷ ds) fits = (output d (value d) (hex_digit_value d) refl (agrees_at d fits.0.fits), each_is ds fits.1)
 
 pub values_are : (ds : List ℕ) → length ds ≡ 16 → Each1 (Fits w8) ds → AreValues ds (values 16 ds)
 values_are ds long fits = subst (λ (n : ℕ). AreValues ds (values n ds)) long (each_is ds fits)
@@ -187,7 +187,7 @@ pub reads_by : (whole : Bool) (s out : List ℕ) → length s % 2 ≡ 0 → Deco
 reads_by true s out even h = sym (plain_is 0 s) ∙ ap plain (sym (decode_of-even s even) ∙ h)
 reads_by false s out even h = sym (plain_is 0 s) ∙ not_ok (decode_pairs 0 s) (ap is_ok (sym (decode_of-even s even)) ∙ h)
 
--- ---- digits behind digits
+-- ---- digits after digits
 
 abbrev joined : Option (List ℕ) → Option (List ℕ) → Option (List ℕ)
 joined (Some x) (Some y) = Some (x ++ y)
@@ -247,7 +247,7 @@ pub length-put : (old new : List ℕ) (at k : ℕ) → at + k ≤ length old →
 length-put old new at k fits long =
     let rest : List ℕ = drop k (drop at old) in
     let first = length-take-le at old (omega arith) in
-    let behind = length-drop at old in
+    let following = length-drop at old in
     let last = length-drop k (drop at old) in
     let both = length-append new rest in
     let whole : length (put_mid at k old new) ≡ length (take at old) + length (new ++ rest) = length-append (take at old) (new ++ rest) in
@@ -278,7 +278,7 @@ pub all_read : (p q : Bool) (s out : List ℕ) (done : ℕ) → q ≡ p → leng
 all_read p q s out done same twice over h =
     decodes_by q s out (omega arith) (reads_same _ _ _ _ _ _ (sym same) (take_all (2 * done) s (omega arith)) (take_all done out over) h)
 
--- ---- the digits of the groups, and those behind
+-- ---- the digits of the groups, and those after
 
 rejoin : (s a b : List ℕ) (n : ℕ) → a ≡ take n s → b ≡ drop n s → a ++ b ≡ s
 rejoin s a b n first rest = ap₂ (λ p q. p ++ q) first rest ∙ take-append-drop n s
@@ -292,9 +292,9 @@ pub parts_decode : (q : Bool) (s a b x y all : List ℕ) (n : ℕ) → length s 
 parts_decode q s a b x y all n even front back first rest good so same =
     decodes_by q s all even (reads_same q q (a ++ b) s (x ++ y) all refl (rejoin s a b n first rest) (sym same) (reads_then true q a b x y front (reads_by true a x front good) (reads_by q b y back so)))
 
--- bytes that are written behind bytes that were, to the end
-pub put_behind : (x rest y : List ℕ) (n k : ℕ) → length x ≡ n → k ≡ length (x ++ rest) - n → length y ≡ k → put_mid n k (x ++ rest) y ≡ x ++ y
-put_behind x rest y n k long end fits =
+-- bytes that are written after bytes that were, to the end
+pub put_after : (x rest y : List ℕ) (n k : ℕ) → length x ≡ n → k ≡ length (x ++ rest) - n → length y ≡ k → put_mid n k (x ++ rest) y ≡ x ++ y
+put_after x rest y n k long end fits =
     let whole = length-append x rest in
     let kept = length-put (x ++ rest) y n k (omega arith) fits in
     sym (take_all (n + length y) (put_mid n k (x ++ rest) y) (omega arith)) ∙ take-put_mid n k (x ++ rest) y (n + length y) refl (omega arith) ∙ ap (λ t. t ++ y) (take_at x rest n (omega arith))

@@ -34,17 +34,17 @@ pub record IsDigit (d v : ℕ) : Type 0 where
   pub none : 15 < v → hex_digit_value d ≡ None
   pub mark : 15 < v → v ≡ 256
 
-told : (d v : ℕ) (o : Option ℕ) → hex_digit_value d ≡ o → agrees v o ≡ true → IsDigit d v
-told d v (Some w) is h =
+output : (d v : ℕ) (o : Option ℕ) → hex_digit_value d ≡ o → agrees v o ≡ true → IsDigit d v
+output d v (Some w) is h =
     let parts = and_parts (v == w) (nat_lt v 16) h in let same = eqb-true v w parts.0 in let low = ltb-true v 16 parts.1 in
     record { value = λ _. is ∙ ap (λ k. Some k) (sym same); none = λ high. absurd (omega arith); mark = λ high. absurd (omega arith) }
-told d v None is h =
+output d v None is h =
     let same = eqb-true v 256 h in
     record { value = λ low. absurd (omega arith); none = λ _. is; mark = λ _. same }
 
 -- what the table says of a byte
 pub is_digit : (d i : ℕ) → d < 256 → i ≡ d → IsDigit d (slice_index_or table i 0)
-is_digit d i low same = subst (λ k. IsDigit d (slice_index_or table k 0)) (sym same) (told d (slice_index_or table d 0) (hex_digit_value d) refl (agrees_at d low))
+is_digit d i low same = subst (λ k. IsDigit d (slice_index_or table k 0)) (sym same) (output d (slice_index_or table d 0) (hex_digit_value d) refl (agrees_at d low))
 
 -- what is decoded of the digits s, so far as they are pairs before i; faults is all their pairs, joined
 pub record Decoded (s out : List ℕ) (i faults : ℕ) : Type 0 where
@@ -86,7 +86,7 @@ decoded_step s out i h l faults fits room high low so =
 
 pub decoded_end : (s out : List ℕ) (i faults : ℕ) (b : Bool) → b ≡ nat_lt faults 256 → length s ≡ 2 * length out → length out ≤ i
     → Decoded s out i faults → MatchBool b (decode_of s ≡ Ok out) (is_ok (decode_of s) ≡ false)
-decoded_end s out i faults true told same done so =
-    decode_of-even s (omega arith) ∙ decode_done s out i done (omega arith) (so.good (ltb-true faults 256 (sym told)))
-decoded_end s out i faults false told same done so =
-    ap is_ok (decode_of-even s (omega arith)) ∙ so.bad (let high = ltb-false faults 256 (sym told) in omega arith)
+decoded_end s out i faults true output same done so =
+    decode_of-even s (omega arith) ∙ decode_done s out i done (omega arith) (so.good (ltb-true faults 256 (sym output)))
+decoded_end s out i faults false output same done so =
+    ap is_ok (decode_of-even s (omega arith)) ∙ so.bad (let high = ltb-false faults 256 (sym output) in omega arith)

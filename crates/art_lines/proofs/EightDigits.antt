@@ -49,7 +49,7 @@ digits_of_eight (a ∷ b ∷ c ∷ d ∷ e ∷ f ∷ g ∷ h ∷ []) long fits =
 digits_of_eight v long fits = absurd (omega (arith, long))
 
 pub eights_none : (room value : List ℕ) (at : ℕ) → Puts at at (encode_lower (take 0 value)) room room
-eights_none room value at = let none = ap length encode_lower-nil in record { next_is = omega arith; told = digits_none room value at }
+eights_none room value at = let none = ap length encode_lower-nil in record { next_is = omega arith; output = digits_none room value at }
 
 -- the digits of eight bytes more
 pub eights_more : (value bytes digits old between new : List ℕ) (at next after done : ℕ) → bytes ≡ take 8 (drop done value) → digits ≡ encode_lower bytes

@@ -11,7 +11,7 @@ front_small (suc n) [] h i = omega arith
 front_small (suc n) (x ∷ xs) h zero = h zero
 front_small (suc n) (x ∷ xs) h (suc i) = front_small n xs (λ j. h (suc j)) i
 
--- bytes are the full key of the tenant that stands at their front, and of what stands behind it
+-- bytes are the full key of the tenant that stands at their front, and of what stands after it
 pub full_key_again : (xs : List ℕ) → 4 ≤ length xs → ((i : ℕ) → get_or xs i 0 < 256) → xs ≡ full_key (from_be_bytes w32 (take 4 xs)) (drop 4 xs)
 full_key_again xs long small =
     let four_long : length (take 4 xs) ≡ 4 = length-take-le 4 xs long in

@@ -1,4 +1,4 @@
--- Texts that are put into a room one behind another, and the pairs of digits.
+-- Texts that are put into a room one after another, and the pairs of digits.
 use Rattle.std.proofs.Common.{◌≡◌, ℕ, ◌+◌, ◌*◌, ◌/◌, ◌%◌, ◌<◌, ◌≤◌, Bool, true, List, [], ◌∷◌, ◌++◌, length, take, codes, refl, ap, sym, ◌∙◌, subst, arith, append_assoc, append-nil, length-append, length-set}
 use Rattle.std.specs.Prelude.{◌==◌, ◌&&◌, slice_index, slice_set, decimal}
 use Rattle.std.proofs.lemmas.Bool.{eqb-true, and_parts, agree_below_at}
@@ -30,14 +30,14 @@ pair_of b at e low =
 pub digits_more : (room value front : List ℕ) (next i high low : ℕ) → next + 1 < length room → i < length value → IsPair (slice_index value i) high low
     → take next room ≡ front ++ encode_lower (take i value)
     → take (next + 2) (slice_set (slice_set room next high) (next + 1) low) ≡ front ++ encode_lower (take (i + 1) value)
-digits_more room value front next i high low fits within pair told =
+digits_more room value front next i high low fits within pair output =
     let once : List ℕ = slice_set room next high in
     let long = length-set room next high in
     let second = take_more_set once (next + 1) low (omega arith) in
     let first = take_more_set room next high (omega arith) in
     let more = ap encode_lower (take_more value i 0 within) ∙ encode_lower-more (take i value) (slice_index value i) in
     let e : next + 2 ≡ next + 1 + 1 = omega arith in
-    rw e (second ∙ ap (λ t. t ++ low ∷ []) (first ∙ ap (λ t. t ++ high ∷ []) told)
+    rw e (second ∙ ap (λ t. t ++ low ∷ []) (first ∙ ap (λ t. t ++ high ∷ []) output)
     ∙ append_assoc (front ++ encode_lower (take i value)) (high ∷ []) (low ∷ []) ∙ append_assoc front (encode_lower (take i value)) (high ∷ low ∷ [])
     ∙ ap (λ h. front ++ (encode_lower (take i value) ++ h ∷ low ∷ [])) pair.high_is
     ∙ ap (λ l. front ++ (encode_lower (take i value) ++ slice_index lower_digits (slice_index value i / 16) ∷ l ∷ [])) pair.low_is
@@ -47,40 +47,40 @@ pub digits_none : (room value : List ℕ) (at : ℕ) → take at room ≡ take a
 digits_none room value at = sym (append-nil (take at room)) ∙ ap (λ t. take at room ++ t) (sym encode_lower-nil)
 
 pub digits_all : (old new value : List ℕ) (next at i : ℕ) → length value ≤ i → i ≤ length value → next ≡ at + 2 * i → take next new ≡ take at old ++ encode_lower (take i value) → Puts next at (encode_lower value) old new
-digits_all old new value next at i done within place told =
+digits_all old new value next at i done within place output =
     let long = length-encode_with lower_digits value in
-    record { next_is = omega arith; told = told ∙ ap (λ v. take at old ++ encode_lower v) (take_all i value done) }
+    record { next_is = omega arith; output = output ∙ ap (λ v. take at old ++ encode_lower v) (take_all i value done) }
 
 -- a text that was copied
 pub text_put : (room text part : List ℕ) (at k : ℕ) → part ≡ text → at + length text ≤ length room → Puts (at + length text) at text room (put_mid at k room part)
 text_put room text part at k same fits =
     let long = ap length same in
-    record { next_is = refl; told = take-put_mid at k room part (at + length text) (omega arith) (omega arith) ∙ ap (λ t. take at room ++ t) same }
+    record { next_is = refl; output = take-put_mid at k room part (at + length text) (omega arith) (omega arith) ∙ ap (λ t. take at room ++ t) same }
 
--- a text behind another
+-- a text after another
 pub puts_then : (next mid at : ℕ) (a b old between new : List ℕ) → Puts mid at a old between → Puts next mid b between new → Puts next at (a ++ b) old new
 puts_then next mid at a b old between new p q =
     let long = length-append a b in let first = p.next_is in let second = q.next_is in
-    record { next_is = omega arith; told = q.told ∙ ap (λ t. t ++ b) p.told ∙ append_assoc (take at old) a b }
+    record { next_is = omega arith; output = q.output ∙ ap (λ t. t ++ b) p.output ∙ append_assoc (take at old) a b }
 
 -- a text that is written in another way
 pub puts_same : (next at : ℕ) (text text' old new : List ℕ) → text ≡ text' → Puts next at text old new → Puts next at text' old new
 puts_same next at text text' old new e p = subst (λ t. Puts next at t old new) e p
 
--- a head that was put with the bytes behind it
-pub head_put : (tenant len at behind : ℕ) (text old new : List ℕ) → at + 16 ≤ length old → IsHead tenant text len → Puts behind at text old new → Puts (at + len) at (head_of tenant) old new
-head_put tenant len at behind text old new room head put =
+-- a head that was put with the bytes after it
+pub head_put : (tenant len at following : ℕ) (text old new : List ℕ) → at + 16 ≤ length old → IsHead tenant text len → Puts following at text old new → Puts (at + len) at (head_of tenant) old new
+head_put tenant len at following text old new room head put =
     let front : List ℕ = take at old in
     let far = length-take-le at old (omega arith) in
     let whole = head.long in let fits = head.fits in let next = put.next_is in
     let long = length-take-le len text (omega arith) in
-    let few = ap length head.told in
-    let shorter = take-take (at + len) behind new in
+    let few = ap length head.output in
+    let shorter = take-take (at + len) following new in
     let seam = take-append-add front text len in
     let here : length front + len ≡ at + len = omega arith in
     record {
       next_is = omega arith;
-      told = sym (shorter (omega arith)) ∙ ap (take (at + len)) put.told ∙ ap (λ n. take n (front ++ text)) (sym here) ∙ seam ∙ ap (λ t. front ++ t) head.told;
+      output = sym (shorter (omega arith)) ∙ ap (take (at + len)) put.output ∙ ap (λ n. take n (front ++ text)) (sym here) ∙ seam ∙ ap (λ t. front ++ t) head.output;
     }
 
 -- the line of a record, by its head

@@ -165,7 +165,7 @@ unfolding tenant_in
 tenant_result text n r o h fits is =
     is ∙ fitted (2 ^ 32) n (λ m. m) r fits ∙ option_map_id (narrowed (2 ^ 32) (Some n)) ∙ ap (narrowed (2 ^ 32)) h ∙ sym (natural_narrow (2 ^ 32) (2 ^ 63 + 1) text (omega arith))
 
--- a number with a sign is one below 0 behind it
+-- a number with a sign is one below 0 after it
 pub number_empty : (text : List ℕ) → length text ≡ 0 → None ≡ number_in text
 unfolding number_in
 number_empty [] h = refl
@@ -217,7 +217,7 @@ pub no_row : (o : Option Word) → ◌≡◌ {A = Option (Word × Shape)} None (
 no_row None e = refl
 no_row (Some x) e = cc
 
--- a word has three letters at least, so what stands behind it has its bound
+-- a word has three letters at least, so what stands after it has its bound
 abbrev are_long : List Word → Bool
 are_long [] = true
 are_long (w ∷ ws) = nat_le 3 (length (called w)) && are_long ws
@@ -232,17 +232,17 @@ long_found (x ∷ ws) field w long found = go (bytes_eq field (called x)) (nat_l
     go false true same three all found others = others all found
     go b false same three all found others = absurd (true≢false (sym all))
 
-pub fits_behind : (r : Option (Bor (List ℕ))) (field line : List ℕ) (w : Word) → Some w ≡ word_in field
+pub fits_after : (r : Option (Bor (List ℕ))) (field line : List ℕ) (w : Word) → Some w ≡ word_in field
     → IfSome r (λ rest. length field + 1 + length rest.now ≡ length line) → length line ≤ 4096 → IfSome r (λ rest. length rest.now ≤ 4092)
-fits_behind None field line w found parts short = tt
-fits_behind (Some rest) field line w found parts short = let three = long_found all_words field w refl found in omega arith
+fits_after None field line w found parts short = tt
+fits_after (Some rest) field line w found parts short = let three = long_found all_words field w refl found in omega arith
 
 module _ (line word : List ℕ) (rest : List (List ℕ)) (short : length line ≤ 4096) (split : fields_of line ≡ word ∷ rest) where
   says : command_in (word ∷ rest) ≡ command_of line
   unfolding command_of
   says = rw (le-leb (length line) 4096 short, split) refl
 
-  -- what a word makes of the fields behind it
+  -- what a word makes of the fields after it
   pub says_word : (w : Word) → Some w ≡ word_in word → command_by w rest ≡ command_of line
   says_word w e = ap (option_and_then (λ w. command_by w rest)) e ∙ says
 
@@ -279,10 +279,10 @@ bytes_good text (b ∷ bs) h d some = let f = sym h in rw (f, d) refl
 pub drop_taken : (n : ℕ) (xs : List ℕ) → drop n (take n xs) ≡ []
 drop_taken n xs = drop_of_length-le (take n xs) (let short = length-take n xs in omega arith)
 
--- what was decoded over some bytes, behind a front
+-- what was decoded over some bytes, after a front
 module _ (front : ℕ) (xs lent new tail : List ℕ) (kept : length (take front lent) ≡ front) (filled : length xs ≡ front + length new) where
-  behind_front : drop front (refill (length xs) xs (take front lent ++ (new ++ tail))) ≡ new
-  behind_front =
+  pairs_with_prefix : drop front (refill (length xs) xs (take front lent ++ (new ++ tail))) ≡ new
+  pairs_with_prefix =
       let a : List ℕ = take front lent in
       let all = length-append a (new ++ tail) in let more = length-append new tail in let both = length-append a new in
       let whole : take (length xs) (a ++ (new ++ tail)) ≡ a ++ new =
@@ -294,7 +294,7 @@ module _ (front : ℕ) (xs lent new tail : List ℕ) (kept : length (take front 
   pub decoded : (text : List ℕ) (b : Bool) → MatchBool b (decode_of text ≡ Ok new) (is_ok (decode_of text) ≡ false)
       → false ≡ bytes_eq text (codes "-") → 0 < length new
       → IsRead b (drop front (refill (length xs) xs (take front lent ++ (new ++ tail)))) (bytes_in text)
-  decoded text true d other some = ap (λ l. Some l) behind_front ∙ bytes_good text new other d some
+  decoded text true d other some = ap (λ l. Some l) pairs_with_prefix ∙ bytes_good text new other d some
   decoded text false d other some = bytes_bad text other d
 
 -- whether something was read, where that is told

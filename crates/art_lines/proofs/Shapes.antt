@@ -1,8 +1,8 @@
--- What is read in place is what stands behind a word, by its shape.
+-- What is read in place is what stands after a word, by its shape.
 use Rattle.std.proofs.Common.{◌≡◌, ℕ, List, [], ◌∷◌, refl, ap, sym, subst, ◌∙◌, true, false, Bool, Some, None, Option, inl, inr}
 use Rattle.std.specs.Prelude.{option_copied, option_map}
 use Rattle.std.specs.Borrow.{Bor}
-use Rattle.art_lines.proofs.Terms.{Fields, Shape, Nothing, fields_of, one_in, two_in, tenant_alone_in, behind_in, command_by, ◌>>=◌, fields_behind, IsRead, Behind, Row, row, shape_in, made_in, row_of_word, shape_of, behind_in_place, command_of_row, command_with}
+use Rattle.art_lines.proofs.Terms.{Fields, Shape, Nothing, fields_of, one_in, two_in, tenant_alone_in, fields_in, command_by, ◌>>=◌, fields_after, IsRead, FieldsFor, Row, row, shape_in, made_in, row_of_word, shape_of, fields_in_place, command_of_row, command_with}
 use Rattle.art_lines.specs.declared.command.word.Word.{Word}
 use Rattle.art_lines.specs.Reading.{tenant_in}
 use Rattle.art_lines.proofs.LastField.{ReadsOneField, one_or_more, no_tenant}
@@ -22,7 +22,7 @@ two_from o p q = do
   b ← q
   Some (tenant, a, b)
 
--- the last field may be all that stands behind the one before
+-- the last field may be all that stands after the one before
 one_last : {A : Type 0} (read : List ℕ → Option A) → ReadsOneField read → (t k : List ℕ) → one_in read (t ∷ k ∷ []) ≡ one_in read (t ∷ fields_of k)
 one_last {A} read stops t k = elim (one_or_more k) [
   | inl one ↦ ap (λ l. one_in read (t ∷ l)) (sym one)
@@ -44,7 +44,7 @@ two_last {A} {B} read then_read stops t k v = elim (one_or_more v) [
     nothing (Some n) (Some a) q h = rw h refl
     nothing o p q h = refl
 
--- one behind the tenant, from its two fields, where the tenant stays as it is while the other is read
+-- one after the tenant, from its two fields, where the tenant stays as it is while the other is read
 module _ (text t k : List ℕ) (split : fields_of text ≡ t ∷ fields_of k) {A : Type 0} (read : List ℕ → Option A) (stops : ReadsOneField read) where
   one_fields : one_in read (t ∷ k ∷ []) ≡ one_in read (fields_of text)
   one_fields = one_last read stops t k ∙ ap (one_in read) (sym split)
@@ -65,7 +65,7 @@ module _ (text t k : List ℕ) (split : fields_of text ≡ t ∷ fields_of k) {A
       go true false (Some i) None h e last = refl
       go b d o p h e last = cc
 
--- two behind the tenant, from three fields
+-- two after the tenant, from three fields
 module _ (text t k v : List ℕ) (split : fields_of text ≡ t ∷ k ∷ fields_of v) {A B : Type 0} (read : List ℕ → Option A) (then_read : List ℕ → Option B) (stops : ReadsOneField then_read) where
   two_fields : two_in read then_read (t ∷ k ∷ v ∷ []) ≡ two_in read then_read (fields_of text)
   two_fields = two_last read then_read stops t k v ∙ ap (two_in read then_read) (sym split)
@@ -96,41 +96,41 @@ module _ (text t k v : List ℕ) (split : fields_of text ≡ t ∷ k ∷ fields_
       go true true false (Some x) (Some y) None h e i f last = refl
       go a b d o p q h e i f last = cc
 
--- a tenant alone may be all that stands behind the word
+-- a tenant alone may be all that stands after the word
 pub alone_read : (text : List ℕ) (b : Bool) (n : ℕ) → IsRead b n (tenant_in text) → IsRead b n (tenant_alone_in (fields_of text))
 alone_read text b n h = subst (IsRead b n) (elim (one_or_more text) [
   | inl one ↦ ap tenant_alone_in (sym one)
   | inr more ↦ no_tenant text more.0 more.1 more.2 more.3 ∙ ap tenant_alone_in (sym more.3)
 ]) h
 
--- where nothing stands behind a word, or something, what is read is that by the word's shape
-pub nothing_behind : (shape : Shape) (f : Fields) (rest : Option (Bor (List ℕ))) → rest ≡ None → shape ≡ Nothing
-    → Some (behind_in_place shape f) ≡ behind_in shape (fields_behind (option_copied rest))
-nothing_behind Nothing f rest none is = rw none refl
-nothing_behind shape f rest none is = cc
+-- where nothing stands after a word, or something, what is read is that by the word's shape
+pub nothing_after : (shape : Shape) (f : Fields) (rest : Option (Bor (List ℕ))) → rest ≡ None → shape ≡ Nothing
+    → Some (fields_in_place shape f) ≡ fields_in shape (fields_after (option_copied rest))
+nothing_after Nothing f rest none is = rw none refl
+nothing_after shape f rest none is = cc
 
-pub something_lacks : (shape : Shape) (rest : Option (Bor (List ℕ))) → rest ≡ None → (shape ≡ Nothing → ⊥) → None ≡ behind_in shape (fields_behind (option_copied rest))
+pub something_lacks : (shape : Shape) (rest : Option (Bor (List ℕ))) → rest ≡ None → (shape ≡ Nothing → ⊥) → None ≡ fields_in shape (fields_after (option_copied rest))
 something_lacks Nothing rest none other = absurd (other refl)
 something_lacks shape rest none other = rw none refl
 
 pub by_shape : (shape known : Shape) (f : Fields) (b : Bool) (rest : Option (Bor (List ℕ))) (text : Bor (List ℕ)) → shape ≡ known → rest ≡ Some text
-    → IsRead b (behind_in_place known f) (behind_in known (fields_of text.now)) → IsRead b (behind_in_place shape f) (behind_in shape (fields_behind (option_copied rest)))
+    → IsRead b (fields_in_place known f) (fields_in known (fields_of text.now)) → IsRead b (fields_in_place shape f) (fields_in shape (fields_after (option_copied rest)))
 by_shape shape known f b rest text is some h =
-    subst (λ s. IsRead b (behind_in_place s f) (behind_in s (fields_behind (option_copied rest)))) (sym is)
-    (subst (λ o. IsRead b (behind_in_place known f) (behind_in known (fields_behind (option_copied o)))) (sym some) h)
+    subst (λ s. IsRead b (fields_in_place s f) (fields_in s (fields_after (option_copied rest)))) (sym is)
+    (subst (λ o. IsRead b (fields_in_place known f) (fields_in known (fields_after (option_copied o)))) (sym some) h)
 
 pub too_much : (shape : Shape) (f : Fields) (rest : Option (Bor (List ℕ))) (text : Bor (List ℕ)) → shape ≡ Nothing → rest ≡ Some text
-    → None ≡ behind_in shape (fields_behind (option_copied rest))
+    → None ≡ fields_in shape (fields_after (option_copied rest))
 too_much shape f rest text is some = by_shape shape Nothing f false rest text is some (let more = fields_some text.now in rw more.2 refl)
 
 -- so the word's command is read
 module _ (f : Fields) (b : Bool) (rest : List (List ℕ)) where
-  row_read : (r : Row) → IsRead b (behind_in_place (shape_in r) f) (behind_in (shape_in r) rest) → IsRead b (command_of_row r f) (option_map (made_in r) (behind_in (shape_in r) rest))
-  row_read (row shape make) h = made b (behind_in_place shape f) (behind_in shape rest) h
+  row_read : (r : Row) → IsRead b (fields_in_place (shape_in r) f) (fields_in (shape_in r) rest) → IsRead b (command_of_row r f) (option_map (made_in r) (fields_in (shape_in r) rest))
+  row_read (row shape make) h = made b (fields_in_place shape f) (fields_in shape rest) h
     where
-      made : (b : Bool) (x : Behind shape) (o : Option (Behind shape)) → IsRead b x o → IsRead b (make x) (option_map make o)
+      made : (b : Bool) (x : FieldsFor shape) (o : Option (FieldsFor shape)) → IsRead b x o → IsRead b (make x) (option_map make o)
       made true x o h = ap (option_map make) h
       made false x o h = ap (option_map make) h
 
-  pub command_read : (w : Word) (shape : Shape) → shape ≡ shape_of w → IsRead b (behind_in_place shape f) (behind_in shape rest) → IsRead b (command_with w f) (command_by w rest)
-  command_read w shape is h = row_read (row_of_word w) (subst (λ s. IsRead b (behind_in_place s f) (behind_in s rest)) is h)
+  pub command_read : (w : Word) (shape : Shape) → shape ≡ shape_of w → IsRead b (fields_in_place shape f) (fields_in shape rest) → IsRead b (command_with w f) (command_by w rest)
+  command_read w shape is h = row_read (row_of_word w) (subst (λ s. IsRead b (fields_in_place s f) (fields_in s rest)) is h)

@@ -10,7 +10,7 @@ use Rattle.std.proofs.lemmas.Fmt.{decimal_is_IsNumeral, decimal_nonempty}
 use Rattle.std.proofs.lemmas.Str.Parse.{digit_at}
 use Rattle.hex.specs.Hex.{decode_of, decode_pairs}
 use Rattle.art_lines.specs.Words.{Word}
-use Rattle.art_lines.proofs.Terms.{name, natural, signed, bytes, Reads, Shape, Key, KeyAndValue, Number, NumberAndValue, TwoNumbers, Tenant, Nothing, put, over, del, get, find, list, span, nput, nget, ndel, nspan, drop, Command, of_tenant, dump, audit, words_of, fields_of, Spells, Behind, shape_of, made_by, called, found_among, all_words, word_in, negated, some_bytes, one_in, two_in, tenant_alone_in, nothing_in, behind_in, command_by, command_in}
+use Rattle.art_lines.proofs.Terms.{name, natural, signed, bytes, Reads, Shape, Key, KeyAndValue, Number, NumberAndValue, TwoNumbers, Tenant, Nothing, put, over, del, get, find, list, span, nput, nget, ndel, nspan, drop, Command, of_tenant, dump, audit, words_of, fields_of, Spells, FieldsFor, shape_of, made_by, called, found_among, all_words, word_in, negated, some_bytes, one_in, two_in, tenant_alone_in, nothing_in, fields_in, command_by, command_in}
 use Rattle.art_lines.specs.declared.command.word.Word.{Word as Called}
 use Rattle.art_lines.specs.declared.command.word.Word.TheVariants.{LookUp, Change, Whole, Drop}
 use Rattle.art_lines.specs.declared.command.word.LookUp.TheVariants as look_up
@@ -80,35 +80,35 @@ nothing_reads : (fields : List (List ℕ)) → AllZip Reads fields [] → nothin
 nothing_reads [] h = refl
 nothing_reads (f ∷ fs) h = absurd h
 
--- what stands behind a word, as words of a line
-abbrev words_behind : (shape : Shape) → Behind shape → List Word
-words_behind Key v = natural v.0 ∷ bytes v.1 ∷ []
-words_behind KeyAndValue v = natural v.0 ∷ bytes v.1 ∷ bytes v.2 ∷ []
-words_behind Number v = natural v.0 ∷ signed v.1 ∷ []
-words_behind NumberAndValue v = natural v.0 ∷ signed v.1 ∷ bytes v.2 ∷ []
-words_behind TwoNumbers v = natural v.0 ∷ signed v.1 ∷ signed v.2 ∷ []
-words_behind Tenant n = natural n ∷ []
-words_behind Nothing v = []
+-- what stands after a word, as words of a line
+abbrev words_after : (shape : Shape) → FieldsFor shape → List Word
+words_after Key v = natural v.0 ∷ bytes v.1 ∷ []
+words_after KeyAndValue v = natural v.0 ∷ bytes v.1 ∷ bytes v.2 ∷ []
+words_after Number v = natural v.0 ∷ signed v.1 ∷ []
+words_after NumberAndValue v = natural v.0 ∷ signed v.1 ∷ bytes v.2 ∷ []
+words_after TwoNumbers v = natural v.0 ∷ signed v.1 ∷ signed v.2 ∷ []
+words_after Tenant n = natural n ∷ []
+words_after Nothing v = []
 
-behind_reads : (shape : Shape) (v : Behind shape) (fs : List (List ℕ)) → AllZip Reads fs (words_behind shape v) → behind_in shape fs ≡ Some v
-behind_reads Key v fs h = one_reads bytes_in of_bytes bytes_reads fs v.0 v.1 h
-behind_reads KeyAndValue v fs h = two_reads bytes_in of_bytes bytes_reads bytes_in of_bytes bytes_reads fs v.0 v.1 v.2 h
-behind_reads Number v fs h = one_reads number_in of_number number_reads fs v.0 v.1 h
-behind_reads NumberAndValue v fs h = two_reads number_in of_number number_reads bytes_in of_bytes bytes_reads fs v.0 v.1 v.2 h
-behind_reads TwoNumbers v fs h = two_reads number_in of_number number_reads number_in of_number number_reads fs v.0 v.1 v.2 h
-behind_reads Tenant n fs h = tenant_alone_reads fs n h
-behind_reads Nothing v fs h = nothing_reads fs h
+after_reads : (shape : Shape) (v : FieldsFor shape) (fs : List (List ℕ)) → AllZip Reads fs (words_after shape v) → fields_in shape fs ≡ Some v
+after_reads Key v fs h = one_reads bytes_in of_bytes bytes_reads fs v.0 v.1 h
+after_reads KeyAndValue v fs h = two_reads bytes_in of_bytes bytes_reads bytes_in of_bytes bytes_reads fs v.0 v.1 v.2 h
+after_reads Number v fs h = one_reads number_in of_number number_reads fs v.0 v.1 h
+after_reads NumberAndValue v fs h = two_reads number_in of_number number_reads bytes_in of_bytes bytes_reads fs v.0 v.1 v.2 h
+after_reads TwoNumbers v fs h = two_reads number_in of_number number_reads number_in of_number number_reads fs v.0 v.1 v.2 h
+after_reads Tenant n fs h = tenant_alone_reads fs n h
+after_reads Nothing v fs h = nothing_reads fs h
 
--- The word of a command: the table finds it by what it is called, and makes this command of what stands behind it.
+-- The word of a command: the table finds it by what it is called, and makes this command of what stands after it.
 record HasWord (c : Command) : Type 0 where
   pub word : Called
-  pub behind : Behind (shape_of word)
+  pub following : FieldsFor (shape_of word)
   pub found : word_in (called word) ≡ Some word
-  pub words : words_of c ≡ name (called word) ∷ words_behind (shape_of word) behind
-  pub makes : made_by word behind ≡ c
+  pub words : words_of c ≡ name (called word) ∷ words_after (shape_of word) following
+  pub makes : made_by word following ≡ c
 
-of_word : (w : Called) (v : Behind (shape_of w)) → word_in (called w) ≡ Some w → words_of (made_by w v) ≡ name (called w) ∷ words_behind (shape_of w) v → HasWord (made_by w v)
-of_word w v found words = record { word = w; behind = v; found = found; words = words; makes = refl }
+of_word : (w : Called) (v : FieldsFor (shape_of w)) → word_in (called w) ≡ Some w → words_of (made_by w v) ≡ name (called w) ∷ words_after (shape_of w) v → HasWord (made_by w v)
+of_word w v found words = record { word = w; following = v; found = found; words = words; makes = refl }
 
 has_word : (c : Command) → HasWord c
 has_word (of_tenant n (put key value)) = of_word (Change change.Put) (n, key, value) refl refl
@@ -127,14 +127,14 @@ has_word dump = of_word (Whole whole.Dump) tt refl refl
 has_word audit = of_word (Whole whole.Audit) tt refl refl
 
 all_read : (fields : List (List ℕ)) (c : Command) → AllZip Reads fields (words_of c) → command_in fields ≡ Some c
-all_read fields c h = let has = has_word c in go has.word has.behind has.found fields (subst (AllZip Reads fields) has.words h) ∙ ap (λ c. Some c) has.makes
+all_read fields c h = let has = has_word c in go has.word has.following has.found fields (subst (AllZip Reads fields) has.words h) ∙ ap (λ c. Some c) has.makes
   where
-    go : (w : Called) (v : Behind (shape_of w)) → word_in (called w) ≡ Some w → (fields : List (List ℕ)) → AllZip Reads fields (name (called w) ∷ words_behind (shape_of w) v)
+    go : (w : Called) (v : FieldsFor (shape_of w)) → word_in (called w) ≡ Some w → (fields : List (List ℕ)) → AllZip Reads fields (name (called w) ∷ words_after (shape_of w) v)
         → command_in fields ≡ Some (made_by w v)
     go w v found [] h = absurd h
     go w v found (word ∷ rest) h =
         ap (λ t. option_and_then (λ w. command_by w rest) (word_in t)) h.0 ∙ ap (option_and_then (λ w. command_by w rest)) found
-        ∙ ap (option_map (made_by w)) (behind_reads (shape_of w) v rest h.1)
+        ∙ ap (option_map (made_by w)) (after_reads (shape_of w) v rest h.1)
 
 pub spelled : (line : List ℕ) (c : Command) → Spells line c → command_of line ≡ Some c
 unfolding command_of
@@ -210,14 +210,14 @@ nothing_spelled : (fields : List (List ℕ)) → nothing_in fields ≡ Some tt �
 nothing_spelled [] h = tt
 nothing_spelled (x ∷ xs) h = cc
 
-behind_spelled : (shape : Shape) (fs : List (List ℕ)) (v : Behind shape) → behind_in shape fs ≡ Some v → AllZip Reads fs (words_behind shape v)
-behind_spelled Key fs v h = one_spelled bytes_in of_bytes bytes_spelled fs v h
-behind_spelled KeyAndValue fs v h = two_spelled bytes_in of_bytes bytes_spelled bytes_in of_bytes bytes_spelled fs v h
-behind_spelled Number fs v h = one_spelled number_in of_number number_spelled fs v h
-behind_spelled NumberAndValue fs v h = two_spelled number_in of_number number_spelled bytes_in of_bytes bytes_spelled fs v h
-behind_spelled TwoNumbers fs v h = two_spelled number_in of_number number_spelled number_in of_number number_spelled fs v h
-behind_spelled Tenant fs v h = alone_spelled fs v h
-behind_spelled Nothing fs v h = nothing_spelled fs h
+after_spelled : (shape : Shape) (fs : List (List ℕ)) (v : FieldsFor shape) → fields_in shape fs ≡ Some v → AllZip Reads fs (words_after shape v)
+after_spelled Key fs v h = one_spelled bytes_in of_bytes bytes_spelled fs v h
+after_spelled KeyAndValue fs v h = two_spelled bytes_in of_bytes bytes_spelled bytes_in of_bytes bytes_spelled fs v h
+after_spelled Number fs v h = one_spelled number_in of_number number_spelled fs v h
+after_spelled NumberAndValue fs v h = two_spelled number_in of_number number_spelled bytes_in of_bytes bytes_spelled fs v h
+after_spelled TwoNumbers fs v h = two_spelled number_in of_number number_spelled number_in of_number number_spelled fs v h
+after_spelled Tenant fs v h = alone_spelled fs v h
+after_spelled Nothing fs v h = nothing_spelled fs h
 
 -- a word is found by what it is called
 found_called : (ws : List Called) (field : List ℕ) (w : Called) → found_among ws field ≡ Some w → field ≡ called w
@@ -227,7 +227,7 @@ found_called (x ∷ ws) field w h =
     (λ same e. let is : x ≡ w = cc in (bytes_eq-Decides field (called x)).0 same ∙ ap called is) (λ other e. found_called ws field w e) h
 
 -- and the line of what it makes begins with that
-words_made : (w : Called) (v : Behind (shape_of w)) → words_of (made_by w v) ≡ name (called w) ∷ words_behind (shape_of w) v
+words_made : (w : Called) (v : FieldsFor (shape_of w)) → words_of (made_by w v) ≡ name (called w) ∷ words_after (shape_of w) v
 words_made (LookUp look_up.Get) v = refl
 words_made (LookUp look_up.Find) v = refl
 words_made (LookUp look_up.List) v = refl
@@ -247,17 +247,17 @@ all_spelled : (fields : List (List ℕ)) (c : Command) → command_in fields ≡
 all_spelled [] c h = cc
 all_spelled (word ∷ rest) c h = go (word_in word) refl h
   where
-    made : (w : Called) → word ≡ called w → (o : Option (Behind (shape_of w))) → behind_in (shape_of w) rest ≡ o → option_map (made_by w) o ≡ Some c
+    made : (w : Called) → word ≡ called w → (o : Option (FieldsFor (shape_of w))) → fields_in (shape_of w) rest ≡ o → option_map (made_by w) o ≡ Some c
         → AllZip Reads (word ∷ rest) (words_of c)
     made w is None read e = cc
     made w is (Some v) read e =
         let same : made_by w v ≡ c = cc in
         subst (λ c. AllZip Reads (word ∷ rest) (words_of c)) same
-        (subst (AllZip Reads (word ∷ rest)) (sym (words_made w v)) (is, behind_spelled (shape_of w) rest v read))
+        (subst (AllZip Reads (word ∷ rest)) (sym (words_made w v)) (is, after_spelled (shape_of w) rest v read))
 
     go : (o : Option Called) → word_in word ≡ o → option_and_then (λ w. command_by w rest) o ≡ Some c → AllZip Reads (word ∷ rest) (words_of c)
     go None found e = cc
-    go (Some w) found e = made w (found_called all_words word w found) (behind_in (shape_of w) rest) refl e
+    go (Some w) found e = made w (found_called all_words word w found) (fields_in (shape_of w) rest) refl e
 
 pub spells : (line : List ℕ) (c : Command) → command_of line ≡ Some c → Spells line c
 unfolding command_of

@@ -44,9 +44,9 @@ calls_to_write s = length s.writer.calls.items
 abbrev pub calls_to_flush : {W : Type 0} → ToWriter W → ℕ
 calls_to_flush s = length s.writer.flushes.items
 
--- the sink behind a gathering one, what is held back before it, and whether a write to the gathering one failed
-abbrev pub sink_behind : {S : Type 0} {of : sink.Ghosts S} → Buffered S of → S
-sink_behind s = s.sink
+-- the inner sink of a gathering one, what is held back before it, and whether a write to the gathering one failed
+abbrev pub inner_sink : {S : Type 0} {of : sink.Ghosts S} → Buffered S of → S
+inner_sink s = s.sink
 
 abbrev pub held_back : {S : Type 0} {of : sink.Ghosts S} → Buffered S of → List ℕ
 held_back s = between s.from s.to s.room.items

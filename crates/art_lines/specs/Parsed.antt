@@ -13,7 +13,7 @@ use Rattle.art_lines.specs.declared.command.word.Shape.{Shape}
 use Rattle.art_lines.specs.declared.command.word.Shape.TheVariants.{Key, KeyAndValue, Number, NumberAndValue}
 use Rattle.art_lines.specs.declared.command.word.Shape.TheVariants.{TwoNumbers, Tenant, Nothing}
 use Rattle.art_lines.specs.Commands as said
-use Rattle.art_lines.specs.Table.{Behind, Row, row, row_of_word}
+use Rattle.art_lines.specs.Table.{FieldsFor, Row, row, row_of_word}
 pub use Rattle.art_lines.specs.Table.{asks_all}
 
 abbrev pub meaning : Command → said.Command
@@ -50,18 +50,18 @@ abbrev pub bound_in_place : Fields → ℤ
 bound_in_place f = f.bound
 
 -- what was read in place of a shape
-abbrev pub behind_in_place : (shape : Shape) → Fields → Behind shape
-behind_in_place Key f = (tenant_in_place f, key_in_place f)
-behind_in_place KeyAndValue f = (tenant_in_place f, key_in_place f, value_in_place f)
-behind_in_place Number f = (tenant_in_place f, number_in_place f)
-behind_in_place NumberAndValue f = (tenant_in_place f, number_in_place f, value_in_place f)
-behind_in_place TwoNumbers f = (tenant_in_place f, number_in_place f, bound_in_place f)
-behind_in_place Tenant f = tenant_in_place f
-behind_in_place Nothing f = tt
+abbrev pub fields_in_place : (shape : Shape) → Fields → FieldsFor shape
+fields_in_place Key f = (tenant_in_place f, key_in_place f)
+fields_in_place KeyAndValue f = (tenant_in_place f, key_in_place f, value_in_place f)
+fields_in_place Number f = (tenant_in_place f, number_in_place f)
+fields_in_place NumberAndValue f = (tenant_in_place f, number_in_place f, value_in_place f)
+fields_in_place TwoNumbers f = (tenant_in_place f, number_in_place f, bound_in_place f)
+fields_in_place Tenant f = tenant_in_place f
+fields_in_place Nothing f = tt
 
--- the command of a row and of what was read behind its word; of a word; and of the words of each family
+-- the command of a row and of what was read after its word; of a word; and of the words of each family
 abbrev pub command_of_row : Row → Fields → said.Command
-command_of_row (row shape make) f = make (behind_in_place shape f)
+command_of_row (row shape make) f = make (fields_in_place shape f)
 
 abbrev pub command_with : Word → Fields → said.Command
 command_with w f = command_of_row (row_of_word w) f

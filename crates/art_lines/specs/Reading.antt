@@ -12,7 +12,7 @@ use Rattle.art_lines.specs.declared.command.word.Shape.{Shape}
 use Rattle.art_lines.specs.declared.command.word.Shape.TheVariants.{Key, KeyAndValue, Number, NumberAndValue}
 use Rattle.art_lines.specs.declared.command.word.Shape.TheVariants.{TwoNumbers, Tenant, Nothing}
 use Rattle.art_lines.specs.Commands.{Command, fields_of}
-use Rattle.art_lines.specs.Table.{Behind, shape_of, made_by, word_in}
+use Rattle.art_lines.specs.Table.{FieldsFor, shape_of, made_by, word_in}
 
 infixl 10 ◌>>=◌
 abbrev pub ◌>>=◌ : {A B : Type 0} → Option A → (A → Option B) → Option B
@@ -77,19 +77,19 @@ abbrev pub nothing_in : List (List ℕ) → Option (Unit {0})
 nothing_in [] = Some tt
 nothing_in other = None
 
--- What stands behind a word, by its shape. A prefix is read as a key, two bounds as a key and a value.
-abbrev pub behind_in : (shape : Shape) → List (List ℕ) → Option (Behind shape)
-behind_in Key fields = one_in bytes_in fields
-behind_in KeyAndValue fields = two_in bytes_in bytes_in fields
-behind_in Number fields = one_in number_in fields
-behind_in NumberAndValue fields = two_in number_in bytes_in fields
-behind_in TwoNumbers fields = two_in number_in number_in fields
-behind_in Tenant fields = tenant_alone_in fields
-behind_in Nothing fields = nothing_in fields
+-- What stands after a word, by its shape. A prefix is read as a key, two bounds as a key and a value.
+abbrev pub fields_in : (shape : Shape) → List (List ℕ) → Option (FieldsFor shape)
+fields_in Key fields = one_in bytes_in fields
+fields_in KeyAndValue fields = two_in bytes_in bytes_in fields
+fields_in Number fields = one_in number_in fields
+fields_in NumberAndValue fields = two_in number_in bytes_in fields
+fields_in TwoNumbers fields = two_in number_in number_in fields
+fields_in Tenant fields = tenant_alone_in fields
+fields_in Nothing fields = nothing_in fields
 
--- the command that a word makes of the fields behind it
+-- the command that a word makes of the fields after it
 abbrev pub command_by : Word → List (List ℕ) → Option Command
-command_by w fields = option_map (made_by w) (behind_in (shape_of w) fields)
+command_by w fields = option_map (made_by w) (fields_in (shape_of w) fields)
 
 -- the command that some fields make
 abbrev pub command_in : List (List ℕ) → Option Command

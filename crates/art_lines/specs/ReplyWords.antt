@@ -14,9 +14,9 @@ put_reply None true = name (codes "conflict") ∷ []
 put_reply None false = name (codes "new") ∷ []
 
 -- A find is answered by the key that was found and its value.
-abbrev pub front_reply : Option (List ℕ × List ℕ) → List Word
-front_reply (Some pair) = name (codes "at") ∷ bytes pair.0 ∷ bytes pair.1 ∷ []
-front_reply None = name (codes "none") ∷ []
+abbrev pub find_reply : Option (List ℕ × List ℕ) → List Word
+find_reply (Some pair) = name (codes "at") ∷ bytes pair.0 ∷ bytes pair.1 ∷ []
+find_reply None = name (codes "none") ∷ []
 
 -- what ends a list: how many there were
 abbrev pub end_words : ℕ → List Word

@@ -7,7 +7,7 @@ pub record IsCut (before after text : List ℕ) : Type 0 where
   pub missing : List ℕ
   pub is_cut : missing ≢ []
   pub parts : begun ++ missing ≡ text
-  pub told : after ≡ before ++ begun
+  pub output : after ≡ before ++ begun
 
 -- What a writer of a text says: it was taken whole, or a write failed, and a beginning was taken that is not all of it.
 pub record Writes {T E : Type 0} (result : Result T E) (before after text : List ℕ) (has_failed : Bool) : Type 0 where

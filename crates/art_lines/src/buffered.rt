@@ -16,10 +16,10 @@ const LEAST: usize = 512;
 /// byte. Fails if out of memory.
 ///
 /// ```
-/// let room = art_lines::buffered::make_room(rt.alloc(), 0)?;
+/// let room = art_lines::buffered::reserve_buffer(rt.alloc(), 0)?;
 /// assert_eq!(rt; room.len(), 65_536);
 /// ```
-pub fn make_room(alloc: Global, filler: u8) -> Result<Vec<u8>, AllocError>
+pub fn reserve_buffer(alloc: Global, filler: u8) -> Result<Vec<u8>, AllocError>
     ensures { IfOk result (λ room. 0 < length room.items) }
 {
     match vec![in alloc; filler; ROOM] {
@@ -43,13 +43,13 @@ pub struct Buffered<S: Sink> {
 }
 
 impl<S: Sink> Buffered<S> {
-    ghost use Rattle.art_lines.specs.Ends.{held_back, sink_behind};
+    ghost use Rattle.art_lines.specs.Ends.{held_back, inner_sink};
 
     /// Makes a sink in front of this one, which holds nothing. The room must not be empty.
     ///
     /// ```
     /// let mut replies = Vec::new(rt.alloc());
-    /// let room = art_lines::buffered::make_room(rt.alloc(), 0)?;
+    /// let room = art_lines::buffered::reserve_buffer(rt.alloc(), 0)?;
     /// let mut sink = Buffered::new(ToWriter::new(&mut replies), room);
     /// art_lines::reply::write_number(&mut sink, 42)?;
     /// assert!(rt; sink.finish());
@@ -59,7 +59,7 @@ impl<S: Sink> Buffered<S> {
         requires { 0 < length room.items }
         ensures taken { ⟦<Buffered<S> as Sink>⟧.taken result ≡ S.taken sink }
         ensures failed { ⟦<Buffered<S> as Sink>⟧.has_failed result ≡ false }
-        ensures over { sink_behind result ≡ sink }
+        ensures over { inner_sink result ≡ sink }
     {
         Buffered {
             sink,
@@ -85,45 +85,45 @@ impl<S: Sink> Buffered<S> {
         }
     }
 
-    /// Writes out what is left, and returns whether the sink behind it has taken all.
+    /// Writes out what is left, and returns whether the inner sink has taken all.
     ///
     /// ```
     /// let mut replies = Vec::new(rt.alloc());
-    /// let room = art_lines::buffered::make_room(rt.alloc(), 0)?;
+    /// let room = art_lines::buffered::reserve_buffer(rt.alloc(), 0)?;
     /// let mut sink = Buffered::new(ToWriter::new(&mut replies), room);
     /// assert!(rt; sink.finish());
     /// assert!(rt; replies.is_empty());
     /// ```
     pub fn finish(&mut self) -> bool
         ensures same { ⟦<Buffered<S> as Sink>⟧.taken self.new ≡ ⟦<Buffered<S> as Sink>⟧.taken self.old }
-        ensures all { result ≡ true → S.taken (sink_behind self.new) ≡ ⟦<Buffered<S> as Sink>⟧.taken self.old }
-        ensures failed { S.has_failed (sink_behind self.new) ≡ true → result ≡ false }
-        ensures exact { S.has_failed (sink_behind self.new) ≡ false → result ≡ true }
-        ensures sent { S.has_failed (sink_behind self.new) ≡ false → held_back self.new ≡ [] }
+        ensures all { result ≡ true → S.taken (inner_sink self.new) ≡ ⟦<Buffered<S> as Sink>⟧.taken self.old }
+        ensures failed { S.has_failed (inner_sink self.new) ≡ true → result ≡ false }
+        ensures exact { S.has_failed (inner_sink self.new) ≡ false → result ≡ true }
+        ensures sent { S.has_failed (inner_sink self.new) ≡ false → held_back self.new ≡ [] }
     {
         self.write_out();
         !self.sink.failed()
     }
 
-    /// Returns the sink behind it. What it holds is let go.
+    /// Returns the inner sink. What is held back is let go.
     ///
     /// ```
     /// let mut replies = Vec::new(rt.alloc());
-    /// let room = art_lines::buffered::make_room(rt.alloc(), 0)?;
+    /// let room = art_lines::buffered::reserve_buffer(rt.alloc(), 0)?;
     /// let sink = Buffered::new(ToWriter::new(&mut replies), room);
     /// assert!(rt; sink.into_sink().flush().is_ok());
     /// ```
     pub fn into_sink(self) -> S
-        ensures { result ≡ sink_behind self }
+        ensures { result ≡ inner_sink self }
     {
         self.sink
     }
 }
 
 impl<S: Sink> Sink for Buffered<S> {
-    ghost use Rattle.art_lines.specs.Ends.{sink_behind, held_back, has_stopped};
+    ghost use Rattle.art_lines.specs.Ends.{inner_sink, held_back, has_stopped};
 
-    ghost taken = { λ s. S.taken (sink_behind s) ++ held_back s };
+    ghost taken = { λ s. S.taken (inner_sink s) ++ held_back s };
 
     ghost has_failed = { λ s. has_stopped s };
 
@@ -141,10 +141,10 @@ impl<S: Sink> Sink for Buffered<S> {
     }
 
     fn send(&mut self)
-        ensures keeps { S.taken (sink_behind self.new) ++ held_back self.new
-            ≡ S.taken (sink_behind self.old) ++ held_back self.old }
+        ensures keeps { S.taken (inner_sink self.new) ++ held_back self.new
+            ≡ S.taken (inner_sink self.old) ++ held_back self.old }
         ensures stays_open { has_stopped self.new ≡ has_stopped self.old }
-        ensures sent { S.has_failed (sink_behind self.new) ≡ false → held_back self.new ≡ [] }
+        ensures sent { S.has_failed (inner_sink self.new) ≡ false → held_back self.new ≡ [] }
     {
         self.write_out();
     }
@@ -157,7 +157,7 @@ impl<S: Sink> Sink for Buffered<S> {
 /// Writes bytes until all are written or a write fails, and returns how many were written.
 fn write_to<S: Sink>(sink: &mut S, bytes: &[u8]) -> usize
     ensures bound { result ≤ length bytes.now }
-    ensures told { S.taken sink.new ≡ S.taken sink.old ++ take result bytes.now }
+    ensures output { S.taken sink.new ≡ S.taken sink.old ++ take result bytes.now }
     ensures all { S.has_failed sink.new ≡ false → result ≡ length bytes.now }
 {
     let mut at = 0;

@@ -1,6 +1,6 @@
 //! Commands, and how a line spells one.
 //!
-//! A line is read by its word (`word`), whose shape (`shapes`) says what fields stand behind it (`fields`).
+//! A line is read by its word (`word`), whose shape (`shapes`) says what fields stand after it (`fields`).
 ghost use Rattle.std.specs.Prelude.{◌≡◌, ◌≤◌, ◌↔◌, Option, Some, length, option_map};
 ghost use Rattle.art_lines.specs.Commands.{Command as AskedCommand, Spells};
 ghost use Rattle.art_lines.specs.Reading.{command_of};
@@ -13,7 +13,7 @@ pub mod word;
 
 use arrayvec::ArrayVec;
 use fields::{FIELD, Fields};
-use shapes::{read_behind, split_field};
+use shapes::{read_fields, split_field};
 use word::{Change, LookUp, Whole, Word, row_of};
 
 /// The longest line in bytes, without its newline.
@@ -52,7 +52,7 @@ pub enum Command {
     /// `list t p`: asks for the tenant's keys that begin with a prefix.
     List {
         tenant: u32,
-        front: ArrayVec<u8, FIELD>,
+        prefix: ArrayVec<u8, FIELD>,
     },
     /// `span t lo hi`: asks for the tenant's keys from a low one on and below a high one.
     Span {
@@ -134,7 +134,10 @@ fn look_up_of_fields(word: LookUp, fields: &Fields) -> Command
     match word {
         LookUp::Get => Command::Get { tenant, key },
         LookUp::Find => Command::Find { tenant, key },
-        LookUp::List => Command::List { tenant, front: key },
+        LookUp::List => Command::List {
+            tenant,
+            prefix: key,
+        },
         LookUp::Span => Command::Span {
             tenant,
             low: key,
@@ -202,7 +205,7 @@ pub fn read_line(line: &[u8], fields: &mut Fields) -> Option<Word>
     }
     let (field, rest) = split_field(line);
     let (word, shape) = row_of(field)?;
-    if !read_behind(shape, rest, fields) {
+    if !read_fields(shape, rest, fields) {
         return None;
     }
     Some(word)

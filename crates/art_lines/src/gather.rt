@@ -17,14 +17,14 @@ pub const ROOM: usize = 8192;
 const LINE: usize = 4097;
 
 /// The bytes of a tenant, which stand before those of its keys.
-const FRONT: usize = 4;
+const TENANT_LEN: usize = 4;
 
 /// The longest line that ends a list.
 const END: usize = 25;
 
 /// Writes what is gathered if it is more than so many bytes, and returns how much is gathered then.
 #[inline]
-fn keep_within<W: Sink>(
+fn flush_above<W: Sink>(
     sink: &mut W,
     room: &[u8],
     held: usize,
@@ -47,7 +47,7 @@ fn keep_within<W: Sink>(
 
 /// Writes what is gathered if no line and a byte fit after it, and returns how much is gathered then.
 #[inline]
-pub fn make_room<W: Sink>(sink: &mut W, room: &[u8], held: usize) -> Result<usize, WriteFailed>
+pub fn reserve_line<W: Sink>(sink: &mut W, room: &[u8], held: usize) -> Result<usize, WriteFailed>
     requires open { W.has_failed sink.old ≡ false }
     requires held { held ≤ length room.now }
     ensures fits { IfOk result (λ left. left ≤ 4094) }
@@ -56,7 +56,7 @@ pub fn make_room<W: Sink>(sink: &mut W, room: &[u8], held: usize) -> Result<usiz
     ensures cut { OnErr result (IsCut (W.taken sink.old) (W.taken sink.new) (take held room.now)) }
     ensures failed { is_err result ≡ W.has_failed sink.new }
 {
-    keep_within(sink, room, held, ROOM - LINE - 1)
+    flush_above(sink, room, held, ROOM - LINE - 1)
 }
 
 /// Returns the key that stands after the tenant in a full key.
@@ -65,7 +65,7 @@ pub fn key_of(full: &[u8]) -> &[u8]
     requires { 4 ≤ length full.now }
     ensures { result.now ≡ drop 4 full.now }
 {
-    &full[FRONT..]
+    &full[TENANT_LEN..]
 }
 
 /// How many bytes the line of a pair takes, or up to two more.
@@ -111,7 +111,7 @@ pub fn gather_pair<W: Sink>(
 {
     let key = key_of(full);
     let len = length_of_pair(key, value);
-    let at = keep_within(sink, room, held, room.len().saturating_sub(len + 1))?;
+    let at = flush_above(sink, room, held, room.len().saturating_sub(len + 1))?;
     if at + len < room.len() {
         let next = put_pair(room, at, key, value);
         return Ok(next);
@@ -164,7 +164,7 @@ fn gather_found<W: Sink>(
     ensures failed { is_err result ≡ W.has_failed sink.new }
 {
     let len = length_of_found(word, value);
-    let at = keep_within(sink, room, held, room.len().saturating_sub(len + 1))?;
+    let at = flush_above(sink, room, held, room.len().saturating_sub(len + 1))?;
     if at + len < room.len() {
         let next = put_found(room, at, word, value);
         return Ok(next);
@@ -173,7 +173,7 @@ fn gather_found<W: Sink>(
     Ok(0)
 }
 
-/// Writes what is gathered, and behind it the line that ends a list of so many.
+/// Writes what is gathered, and after it the line that ends a list of so many.
 pub fn write_end<W: Sink>(
     sink: &mut W,
     room: &mut [u8],
@@ -186,7 +186,7 @@ pub fn write_end<W: Sink>(
     ensures { Writes result (W.taken sink.old) (W.taken sink.new) (take held room.old ++ line_of (end_words count))
         (W.has_failed sink.new) }
 {
-    let at = keep_within(sink, room, held, room.len() - END)?;
+    let at = flush_above(sink, room, held, room.len() - END)?;
     let number = put_text(room, at, b"end ");
     let newline = put_number(room, number, count as u64);
     let end = put_text(room, newline, b"\n");

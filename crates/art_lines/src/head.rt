@@ -34,17 +34,17 @@ impl Head {
 
     /// Makes it that of a tenant.
     #[inline]
-    pub fn turn_to(&mut self, tenant: u32)
+    pub fn set_tenant(&mut self, tenant: u32)
         ensures { tenant_of_head self.new ≡ tenant }
     {
         if self.tenant != tenant {
-            self.change_to(tenant);
+            self.rebuild(tenant);
         }
     }
 
     /// Makes it that of another tenant. Not inlined, so that a line of the same tenant clears no room for a head.
     #[inline(never)]
-    fn change_to(&mut self, tenant: u32)
+    fn rebuild(&mut self, tenant: u32)
         ensures { self.new.tenant ≡ tenant }
     {
         *self = Head::new(tenant);
@@ -57,7 +57,7 @@ impl Head {
         ensures { Puts result at (head_of (tenant_of_head self.now)) room.old room.new }
     {
         let text = self.text;
-        let _behind = put_text(room, at, &text);
+        let _next = put_text(room, at, &text);
         at + self.len
     }
 }

@@ -3,7 +3,7 @@ ghost use Rattle.std.specs.Prelude.{◌≡◌, ◌+◌, ◌<◌, ◌≤◌, ◌�
 ghost use Rattle.std.specs.Prelude.{Some, IfSome};
 ghost use Rattle.hex.specs.Hex.{encode_lower};
 ghost use Rattle.art_lines.specs.Words.{shown, line_of, name, natural, bytes};
-ghost use Rattle.art_lines.specs.ReplyWords.{found_or, end_words, pair_words, front_reply};
+ghost use Rattle.art_lines.specs.ReplyWords.{found_or, end_words, pair_words, find_reply};
 ghost use Rattle.art_lines.specs.Writes.{Writes};
 
 use crate::room::{put_found, put_pair, put_text};
@@ -96,7 +96,7 @@ pub fn write_found<W: Sink>(sink: &mut W, word: &[u8], value: &[u8]) -> Result<(
 }
 
 /// Writes a space, bytes and a newline, in pieces.
-fn write_behind<W: Sink>(sink: &mut W, value: &[u8]) -> Result<(), WriteFailed>
+fn write_last_field<W: Sink>(sink: &mut W, value: &[u8]) -> Result<(), WriteFailed>
     requires { W.has_failed sink.old ≡ false }
     ensures { Writes result (W.taken sink.old) (W.taken sink.new)
         (32 ∷ [] ++ (shown (bytes value.now) ++ 10 ∷ []))
@@ -119,7 +119,7 @@ pub(crate) fn write_long<W: Sink>(
         (W.has_failed sink.new) }
 {
     write_piece(sink, word)?;
-    write_behind(sink, value)
+    write_last_field(sink, value)
 }
 
 /// Writes a line of two lots of bytes in pieces.
@@ -130,7 +130,7 @@ pub(crate) fn write_pair<W: Sink>(sink: &mut W, key: &[u8], value: &[u8]) -> Res
         (W.has_failed sink.new) }
 {
     write_bytes(sink, key)?;
-    write_behind(sink, value)
+    write_last_field(sink, value)
 }
 
 /// Writes the line of a value that was looked for.
@@ -195,7 +195,7 @@ fn write_at<W: Sink>(
     requires open { W.has_failed sink.old ≡ false }
     requires room { 3 + length (line_of (pair_words (key.now, value.now))) ≤ length room.old }
     ensures { Writes result (W.taken sink.old) (W.taken sink.new)
-        (line_of (front_reply (Some (key.now, value.now))))
+        (line_of (find_reply (Some (key.now, value.now))))
         (W.has_failed sink.new) }
 {
     let digits = put_text(room, 0, b"at ");
@@ -205,11 +205,14 @@ fn write_at<W: Sink>(
 
 /// Writes the line of what was looked for by a longer key.
 #[inline(never)]
-pub fn write_front<W: Sink>(sink: &mut W, found: Option<(&[u8], &[u8])>) -> Result<(), WriteFailed>
+pub fn write_prefix_pair<W: Sink>(
+    sink: &mut W,
+    found: Option<(&[u8], &[u8])>,
+) -> Result<(), WriteFailed>
     requires open { W.has_failed sink.old ≡ false }
     requires line { IfSome found (λ p. 3 + length (line_of (pair_words (p.0.now, p.1.now))) ≤ 4097) }
     ensures { Writes result (W.taken sink.old) (W.taken sink.new)
-        (line_of (front_reply (option_map (λ p. (p.0.now, p.1.now)) found.entry)))
+        (line_of (find_reply (option_map (λ p. (p.0.now, p.1.now)) found.entry)))
         (W.has_failed sink.new) }
 {
     match found {

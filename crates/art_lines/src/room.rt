@@ -1,5 +1,5 @@
 //! Text that is gathered in a room before it goes to a sink, so that many lines leave in one piece. Each call puts a
-//! text at a place, leaves what stands before it, and tells the place behind it.
+//! text at a place, leaves what stands before it, and tells the place after it.
 ghost use Rattle.std.specs.Prelude.{◌≡◌, ◌+◌, ◌*◌, ◌%◌, ◌≤◌, ◌∷◌, [], length, decimal};
 ghost use Rattle.std.specs.Fmt.{signed_decimal};
 ghost use Rattle.hex.specs.Hex.{encode_lower};
@@ -13,7 +13,7 @@ use crate::head::Head;
 use itoa::Buffer;
 use std::simd::prelude::*;
 
-/// The two digits of each byte, one pair behind another.
+/// The two digits of each byte, one pair after another.
 static PAIRS: [u8; 512] = *b"\
     000102030405060708090a0b0c0d0e0f101112131415161718191a1b1c1d1e1f202122232425262728292a2b2c2d2e2f30313233\
     3435363738393a3b3c3d3e3f404142434445464748494a4b4c4d4e4f505152535455565758595a5b5c5d5e5f6061626364656667\

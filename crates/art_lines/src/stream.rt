@@ -24,7 +24,7 @@ pub trait Source {
     /// A number that each read lowers until the source ends or fails.
     ghost reads_left: { Self → ℕ };
 
-    /// How often what stands behind it was asked for bytes.
+    /// How often the reader below it was asked for bytes.
     ghost calls: { Self → ℕ } = { λ _. 0 };
 
     /// Reads the next bytes, to the first places of `buf`, and returns how many they are. No byte is the end, and a
@@ -44,7 +44,7 @@ pub trait Source {
         ensures ended_before { OnErr result (has_ended self.new ≡ has_ended self.old) }
         ensures fewer { IfOk result (λ n. 0 < n → reads_left self.new < reads_left self.old) }
 
-        // What stands behind it is asked once at most; where a read has failed or the end has come, not again.
+        // The reader below it is asked once at most; where a read has failed or the end has come, not again.
         ensures once { calls self.new ≤ calls self.old + 1 }
         ensures not_again { IsTrue (has_failed self.old) ⊎ IsTrue (has_ended self.old)
             → calls self.new ≡ calls self.old };
@@ -66,7 +66,7 @@ pub trait Sink {
     /// Whether a write has failed.
     ghost has_failed: { Self → Bool };
 
-    /// How often what stands behind it was asked to take bytes, where each write asks it.
+    /// How often the writer below it was asked to take bytes, if each write asks it.
     ghost calls: { Self → ℕ } = { λ _. 0 };
 
     /// Takes some bytes from the front of `piece`, at least one if there are any, and returns how many they are.

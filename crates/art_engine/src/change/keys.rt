@@ -79,7 +79,7 @@ pub(crate) fn put_over<const PREFIX_LEN: usize>(
 
 /// Removes the value at the tenant's key that was read. It takes memory only where a node becomes one of the next
 /// smaller kind.
-pub(crate) fn take_out<const PREFIX_LEN: usize>(
+pub(crate) fn remove_key<const PREFIX_LEN: usize>(
     records: &mut TreeMap<Vec<u8>, Vec<u8>, PREFIX_LEN>,
     fields: &Fields,
 ) -> Changed

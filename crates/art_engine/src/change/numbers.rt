@@ -44,7 +44,7 @@ pub(crate) fn put_at_number<const PREFIX_LEN: usize>(
 
 /// Removes the value at the tenant's number that was read. It takes memory only where a node becomes one of the next
 /// smaller kind.
-pub(crate) fn take_number_out<const PREFIX_LEN: usize>(
+pub(crate) fn remove_number<const PREFIX_LEN: usize>(
     numbers: &mut TreeMap<[u8; NUMBER_KEY], Vec<u8>, PREFIX_LEN>,
     fields: &Fields,
 ) -> Changed
@@ -61,7 +61,7 @@ pub(crate) fn take_number_out<const PREFIX_LEN: usize>(
 }
 
 /// The tenant and the number whose bytes these are.
-pub(crate) fn numbers_of(key: &[u8; NUMBER_KEY]) -> (u32, i64)
+pub(crate) fn split_number_key(key: &[u8; NUMBER_KEY]) -> (u32, i64)
     ensures tenant { result.0 ≡ from_be_bytes w32 (take 4 key.now) }
     ensures number { result.1 ≡ number_of_bytes (drop 4 key.now) }
 {

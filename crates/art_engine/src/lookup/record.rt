@@ -38,7 +38,7 @@ pub(crate) fn value_of<'a, const PREFIX_LEN: usize>(
 
 /// The tenant's key that is a prefix of the one that was read, or equals it, and the value there. It is looked up as in
 /// `value_of`.
-pub(crate) fn front_of<'a, const PREFIX_LEN: usize>(
+pub(crate) fn prefix_pair_of<'a, const PREFIX_LEN: usize>(
     records: &mut MapReader<'a, Vec<u8>, Vec<u8>, PREFIX_LEN>,
     fields: &Fields,
 ) -> Option<(&'a [u8], &'a [u8])>

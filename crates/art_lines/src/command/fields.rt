@@ -11,7 +11,7 @@ use arrayvec::ArrayVec;
 use art_bytes::FixedBytes;
 
 /// The bytes of a tenant, which stand before those of its keys.
-const FRONT: usize = 4;
+const TENANT_LEN: usize = 4;
 
 /// The longest field of bytes, which `get 0 k` may have.
 pub const FIELD: usize = 2045;
@@ -44,9 +44,9 @@ impl Fields {
     /// Room for fields. What stands in it does not matter.
     pub fn new() -> Fields {
         let mut full_key = ArrayVec::new();
-        let _ = full_key.try_extend_from_slice(&[0; FRONT]);
+        let _ = full_key.try_extend_from_slice(&[0; TENANT_LEN]);
         let mut value = ArrayVec::new();
-        let _ = value.try_extend_from_slice(&[0; FRONT]);
+        let _ = value.try_extend_from_slice(&[0; TENANT_LEN]);
         Fields {
             full_key,
             value,
@@ -68,7 +68,7 @@ impl Fields {
         ensures value { result.now ≡ key_in_place self.now }
         ensures short { length result.now ≤ 2045 }
     {
-        &self.full_key.as_slice()[FRONT..]
+        &self.full_key.as_slice()[TENANT_LEN..]
     }
 
     /// Returns the tenant's four bytes, and then the key.
@@ -86,7 +86,7 @@ impl Fields {
         ensures value { result.now ≡ value_in_place self.now }
         ensures short { length result.now ≤ 2045 }
     {
-        &self.value.as_slice()[FRONT..]
+        &self.value.as_slice()[TENANT_LEN..]
     }
 
     /// Returns the tenant's four bytes, and then the upper bound, which is read as a value.
@@ -160,7 +160,7 @@ impl Fields {
         ensures read { IsRead result (key_in_place self.new) (bytes_in field.now) }
         ensures tenant { tenant_in_place self.new ≡ tenant_in_place self.old }
     {
-        decode_bytes(field, &mut self.full_key, FRONT)
+        decode_bytes(field, &mut self.full_key, TENANT_LEN)
     }
 
     /// Reads the value. It returns false if the field is read as no bytes.
@@ -171,7 +171,7 @@ impl Fields {
         ensures key { key_in_place self.new ≡ key_in_place self.old }
         ensures number { number_in_place self.new ≡ number_in_place self.old }
     {
-        decode_bytes(field, &mut self.value, FRONT)
+        decode_bytes(field, &mut self.value, TENANT_LEN)
     }
 
     /// Reads the number. It returns false if the field is read as none.
@@ -209,12 +209,12 @@ fn key_of_number(tenant: u32, number: i64) -> [u8; NUMBER_KEY]
 {
     let (front, rest) = (tenant.to_array(), number.to_array());
     let mut key = [0; NUMBER_KEY];
-    key[..FRONT].copy_from_slice(&front);
-    key[FRONT..].copy_from_slice(&rest);
+    key[..TENANT_LEN].copy_from_slice(&front);
+    key[TENANT_LEN..].copy_from_slice(&rest);
     key
 }
 
-/// A law, which does nothing: bytes are the full key of the tenant that stands at their front, and of the key behind.
+/// A law, which does nothing: bytes are the full key of the tenant that stands at their front, and of the key after it.
 fn split_of(full: &[u8]) -> &[u8]
     requires { 4 ≤ length full.now }
     ensures same { result.now ≡ full.now }

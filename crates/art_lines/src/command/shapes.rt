@@ -6,9 +6,9 @@ ghost use Rattle.std.specs.Prelude.{◌≡◌, ◌+◌, ◌<◌, ◌≤◌, ◌�
 ghost use Rattle.art_lines.specs.declared.command.word.Shape.TheVariants.{Key, KeyAndValue, Number, NumberAndValue};
 ghost use Rattle.art_lines.specs.declared.command.word.Shape.TheVariants.{TwoNumbers};
 ghost use Rattle.art_lines.specs.Commands.{fields_of};
-ghost use Rattle.art_lines.specs.Reading.{behind_in};
-ghost use Rattle.art_lines.specs.InPlace.{fields_behind, IsRead};
-ghost use Rattle.art_lines.specs.Parsed.{behind_in_place};
+ghost use Rattle.art_lines.specs.Reading.{fields_in};
+ghost use Rattle.art_lines.specs.InPlace.{fields_after, IsRead};
+ghost use Rattle.art_lines.specs.Parsed.{fields_in_place};
 
 use crate::command::fields::Fields;
 use crate::command::word::Shape;
@@ -16,10 +16,10 @@ use memchr::memchr;
 
 /// Reads what stands after a word of this shape.
 #[inline(always)]
-pub(crate) fn read_behind(shape: Shape, rest: Option<&[u8]>, fields: &mut Fields) -> bool
+pub(crate) fn read_fields(shape: Shape, rest: Option<&[u8]>, fields: &mut Fields) -> bool
     requires { IfSome rest (λ text. length text.now ≤ 4092) }
-    ensures { IsRead result (behind_in_place shape fields.new)
-        (behind_in shape (fields_behind (option_copied rest.entry))) }
+    ensures { IsRead result (fields_in_place shape fields.new)
+        (fields_in shape (fields_after (option_copied rest.entry))) }
 {
     let Some(text) = rest else {
         return matches!(shape, Shape::Nothing);
@@ -39,7 +39,7 @@ pub(crate) fn read_behind(shape: Shape, rest: Option<&[u8]>, fields: &mut Fields
 #[inline(always)]
 fn read_key(text: &[u8], fields: &mut Fields) -> bool
     requires { length text.now ≤ 4092 }
-    ensures { IsRead result (behind_in_place Key fields.new) (behind_in Key (fields_of text.now)) }
+    ensures { IsRead result (fields_in_place Key fields.new) (fields_in Key (fields_of text.now)) }
 {
     let Some((tenant, key)) = split_once(text) else {
         return false;
@@ -53,7 +53,7 @@ fn read_key(text: &[u8], fields: &mut Fields) -> bool
 /// Reads a tenant, a key and a value.
 fn read_key_and_value(text: &[u8], fields: &mut Fields) -> bool
     requires { length text.now ≤ 4092 }
-    ensures { IsRead result (behind_in_place KeyAndValue fields.new) (behind_in KeyAndValue (fields_of text.now)) }
+    ensures { IsRead result (fields_in_place KeyAndValue fields.new) (fields_in KeyAndValue (fields_of text.now)) }
 {
     let Some((tenant, key, value)) = split_twice(text) else {
         return false;
@@ -69,7 +69,7 @@ fn read_key_and_value(text: &[u8], fields: &mut Fields) -> bool
 
 /// Reads a tenant and a number.
 fn read_number(text: &[u8], fields: &mut Fields) -> bool
-    ensures { IsRead result (behind_in_place Number fields.new) (behind_in Number (fields_of text.now)) }
+    ensures { IsRead result (fields_in_place Number fields.new) (fields_in Number (fields_of text.now)) }
 {
     let Some((tenant, number)) = split_once(text) else {
         return false;
@@ -83,8 +83,8 @@ fn read_number(text: &[u8], fields: &mut Fields) -> bool
 /// Reads a tenant, a number and a value.
 fn read_number_and_value(text: &[u8], fields: &mut Fields) -> bool
     requires { length text.now ≤ 4092 }
-    ensures { IsRead result (behind_in_place NumberAndValue fields.new)
-        (behind_in NumberAndValue (fields_of text.now)) }
+    ensures { IsRead result (fields_in_place NumberAndValue fields.new)
+        (fields_in NumberAndValue (fields_of text.now)) }
 {
     let Some((tenant, number, value)) = split_twice(text) else {
         return false;
@@ -100,7 +100,7 @@ fn read_number_and_value(text: &[u8], fields: &mut Fields) -> bool
 
 /// Reads a tenant and two numbers.
 fn read_two_numbers(text: &[u8], fields: &mut Fields) -> bool
-    ensures { IsRead result (behind_in_place TwoNumbers fields.new) (behind_in TwoNumbers (fields_of text.now)) }
+    ensures { IsRead result (fields_in_place TwoNumbers fields.new) (fields_in TwoNumbers (fields_of text.now)) }
 {
     let Some((tenant, low, high)) = split_twice(text) else {
         return false;
@@ -117,7 +117,7 @@ fn read_two_numbers(text: &[u8], fields: &mut Fields) -> bool
 /// Returns the field before the first space, and what stands after that space.
 #[inline]
 pub fn split_field(line: &[u8]) -> (&[u8], Option<&[u8]>)
-    ensures split { fields_of line.now ≡ result.0.now ∷ fields_behind (option_copied result.1) }
+    ensures split { fields_of line.now ≡ result.0.now ∷ fields_after (option_copied result.1) }
     ensures shorter { IfSome result.1 (λ rest. length result.0.now + 1 + length rest.now ≡ length line.now) }
     ensures whole { IfNone result.1 (result.0.now ≡ line.now) }
 {

@@ -40,9 +40,9 @@ returns-in-Over-clause-done g c =
 
 pub returns-in-Del-clause-done : goal.returns-in-Del-clause-done
 returns-in-Del-clause-done g c =
-    let F = c.args.fields.now in let ps = c.args.records.now.pairs in let ns = c.args.numbers.now.pairs in let new = c.take_out.new.records.pairs in
-    subst (λ w. IsChangeDone c.take_out.result (changes w F) (all_records_of ps ns) (all_records_of new ns)) (sym c.in-Del.is)
-    (del_in_both ps new ns (are_in_order ns c.requires.numbers) c.take_out.result (tenant_in_place F) (key_in_place F) c.take_out.ensures.done)
+    let F = c.args.fields.now in let ps = c.args.records.now.pairs in let ns = c.args.numbers.now.pairs in let new = c.remove_key.new.records.pairs in
+    subst (λ w. IsChangeDone c.remove_key.result (changes w F) (all_records_of ps ns) (all_records_of new ns)) (sym c.in-Del.is)
+    (del_in_both ps new ns (are_in_order ns c.requires.numbers) c.remove_key.result (tenant_in_place F) (key_in_place F) c.remove_key.ensures.done)
 
 pub returns-in-NPut-clause-done : goal.returns-in-NPut-clause-done
 returns-in-NPut-clause-done g c =
@@ -52,6 +52,6 @@ returns-in-NPut-clause-done g c =
 
 pub returns-in-NDel-clause-done : goal.returns-in-NDel-clause-done
 returns-in-NDel-clause-done g c =
-    let F = c.args.fields.now in let ps = c.args.records.now.pairs in let ns = c.args.numbers.now.pairs in let new = c.take_number_out.new.numbers.pairs in
-    subst (λ w. IsChangeDone c.take_number_out.result (changes w F) (all_records_of ps ns) (all_records_of ps new)) (sym c.in-NDel.is)
-    (ndel_in_both ps ns new c.requires.held.stand.in_order c.take_number_out.result (tenant_in_place F) (number_in_place F) c.take_number_out.ensures.done)
+    let F = c.args.fields.now in let ps = c.args.records.now.pairs in let ns = c.args.numbers.now.pairs in let new = c.remove_number.new.numbers.pairs in
+    subst (λ w. IsChangeDone c.remove_number.result (changes w F) (all_records_of ps ns) (all_records_of ps new)) (sym c.in-NDel.is)
+    (ndel_in_both ps ns new c.requires.held.stand.in_order c.remove_number.result (tenant_in_place F) (number_in_place F) c.remove_number.ensures.done)

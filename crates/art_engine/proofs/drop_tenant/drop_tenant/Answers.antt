@@ -15,7 +15,7 @@ pub returns-in_default-clause-done : goal.returns-in_default-clause-done
 returns-in_default-clause-done g c =
     let ps = c.args.records.now.pairs in let ns = c.args.numbers.now.pairs in let t = tenant_in_place c.args.fields.now in
     let small : t < 2 ^ 32 = let is = c.tenant.ensures in let fits = c.tenant.type_inv in omega arith in
-    let front : c.to_be_bytes-front.result ≡ full_key t [] = c.to_be_bytes-front.ensures ∙ ap (to_be_bytes w32) c.tenant.ensures in
+    let front : c.to_be_bytes-prefix.result ≡ full_key t [] = c.to_be_bytes-prefix.ensures ∙ ap (to_be_bytes w32) c.tenant.ensures in
     keys_refused t small ps ns c.requires.held c.requires.numbers _ ns (search rules) refl
     (subst (λ f. (with_front bytes_of f ps ≢ []) × ShrinksWithout bytes_of ps f) front c.in_default.ensures.shrinks)
 
@@ -23,7 +23,7 @@ pub returns-in-Ok-prepare_remove_prefix-clause-held : goal.returns-in-Ok-prepare
 returns-in-Ok-prepare_remove_prefix-clause-held g c =
     let ps = c.args.records.now.pairs in let ns = c.args.numbers.now.pairs in let t = tenant_in_place c.args.fields.now in
     let small : t < 2 ^ 32 = let is = c.tenant.ensures in let fits = c.tenant.type_inv in omega arith in
-    let front : c.to_be_bytes-front.result ≡ full_key t [] = c.to_be_bytes-front.ensures ∙ ap (to_be_bytes w32) c.tenant.ensures in
+    let front : c.to_be_bytes-prefix.result ≡ full_key t [] = c.to_be_bytes-prefix.ensures ∙ ap (to_be_bytes w32) c.tenant.ensures in
     let left : c.apply.new.self.0.pairs ≡ without_front bytes_of (full_key t []) ps =
     c.apply.ensures.pairs ∙ ap₂ (λ f (qs : List Pair). without_front bytes_of f qs) (c.in-Ok.ensures.prefix ∙ front) c.in-Ok.ensures.same in
     same_pairs _ c.apply.new.self.0.pairs (search rules) (subst ArePairs (sym left) (keys_kept t small ps ns c.requires.held c.requires.numbers))
@@ -32,7 +32,7 @@ pub returns-in-Ok-prepare_remove_prefix-clause-numbers : goal.returns-in-Ok-prep
 returns-in-Ok-prepare_remove_prefix-clause-numbers g c =
     let ps = c.args.records.now.pairs in let ns = c.args.numbers.now.pairs in let t = tenant_in_place c.args.fields.now in
     let small : t < 2 ^ 32 = let is = c.tenant.ensures in let fits = c.tenant.type_inv in omega arith in
-    let front : c.to_be_bytes-front.result ≡ full_key t [] = c.to_be_bytes-front.ensures ∙ ap (to_be_bytes w32) c.tenant.ensures in
+    let front : c.to_be_bytes-prefix.result ≡ full_key t [] = c.to_be_bytes-prefix.ensures ∙ ap (to_be_bytes w32) c.tenant.ensures in
     let left : c.apply-in-Ok-prepare_remove_prefix.new.self.0.pairs ≡ without_front number_bytes (full_key t []) ns =
     c.apply-in-Ok-prepare_remove_prefix.ensures.pairs
     ∙ ap₂ (λ f (qs : List NumberPair). without_front number_bytes f qs) (c.in-Ok-prepare_remove_prefix.ensures.prefix ∙ front) c.in-Ok-prepare_remove_prefix.ensures.same in
@@ -43,7 +43,7 @@ pub returns-in-Ok-prepare_remove_prefix-clause-done : goal.returns-in-Ok-prepare
 returns-in-Ok-prepare_remove_prefix-clause-done g c =
     let ps = c.args.records.now.pairs in let ns = c.args.numbers.now.pairs in let t = tenant_in_place c.args.fields.now in
     let small : t < 2 ^ 32 = let is = c.tenant.ensures in let fits = c.tenant.type_inv in omega arith in
-    let front : c.to_be_bytes-front.result ≡ full_key t [] = c.to_be_bytes-front.ensures ∙ ap (to_be_bytes w32) c.tenant.ensures in
+    let front : c.to_be_bytes-prefix.result ≡ full_key t [] = c.to_be_bytes-prefix.ensures ∙ ap (to_be_bytes w32) c.tenant.ensures in
     let left : c.apply.new.self.0.pairs ≡ without_front bytes_of (full_key t []) ps =
     c.apply.ensures.pairs ∙ ap₂ (λ f (qs : List Pair). without_front bytes_of f qs) (c.in-Ok.ensures.prefix ∙ front) c.in-Ok.ensures.same in
     let others_left : c.apply-in-Ok-prepare_remove_prefix.new.self.0.pairs ≡ without_front number_bytes (full_key t []) ns =
@@ -59,7 +59,7 @@ returns-in-Ok-prepare_remove_prefix-clause-done g c =
     let second = front_reads M _ _ (ap length front) (c.in-Ok-prepare_remove_prefix.ensures.few M (all_numbers_within ns c.requires.numbers.stand)) in
     let read = visits_same (λ (k : Vec ℕ). k.items) c.apply.result.visits _ _ (full_key t []) _ ps (c.in-Ok.ensures.prefix ∙ front) c.in-Ok.ensures.same c.apply.ensures.visits in
     let others_read = visits_same (λ (k : List ℕ). k) c.apply-in-Ok-prepare_remove_prefix.result.visits _ _ (full_key t []) _ ns (c.in-Ok-prepare_remove_prefix.ensures.prefix ∙ front) c.in-Ok-prepare_remove_prefix.ensures.same c.apply-in-Ok-prepare_remove_prefix.ensures.visits in
-    drop_same c.gone.result _ t _ _ c.gone.ensures
+    drop_same c.sum_removed.result _ t _ _ c.sum_removed.ensures
     (drop_done t small ps ns c.requires.held c.requires.numbers _ _ c.apply.result.pairs c.apply-in-Ok-prepare_remove_prefix.result.pairs _
     (◌∙◌ {b = c.apply.new.self.0.pairs} (search rules) left) (◌∙◌ {b = c.apply-in-Ok-prepare_remove_prefix.new.self.0.pairs} (search rules) others_left) keys others
     (drop_counts t small ps ns c.requires.held c.requires.numbers c.apply.result.visits c.apply-in-Ok-prepare_remove_prefix.result.visits _ _ _
@@ -69,6 +69,6 @@ pub returns-in-Err-clause-done : goal.returns-in-Err-clause-done
 returns-in-Err-clause-done g c =
     let ps = c.args.records.now.pairs in let ns = c.args.numbers.now.pairs in let t = tenant_in_place c.args.fields.now in
     let small : t < 2 ^ 32 = let is = c.tenant.ensures in let fits = c.tenant.type_inv in omega arith in
-    let front : c.to_be_bytes-front.result ≡ full_key t [] = c.to_be_bytes-front.ensures ∙ ap (to_be_bytes w32) c.tenant.ensures in
+    let front : c.to_be_bytes-prefix.result ≡ full_key t [] = c.to_be_bytes-prefix.ensures ∙ ap (to_be_bytes w32) c.tenant.ensures in
     numbers_refused t small ps ns c.requires.held c.requires.numbers _ _ (search rules) (search rules)
     (subst (λ f. (with_front number_bytes f ns ≢ []) × ShrinksWithout number_bytes ns f) front c.in-Err.ensures.shrinks)

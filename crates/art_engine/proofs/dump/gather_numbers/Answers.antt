@@ -12,7 +12,7 @@ use Rattle.art_engine.proofs.dump.gather_numbers.Goals as goal
 
 pub pairs-init : goal.pairs-init
 pairs-init g c =
-    let none = c.new-together.ensures.none in
+    let none = c.new-batch.ensures.none in
     let all = ap (λ os. pending_all deref_pair os c.iter-pairs.result) none ∙ c.iter-pairs.ensures.rest in
     record {
       taken = taken_none _ _ _ (ap (λ l. take c.args.before c.args.room.now ++ dumped number_record_of words_nput l) all);
@@ -20,7 +20,7 @@ pairs-init g c =
       fit = subst (λ ps. AllByRecursion NumberFits (map number_record_of ps)) (sym all) c.requires.numbers.fit;
       held = c.requires.held;
       whole = c.requires.whole;
-      within = c.new-together.ensures.within;
+      within = c.new-batch.ensures.within;
       closed = subst (λ os. IsClosed deref_pair os c.iter-pairs.result) (sym none) tt;
     }
 
@@ -28,26 +28,26 @@ pub put_number_record-held-requires : goal.put_number_record-held-requires
 put_number_record-held-requires g c =
     let p : NumberPair = (c.in-Some.key.now, c.in-Some.value.now) in
     let fits = (subst (λ ps. AllByRecursion NumberFits (map number_record_of ps)) c.in-Some.ensures.gives c.pairs.invariant.fit).0 in
-    let back = ap (λ z. cast_signed w64 (cast_unsigned w64 z)) c.numbers_of-tenant.ensures.number ∙ to_z-of_z w64 (number_record_of p).key fits.number_fits in
-    let line : line_of (nput_words c.numbers_of-tenant.result.0 (cast_signed w64 (cast_unsigned w64 c.numbers_of-tenant.result.1)) c.as_slice.result.now) ≡ line_of (words_nput (number_record_of p)) =
-    rw (c.numbers_of-tenant.ensures.tenant, back, c.as_slice.ensures.value) refl in
+    let back = ap (λ z. cast_signed w64 (cast_unsigned w64 z)) c.split_number_key-tenant.ensures.number ∙ to_z-of_z w64 (number_record_of p).key fits.number_fits in
+    let line : line_of (nput_words c.split_number_key-tenant.result.0 (cast_signed w64 (cast_unsigned w64 c.split_number_key-tenant.result.1)) c.as_slice.result.now) ≡ line_of (words_nput (number_record_of p)) =
+    rw (c.split_number_key-tenant.ensures.tenant, back, c.as_slice.ensures.value) refl in
     let long = number_line_fits (number_record_of p) _ line fits in
-    let left = c.in_ok-at.ensures.fits in let whole = c.pairs.invariant.whole in let same = length-set c.pairs.room 8191 c.seen.result in
+    let left = c.in_ok-at.ensures.fits in let whole = c.pairs.invariant.whole in let same = length-set c.pairs.room 8191 c.checksum.result in
     omega arith
 
 pub pairs-preserved : goal.pairs-preserved
 pairs-preserved g c =
     let p : NumberPair = (c.in-Some.key.now, c.in-Some.value.now) in
     let fits = subst (λ ps. AllByRecursion NumberFits (map number_record_of ps)) c.in-Some.ensures.gives c.pairs.invariant.fit in
-    let back = ap (λ z. cast_signed w64 (cast_unsigned w64 z)) c.numbers_of-tenant.ensures.number ∙ to_z-of_z w64 (number_record_of p).key fits.0.number_fits in
-    let line : line_of (nput_words c.numbers_of-tenant.result.0 (cast_signed w64 (cast_unsigned w64 c.numbers_of-tenant.result.1)) c.as_slice.result.now) ≡ line_of (words_nput (number_record_of p)) =
-    rw (c.numbers_of-tenant.ensures.tenant, back, c.as_slice.ensures.value) refl in
+    let back = ap (λ z. cast_signed w64 (cast_unsigned w64 z)) c.split_number_key-tenant.ensures.number ∙ to_z-of_z w64 (number_record_of p).key fits.0.number_fits in
+    let line : line_of (nput_words c.split_number_key-tenant.result.0 (cast_signed w64 (cast_unsigned w64 c.split_number_key-tenant.result.1)) c.as_slice.result.now) ≡ line_of (words_nput (number_record_of p)) =
+    rw (c.split_number_key-tenant.ensures.tenant, back, c.as_slice.ensures.value) refl in
     let long = number_line_fits (number_record_of p) _ line fits.0 in
     let left = c.in_ok-at.ensures.fits in
-    let kept = take-set-le c.in_ok-at.at c.pairs.room 8191 c.seen.result (omega arith) in
-    let told = c.put_number_record-held.ensures.told ∙ ap (λ t. t ++ line_of (nput_words c.numbers_of-tenant.result.0 (cast_signed w64 (cast_unsigned w64 c.numbers_of-tenant.result.1)) c.as_slice.result.now)) kept in
+    let kept = take-set-le c.in_ok-at.at c.pairs.room 8191 c.checksum.result (omega arith) in
+    let output = c.put_number_record-held.ensures.output ∙ ap (λ t. t ++ line_of (nput_words c.split_number_key-tenant.result.0 (cast_signed w64 (cast_unsigned w64 c.split_number_key-tenant.result.1)) c.as_slice.result.now)) kept in
     let rest : List NumberPair = pending_all deref_pair (drop c.next.new.self.at (take c.next.new.self.len c.next.new.self.pairs)) c.next.new.records in
-    let next = gathered_next number_record_of words_nput p rest _ _ _ _ c.in-Some.ensures.gives line told in
+    let next = gathered_next number_record_of words_nput p rest _ _ _ _ c.in-Some.ensures.gives line output in
     record {
       taken = taken_from _ _ _ _ _ next (taken_through _ _ _ _ _ _ _ c.pairs.invariant.taken c.in_ok-at.ensures.taken);
       fine = sym c.in_ok-at.ensures.failed;
@@ -64,7 +64,7 @@ returns-in_err-at-clause-cut g c = when_err _ (taken_cut _ _ _ _ _ _ c.pairs.inv
 pub returns-clause-taken : goal.returns-clause-taken
 returns-clause-taken g c =
     let front = take c.pairs.held c.pairs.room in
-    let left : List NumberPair = pending_all deref_pair (drop c.pairs.together.at (take c.pairs.together.len c.pairs.together.pairs)) c.pairs.pairs in
+    let left : List NumberPair = pending_all deref_pair (drop c.pairs.batch.at (take c.pairs.batch.len c.pairs.batch.pairs)) c.pairs.pairs in
     let rest : List NumberPair = pending_all deref_pair (drop c.next.new.self.at (take c.next.new.self.len c.next.new.self.pairs)) c.next.new.records in
     let none : left ≡ [] = c.next.ensures.gives ∙ ap (λ o. pending (option_map deref_pair o) rest) c.in_default.is ∙ c.next.ensures.ended c.in_default.is in
     taken_from _ _ _ _ _ (ap (λ l. front ++ dumped number_record_of words_nput l) none ∙ append-nil front) c.pairs.invariant.taken

@@ -31,8 +31,8 @@ write_pairs-requires g c =
     let few : length (span_pairs c.range-span.new.self.nodes c.range-span.result) < 2 ^ 64 = subst (λ (l : List Pair). length l < 2 ^ 64) (sym left) (left_few t _ _ (span_tests t low high c.full_key.ensures.tenant) ps r.are r.few) in
     search (rules, listed, few)
 
-pub returns-clause-told : goal.returns-clause-told
-returns-clause-told g c = λ ps r.
+pub returns-clause-output : goal.returns-clause-output
+returns-clause-output g c = λ ps r.
     let F = c.args.fields.now in let t = tenant_in_place F in let low = key_in_place F in let high = value_in_place F in
     let left = span_left _ ps _ _ (c.range-span.ensures.value ps r.read)
     ∙ ap₂ (λ a b. filter (λ (p : Pair). range_contains bytes_cmp (Included a) (Excluded b) p.0.items) ps) c.full_key.ensures.value c.full_bound.ensures in

@@ -20,8 +20,8 @@ write_pairs-requires g c =
     let few : length (span_pairs c.prefix-span.new.self.nodes c.prefix-span.result) < 2 ^ 64 = subst (λ (l : List Pair). length l < 2 ^ 64) (sym left) (left_few t _ _ (list_tests t k c.full_key.ensures.tenant) ps r.are r.few) in
     search (rules, listed, few)
 
-pub returns-clause-told : goal.returns-clause-told
-returns-clause-told g c = λ ps r.
+pub returns-clause-output : goal.returns-clause-output
+returns-clause-output g c = λ ps r.
     let t = tenant_in_place c.args.fields.now in let k = key_in_place c.args.fields.now in
     let left = span_left _ ps _ _ (c.prefix-span.ensures.value ps r.read) ∙ ap (λ q. filter (λ (p : Pair). begins_with q p.0.items) ps) c.full_key.ensures.value in
     let own = ap (map own_pair) left ∙ own_left t _ _ (list_tests t k c.full_key.ensures.tenant) ps r.are in

@@ -33,8 +33,8 @@ write_pairs-requires g c =
     let few : length (span_pairs c.range-span.new.self.nodes c.range-span.result) < 2 ^ 64 = subst (λ (l : List NumberPair). length l < 2 ^ 64) (sym left) (numbers_left_few t low high fits_low fits_high ns r.are r.few) in
     search (rules, listed, few)
 
-pub returns-clause-told : goal.returns-clause-told
-returns-clause-told g c = λ ns r.
+pub returns-clause-output : goal.returns-clause-output
+returns-clause-output g c = λ ns r.
     let F = c.args.fields.now in let t = tenant_in_place F in let low = number_in_place F in let high = bound_in_place F in
     let fits_low : HaveBytes t low = (c.number_key-low.ensures.tenant, c.number_key-low.ensures.number) in
     let fits_high : HaveBytes t high = (c.number_key-low.ensures.tenant, c.bound_key-high.ensures.bound) in

@@ -7,7 +7,7 @@ use Rattle.std.specs.Global.{Vec}
 use Rattle.art_lines.proofs.Common.{taken_none, taken_from, taken_through, taken_cut, writes_cut, writes_rest}
 use Rattle.art_engine.proofs.Terms.{pending, pending_all, IsClosed, span_pairs}
 use Rattle.art_engine.proofs.ListedLines.{lines_from, lines_next, list_end}
-use Rattle.art_engine.proofs.ReadTogether.{length_all}
+use Rattle.art_engine.proofs.ReadBatches.{length_all}
 use Rattle.art_engine.proofs.SpanLemmas.{when_ok}
 use Rattle.art_engine.proofs.listing.write_pairs.Goals as goal
 
@@ -15,7 +15,7 @@ pub pairs-init : goal.pairs-init
 pairs-init g c =
     let words = g.K.ListedKey.words in
     let L = span_pairs c.args.records.now.nodes c.args.span.now in
-    let none = c.new-together.ensures.none in
+    let none = c.new-batch.ensures.none in
     let start = ap (λ os. pending_all deref_pair os L) none in
     let few = ap length start in
     let read = ap (λ os. length (pending_all deref_pair os [])) none in
@@ -25,7 +25,7 @@ pairs-init g c =
       fine = c.requires.open;
       listed = subst (AllByRecursion g.K.ListedKey.is_listed) (sym start) c.requires.listed;
       held = omega arith;
-      within = c.new-together.ensures.within;
+      within = c.new-batch.ensures.within;
       span = c.requires.span;
       closed = subst (λ os. IsClosed deref_pair os L) (sym none) tt;
       counted = omega arith;
@@ -39,12 +39,12 @@ gather-requires-clause-listed g c = (subst (AllByRecursion g.K.ListedKey.is_list
 pub returns-in_err-next-clause-written : goal.returns-in_err-next-clause-written
 returns-in_err-next-clause-written g c =
     let p : g.row.K.Denot × Vec ℕ = (c.in-Some.key.now, c.in-Some.value.now) in
-    let left = pending_all deref_pair (drop c.pairs.together.at (take c.pairs.together.len c.pairs.together.pairs)) (span_pairs c.pairs.records.nodes c.pairs.span) in
+    let left = pending_all deref_pair (drop c.pairs.batch.at (take c.pairs.batch.len c.pairs.batch.pairs)) (span_pairs c.pairs.records.nodes c.pairs.span) in
     let rest = pending_all deref_pair (drop c.next.new.self.at (take c.next.new.self.len c.next.new.self.pairs)) (span_pairs c.next.new.records.nodes c.next.new.place) in
-    let kept = take-set-le c.pairs.held c.pairs.room 1023 c.seen.result c.pairs.invariant.held in
-    let told = lines_next g.K.ListedKey.words (list_end (c.pairs.count + length left)) p rest left _ (take c.pairs.held c.pairs.room) c.in-Some.ensures.gives refl in
+    let kept = take-set-le c.pairs.held c.pairs.room 1023 c.checksum.result c.pairs.invariant.held in
+    let output = lines_next g.K.ListedKey.words (list_end (c.pairs.count + length left)) p rest left _ (take c.pairs.held c.pairs.room) c.in-Some.ensures.gives refl in
     writes_cut _ _ _ _ _ c.from_residual.ensures.0 c.in_err-next.ensures.failed
-    (taken_cut _ _ _ _ _ _ (taken_from _ _ _ _ _ told c.pairs.invariant.taken) (rw kept at c.in_err-next.ensures.cut))
+    (taken_cut _ _ _ _ _ _ (taken_from _ _ _ _ _ output c.pairs.invariant.taken) (rw kept at c.in_err-next.ensures.cut))
 
 pub overflow_add-count : goal.overflow_add-count
 overflow_add-count g c =
@@ -63,7 +63,7 @@ pub pairs-preserved : goal.pairs-preserved
 pairs-preserved g c =
     let p : g.row.K.Denot × Vec ℕ = (c.in-Some.key.now, c.in-Some.value.now) in
     let read = drop c.next.new.self.at (take c.next.new.self.len c.next.new.self.pairs) in
-    let left = pending_all deref_pair (drop c.pairs.together.at (take c.pairs.together.len c.pairs.together.pairs)) (span_pairs c.pairs.records.nodes c.pairs.span) in
+    let left = pending_all deref_pair (drop c.pairs.batch.at (take c.pairs.batch.len c.pairs.batch.pairs)) (span_pairs c.pairs.records.nodes c.pairs.span) in
     let rest = pending_all deref_pair read (span_pairs c.next.new.records.nodes c.next.new.place) in
     let step : left ≡ p ∷ rest = c.in-Some.ensures.gives in
     let listed = subst (AllByRecursion g.K.ListedKey.is_listed) step c.pairs.invariant.listed in
@@ -71,9 +71,9 @@ pairs-preserved g c =
     let counted = c.pairs.invariant.counted in
     let total : c.pairs.count + 1 + length rest ≡ c.pairs.count + length left = omega arith in
     let last = list_end (c.pairs.count + length left) in
-    let kept = take-set-le c.pairs.held c.pairs.room 1023 c.seen.result c.pairs.invariant.held in
-    let told = lines_next g.K.ListedKey.words last p rest left _ (take c.pairs.held c.pairs.room) step refl in
-    let taken = taken_through _ _ _ _ _ _ _ (taken_from _ _ _ _ _ told c.pairs.invariant.taken) (rw kept at c.in_ok-next.ensures.taken) in
+    let kept = take-set-le c.pairs.held c.pairs.room 1023 c.checksum.result c.pairs.invariant.held in
+    let output = lines_next g.K.ListedKey.words last p rest left _ (take c.pairs.held c.pairs.room) step refl in
+    let taken = taken_through _ _ _ _ _ _ _ (taken_from _ _ _ _ _ output c.pairs.invariant.taken) (rw kept at c.in_ok-next.ensures.taken) in
     let visits = c.in-Some.ensures.counts c.pairs.count c.args.records.now.count c.pairs.invariant.visits in
     let low = visits.0 in let high = visits.1 in
     record {
@@ -91,7 +91,7 @@ pairs-preserved g c =
 
 pub returns-clause-written : goal.returns-clause-written
 returns-clause-written g c =
-    let left = pending_all deref_pair (drop c.pairs.together.at (take c.pairs.together.len c.pairs.together.pairs)) (span_pairs c.pairs.records.nodes c.pairs.span) in
+    let left = pending_all deref_pair (drop c.pairs.batch.at (take c.pairs.batch.len c.pairs.batch.pairs)) (span_pairs c.pairs.records.nodes c.pairs.span) in
     let rest = pending_all deref_pair (drop c.next.new.self.at (take c.next.new.self.len c.next.new.self.pairs)) (span_pairs c.next.new.records.nodes c.next.new.place) in
     let none : left ≡ [] = c.next.ensures.gives ∙ ap (λ o. pending (option_map deref_pair o) rest) c.in_default.is ∙ c.next.ensures.ended c.in_default.is in
     let few = ap length none in
@@ -103,7 +103,7 @@ returns-clause-written g c =
 pub returns-clause-counts : goal.returns-clause-counts
 returns-clause-counts g c =
     let read = drop c.next.new.self.at (take c.next.new.self.len c.next.new.self.pairs) in
-    let left = pending_all deref_pair (drop c.pairs.together.at (take c.pairs.together.len c.pairs.together.pairs)) (span_pairs c.pairs.records.nodes c.pairs.span) in
+    let left = pending_all deref_pair (drop c.pairs.batch.at (take c.pairs.batch.len c.pairs.batch.pairs)) (span_pairs c.pairs.records.nodes c.pairs.span) in
     let rest = pending_all deref_pair read (span_pairs c.next.new.records.nodes c.next.new.place) in
     let ended : rest ≡ [] = c.next.ensures.ended c.in_default.is in
     let few = ap length (c.next.ensures.gives ∙ ap (λ o. pending (option_map deref_pair o) rest) c.in_default.is ∙ ended) in

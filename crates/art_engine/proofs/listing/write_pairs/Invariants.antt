@@ -10,7 +10,7 @@ use Rattle.art_engine.proofs.listing.write_pairs.Given as goal
 -- the pairs so far are told, or gathered, and counted, and so are those that were read with them
 abbrev pub invariant-pairs : goal.invariant-pairs
 invariant-pairs g l =
-    let read = drop l.together.at (take l.together.len l.together.pairs) in
+    let read = drop l.batch.at (take l.batch.len l.batch.pairs) in
     let left = pending_all deref_pair read (span_pairs l.records.nodes l.span) in
     let all = span_pairs l.fn.records.nodes l.fn.span in
     record {
@@ -20,7 +20,7 @@ invariant-pairs g l =
       fine : g.W.Sink.has_failed l.sink ≡ false;
       listed : AllByRecursion g.K.ListedKey.is_listed left;
       held : l.held ≤ 1023;
-      within : l.together.len ≤ 8;
+      within : l.batch.len ≤ 8;
       span : IsSpan l.records.nodes l.span;
       closed : IsClosed deref_pair read (span_pairs l.records.nodes l.span);
       counted : l.count + length left ≡ length all;
@@ -29,4 +29,4 @@ invariant-pairs g l =
     }
 
 abbrev pub decreases-pairs : goal.decreases-pairs
-decreases-pairs g l = length (pending_all deref_pair (drop l.together.at (take l.together.len l.together.pairs)) (span_pairs l.records.nodes l.span))
+decreases-pairs g l = length (pending_all deref_pair (drop l.batch.at (take l.batch.len l.batch.pairs)) (span_pairs l.records.nodes l.span))

@@ -4,4 +4,4 @@ use Rattle.art_engine.proofs.maps.is_number_record.Goals as goal
 
 pub returns-clause-record : goal.returns-clause-record
 returns-clause-record c = λ e.
-    is_number_record c.args.key.now c.args.value.now (let told = c.told-key in omega arith) (λ i. let fits = c.fits-key i in omega arith) (λ i. let fits = c.type_inv.value i in omega arith) (c.is_short_number.ensures.0 e)
+    is_number_record c.args.key.now c.args.value.now (let output = c.told-key in omega arith) (λ i. let fits = c.fits-key i in omega arith) (λ i. let fits = c.type_inv.value i in omega arith) (c.is_short_number.ensures.0 e)

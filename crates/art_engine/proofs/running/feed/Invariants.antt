@@ -9,9 +9,9 @@ invariant-lines g l = record {
   carried : (done : List ℕ) × (l.piece ≡ done ++ l.rest) × ((start : State) (text before : List ℕ)
       → Carried start l.fn.index text l.fn.held.items before (g.W.Sink.taken l.fn.sink)
       → Carried start l.index (text ++ done) l.held.items before (g.W.Sink.taken l.sink));
-  comes : AreNext (texts_of (to_come l.upcoming)) l.rest;
-  cut : (l.held.items ≡ []) ⊎ (to_come l.upcoming ≡ []);
-  told : Tells l.fn.index 0 l.index (read_of (to_come l.upcoming));
+  comes : AreNext (texts_of (to_come l.read_ahead)) l.rest;
+  cut : (l.held.items ≡ []) ⊎ (to_come l.read_ahead ≡ []);
+  counted : Tells l.fn.index 0 l.index (read_of (to_come l.read_ahead));
   fine : g.W.Sink.has_failed l.sink ≡ false;
 }
 

@@ -14,8 +14,8 @@ given_end start text old new n buf e h none = h ∙ ap (λ k. old ++ take k buf)
 pub reads-init : goal.reads-init
 reads-init g c = record {
   carried = ([], sym (append-nil (g.S.Source.given c.args.source.now)), rw c.new-held.ensures (carried_none c.args.index.now (g.W.Sink.taken c.args.sink.now)));
-  used_up = c.new-upcoming.ensures;
-  told = omega arith;
+  used_up = c.new-read_ahead.ensures;
+  counted = omega arith;
   source_open = c.requires.source_open;
   source_goes_on = c.requires.source_goes_on;
   sink_open = c.requires.sink_open;
@@ -24,22 +24,22 @@ reads-init g c = record {
 pub returns-clause-outcome : goal.returns-clause-outcome
 returns-clause-outcome g c =
     let i = c.reads.invariant.carried in let text : List ℕ = i.0 in
-    let carried = i.2 in let e = c.in_ok-carry_out.ensures in let memory = c.in_ok-carry_out.field-0.memory in
+    let carried = i.2 in let e = c.in_ok-execute_parsed.ensures in let memory = c.in_ok-execute_parsed.field-0.memory in
     let held : List ℕ = c.reads.held.items in let line = c.as_slice-line.ensures.value in
     let some : 0 < length held = let h = eqb-false _ _ (sym c.if-is_empty.ensures) in omega arith in
-    let last = outcome_last c.args.index.now c.reads.index c.carry_out.new.self text held (g.W.Sink.taken c.args.sink.now) (g.W.Sink.taken c.reads.sink) c.as_slice-line.result.now carried some line memory
-    (record { lawful = e.lawful; left = e.left; visits = c.in_ok-carry_out.field-0.visits; within = e.visits; short = e.short; own_path = e.own_path; counted = e.counted; visits_ahead = 0; few = omega arith; counted_ahead = e.ahead }) in (
+    let last = outcome_last c.args.index.now c.reads.index c.execute_parsed.new.self text held (g.W.Sink.taken c.args.sink.now) (g.W.Sink.taken c.reads.sink) c.as_slice-line.result.now carried some line memory
+    (record { lawful = e.lawful; left = e.left; visits = c.in_ok-execute_parsed.field-0.visits; within = e.visits; short = e.short; own_path = e.own_path; counted = e.counted; visits_ahead = 0; few = omega arith; counted_ahead = e.ahead }) in (
       text,
       carried.written ++ answer memory c.reads.index.records c.as_slice-line.result.now,
       given_end (g.S.Source.given c.args.source.now) text (g.S.Source.given c.reads.source) (g.S.Source.given c.read.new.self) c.in-Ok.n c.read.new.buf i.1 c.in-Ok.ensures.gives c.if-n-eq0.true,
-      e.told ∙ ap (λ t. t ++ answer memory c.reads.index.records c.as_slice-line.result.now) (c.send.ensures.keeps ∙ carried.told) ∙ append_assoc (g.W.Sink.taken c.args.sink.now) carried.written (answer memory c.reads.index.records c.as_slice-line.result.now),
+      e.output ∙ ap (λ t. t ++ answer memory c.reads.index.records c.as_slice-line.result.now) (c.send.ensures.keeps ∙ carried.output) ∙ append_assoc (g.W.Sink.taken c.args.sink.now) carried.written (answer memory c.reads.index.records c.as_slice-line.result.now),
       last,
     )
 
 pub returns-clause-ahead : goal.returns-clause-ahead
 returns-clause-ahead g c =
-    let told = c.reads.invariant.told in let e = c.in_ok-carry_out.ensures in
-    let more = told_more c.reads.index.ahead 0 c.carry_out.new.self.ahead e.ahead in let met = ap total e.met in
+    let counted = c.reads.invariant.counted in let e = c.in_ok-execute_parsed.ensures in
+    let more = told_more c.reads.index.ahead 0 c.execute_parsed.new.self.ahead e.ahead in let prefetched = ap total e.prefetched in
     omega arith
 
 pub returns-in_err-feed-clause-after_write_fault :
@@ -54,23 +54,23 @@ returns-in_err-feed-clause-after_write_fault g c = λ _.
       text ++ more,
       run.written,
       c.in-Ok.ensures.gives ∙ ap (λ t. t ++ more) i.1 ∙ append_assoc (g.S.Source.given c.args.source.now) text more,
-      run.told,
+      run.output,
       subst (λ b. AfterWriteFault c.args.index.now (lines_so_far b (text ++ more)) run.written c.feed.new.index) (sym goes_on) run.fault,
     )
 
-pub returns-in_err-carry_out-clause-after_write_fault :
-    goal.returns-in_err-carry_out-clause-after_write_fault
-returns-in_err-carry_out-clause-after_write_fault g c = λ _.
+pub returns-in_err-execute_parsed-clause-after_write_fault :
+    goal.returns-in_err-execute_parsed-clause-after_write_fault
+returns-in_err-execute_parsed-clause-after_write_fault g c = λ _.
     let i = c.reads.invariant.carried in let text : List ℕ = i.0 in
     let held : List ℕ = c.reads.held.items in
     let some : 0 < length held = let h = eqb-false _ _ (sym c.if-is_empty.ensures) in omega arith in
     let sent = subst (Carried c.args.index.now c.reads.index text held (g.W.Sink.taken c.args.sink.now)) (sym c.send.ensures.keeps) i.2 in
-    let run = cut_run-last c.args.index.now c.reads.index c.carry_out.new.self text held (g.W.Sink.taken c.args.sink.now) (g.W.Sink.taken c.send.new.self) (g.W.Sink.taken c.carry_out.new.sink) c.as_slice-line.result.now
-    sent some c.as_slice-line.ensures.value c.in_err-carry_out.ensures.cut in
+    let run = cut_run-last c.args.index.now c.reads.index c.execute_parsed.new.self text held (g.W.Sink.taken c.args.sink.now) (g.W.Sink.taken c.send.new.self) (g.W.Sink.taken c.execute_parsed.new.sink) c.as_slice-line.result.now
+    sent some c.as_slice-line.ensures.value c.in_err-execute_parsed.ensures.cut in
     let ended : g.S.Source.has_ended c.read.new.self ≡ true = c.in-Ok.ensures.ends (ap (λ n. Ok n) c.if-n-eq0.true) in (
       text,
       run.written,
       given_end (g.S.Source.given c.args.source.now) text (g.S.Source.given c.reads.source) (g.S.Source.given c.read.new.self) c.in-Ok.n c.read.new.buf i.1 c.in-Ok.ensures.gives c.if-n-eq0.true,
-      run.told,
-      subst (λ b. AfterWriteFault c.args.index.now (lines_so_far b text) run.written c.carry_out.new.self) (sym ended) run.fault,
+      run.output,
+      subst (λ b. AfterWriteFault c.args.index.now (lines_so_far b text) run.written c.execute_parsed.new.self) (sym ended) run.fault,
     )

@@ -7,8 +7,8 @@ abbrev pub invariant-reads : goal.invariant-reads
 invariant-reads g l = record {
   carried : (text : List ℕ) × (g.S.Source.given l.source ≡ g.S.Source.given l.fn.source ++ text)
       × Carried l.fn.index l.index text l.held.items (g.W.Sink.taken l.fn.sink) (g.W.Sink.taken l.sink);
-  used_up : to_come l.upcoming ≡ [];
-  told : Tells l.fn.index 0 l.index 0;
+  used_up : to_come l.read_ahead ≡ [];
+  counted : Tells l.fn.index 0 l.index 0;
   source_open : g.S.Source.has_failed l.source ≡ false;
   source_goes_on : g.S.Source.has_ended l.source ≡ false;
   sink_open : g.W.Sink.has_failed l.sink ≡ false;

@@ -4,5 +4,5 @@ use Rattle.art_lines.proofs.buffered.write_to.Goals as goal
 pub loop-at-preserved : goal.loop-at-preserved
 loop-at-preserved g c =
     let on = written_on c.args.bytes.now (g.S.Sink.taken c.args.sink.now) (g.S.Sink.taken c.loop-at.sink) (g.S.Sink.taken c.write.new.self) c.loop-at.at c.in-Ok.n
-    c.loop-at.invariant.bound c.loop-at.invariant.told c.in-Ok.ensures.bound c.in-Ok.ensures.takes in
-    record { bound = on.0; told = on.1 }
+    c.loop-at.invariant.bound c.loop-at.invariant.output c.in-Ok.ensures.bound c.in-Ok.ensures.takes in
+    record { bound = on.0; output = on.1 }

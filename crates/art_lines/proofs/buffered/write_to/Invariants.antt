@@ -5,7 +5,7 @@ use Rattle.art_lines.proofs.buffered.write_to.Given as goal
 abbrev pub invariant-loop-at : goal.invariant-loop-at
 invariant-loop-at g l = record {
   bound : l.at ≤ length l.fn.bytes;
-  told : g.S.Sink.taken l.sink ≡ g.S.Sink.taken l.fn.sink ++ take l.at l.fn.bytes;
+  output : g.S.Sink.taken l.sink ≡ g.S.Sink.taken l.fn.sink ++ take l.at l.fn.bytes;
 }
 
 abbrev pub decreases-loop-at : goal.decreases-loop-at

@@ -20,4 +20,4 @@ pub returns : goal.returns
 returns g c =
     let line = puts_then _ _ _ _ _ _ _ _ c.put_text-number.ensures (puts_then _ _ _ _ _ _ _ _ c.put_number-newline.ensures c.put_text-end.ensures) in
     let left = taken_longer _ _ _ _ _ c.in_ok-at.ensures.taken in
-    writes_rest _ _ _ _ _ _ _ (taken_from _ _ _ _ _ (ap (λ t. take c.in_ok-at.at c.args.room.now ++ t) (end_parts c.args.count) ∙ sym line.told) left) c.write_piece.ensures
+    writes_rest _ _ _ _ _ _ _ (taken_from _ _ _ _ _ (ap (λ t. take c.in_ok-at.at c.args.room.now ++ t) (end_parts c.args.count) ∙ sym line.output) left) c.write_piece.ensures

@@ -8,4 +8,4 @@ returns-in_err-write_piece g c =
     (cut_same _ _ _ _ (found_parts c.args.word.now c.args.value.now) (cut_before _ _ _ _ c.in_err-write_piece.ensures.cut))
 
 pub returns : goal.returns
-returns g c = writes_then _ _ _ _ _ _ _ _ c.in_ok-write_piece.ensures.ok (found_parts c.args.word.now c.args.value.now) c.write_behind.ensures
+returns g c = writes_then _ _ _ _ _ _ _ _ c.in_ok-write_piece.ensures.ok (found_parts c.args.word.now c.args.value.now) c.write_last_field.ensures

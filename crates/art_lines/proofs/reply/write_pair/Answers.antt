@@ -8,4 +8,4 @@ returns-in_err-write_bytes g c =
     (cut_same _ _ _ _ (pair_parts c.args.key.now c.args.value.now) (cut_before _ _ _ _ c.in_err-write_bytes.ensures.cut))
 
 pub returns : goal.returns
-returns g c = writes_then _ _ _ _ _ _ _ _ c.in_ok-write_bytes.ensures.ok (pair_parts c.args.key.now c.args.value.now) c.write_behind.ensures
+returns g c = writes_then _ _ _ _ _ _ _ _ c.in_ok-write_bytes.ensures.ok (pair_parts c.args.key.now c.args.value.now) c.write_last_field.ensures

@@ -6,5 +6,5 @@ use Rattle.art_lines.proofs.room.put_each.Given as goal
 abbrev pub invariant-loop-byte : goal.invariant-loop-byte
 invariant-loop-byte l = record {
   place : l.next ≡ l.at + 2 * l.byte-index;
-  told : take l.next l.room ≡ take l.at l.fn.room ++ encode_lower (take l.byte-index l.value);
+  output : take l.next l.room ≡ take l.at l.fn.room ++ encode_lower (take l.byte-index l.value);
 }

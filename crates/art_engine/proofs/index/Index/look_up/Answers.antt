@@ -5,20 +5,20 @@ use Rattle.art_engine.proofs.Terms.{AreRecords, State, command_reply}
 use Rattle.art_engine.proofs.NumberPlaces.{are_in_order}
 use Rattle.art_engine.proofs.index.Index.look_up.Goals as goal
 
-pub returns-clause-told : goal.returns-clause-told
-returns-clause-told g c =
-    let told = c.in_ok-visits.ensures.told _ _ c.of-readers.ensures.bytes c.of-readers.ensures.numbers in
+pub returns-clause-output : goal.returns-clause-output
+returns-clause-output g c =
+    let output = c.in_ok-visits.ensures.output _ _ c.new-readers.ensures.bytes c.new-readers.ensures.numbers in
     record {
-      ok = told.ok ∙ ap (λ (s : State). g.W.Sink.taken c.args.sink.now ++ flat_map line_of (command_reply (Some (looks_up c.args.word c.args.fields.now)) s.records)) c.self.view_is;
+      ok = output.ok ∙ ap (λ (s : State). g.W.Sink.taken c.args.sink.now ++ flat_map line_of (command_reply (Some (looks_up c.args.word c.args.fields.now)) s.records)) c.self.view_is;
       cut = tt;
-      failed = told.failed;
+      failed = output.failed;
     }
 
-pub returns-in_err-visits-clause-told : goal.returns-in_err-visits-clause-told
-returns-in_err-visits-clause-told g c =
-    let told = c.in_err-visits.ensures.told _ _ c.of-readers.ensures.bytes c.of-readers.ensures.numbers in
-    writes_cut _ _ _ _ _ c.from_residual.ensures.0 told.failed
-    (subst (λ (s : State). IsCut (g.W.Sink.taken c.args.sink.now) (g.W.Sink.taken c.answer.new.sink) (flat_map line_of (command_reply (Some (looks_up c.args.word c.args.fields.now)) s.records))) c.self.view_is told.cut)
+pub returns-in_err-visits-clause-output : goal.returns-in_err-visits-clause-output
+returns-in_err-visits-clause-output g c =
+    let output = c.in_err-visits.ensures.output _ _ c.new-readers.ensures.bytes c.new-readers.ensures.numbers in
+    writes_cut _ _ _ _ _ c.from_residual.ensures.0 output.failed
+    (subst (λ (s : State). IsCut (g.W.Sink.taken c.args.sink.now) (g.W.Sink.taken c.execute.new.sink) (flat_map line_of (command_reply (Some (looks_up c.args.word c.args.fields.now)) s.records))) c.self.view_is output.cut)
 
 pub returns-clause-are : goal.returns-clause-are
 returns-clause-are g c = subst AreRecords (ap (λ (s : State). s.records) c.self.view_is) (record {

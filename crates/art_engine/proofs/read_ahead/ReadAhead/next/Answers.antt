@@ -1,0 +1,30 @@
+use Rattle.std.proofs.Common.{◌≡◌, suc, ◌+◌, ◌<◌, length, drop, take, Some, ap, sym, ◌∙◌, arith}
+use Rattle.std.specs.Prelude.{slice_get}
+use Rattle.art_engine.specs.ReadAhead.{line_or}
+use Rattle.art_engine.specs.declared.read_ahead.line.Line.{Line}
+use Rattle.art_engine.proofs.Terms.{read_of}
+use Rattle.art_engine.proofs.LinesAhead.{few_there, found_there, next_there, read_there, counted_after}
+use Rattle.art_engine.proofs.read_ahead.ReadAhead.next.Goals as goal
+
+pub returns-then-at-len-clause-read : goal.returns-then-at-len-clause-read
+returns-then-at-len-clause-read c =
+    let s = c.args.self.now in
+    let fits : s.at < length s.lines.items = let l = c.len.ensures in let i = c.if-at-len.true in omega arith in
+    let n = next_there s.lines.items s.len s.at c.args.line.now c.if-at-self.true fits c.requires.comes in
+    let same : c.index.result.now ≡ n.0 = c.index.ensures ∙ found_there s.lines.items s.at n.0 c.index.result.now n.1 in
+    read_there (slice_get s.lines.items s.at) s.word s.fields c.index.result.now c.args.line.now (n.1 ∙ ap Some (sym same)) (ap (λ (l : Line). l.text.items) same ∙ n.2) c.is_read.ensures.read
+
+pub returns-then-at-len-clause-few : goal.returns-then-at-len-clause-few
+returns-then-at-len-clause-few c =
+    let s = c.args.self.now in
+    let fits : s.at < length s.lines.items = let l = c.len.ensures in let i = c.if-at-len.true in omega arith in
+    let n = next_there s.lines.items s.len s.at c.args.line.now c.if-at-self.true fits c.requires.comes in
+    let same : c.index.result.now ≡ n.0 = c.index.ensures ∙ found_there s.lines.items s.at n.0 c.index.result.now n.1 in
+    few_there (slice_get s.lines.items s.at) c.index.result.now c.args.line.now (n.1 ∙ ap Some (sym same)) (ap (λ (l : Line). l.text.items) same ∙ n.2) c.is_read.ensures.few
+
+pub returns-then-at-len-clause-counted : goal.returns-then-at-len-clause-counted
+returns-then-at-len-clause-counted c =
+    let s = c.args.self.now in
+    let fits : s.at < length s.lines.items = let l = c.len.ensures in let i = c.if-at-len.true in omega arith in
+    let on : s.at + 1 ≡ suc s.at = omega arith in
+    ap (λ n. line_or 0 (λ (l : Line). l.read) (slice_get s.lines.items s.at) + read_of (drop n (take s.len s.lines.items))) on ∙ counted_after s.lines.items s.len s.at c.if-at-self.true fits

@@ -1,0 +1,13 @@
+use Rattle.std.proofs.Common.{◌≡◌, ◌+◌, ◌≤◌, length}
+use Rattle.art_arena.proofs.Common.{count_of}
+use Rattle.art_engine.proofs.Terms.{read_of, texts_of}
+use Rattle.art_engine.proofs.read_ahead.step_each.Given as goal
+
+-- what the lines count is what was counted so far
+abbrev pub invariant-lines : goal.invariant-lines
+invariant-lines g l = record {
+  long : length l.lines ≡ length l.fn.lines;
+  within : l.at-end ≤ length l.fn.lines;
+  counted : read_of l.lines + count_of l.fn.reader.reader ≡ read_of l.fn.lines + count_of l.reader.reader;
+  texts : texts_of l.lines ≡ texts_of l.fn.lines;
+}

@@ -1,9 +1,0 @@
-use Rattle.std.specs.Map.Iter.{deref_pair}
-use Rattle.art_engine.proofs.SpanLemmas.{span_next, span_ended}
-use Rattle.art_engine.proofs.together.MapReaderVecU8GivesPairsReadSpan.give.Goals as goal
-
-pub returns-clause-gives : goal.returns-clause-gives
-returns-clause-gives g c = span_next deref_pair _ _ _ _ _ c.next.ensures.first c.next.ensures.end c.requires.place
-
-pub returns-clause-ended : goal.returns-clause-ended
-returns-clause-ended g c = span_ended deref_pair _ _ _ _ _ c.next.ensures.first c.next.ensures.end c.requires.place

@@ -1,0 +1,216 @@
+//! A line that is parsed before its turn, and how far the path of its key is descended.
+ghost use Rattle.std.specs.Prelude.{◌≡◌, ◌+◌, ◌<◌, ◌≤◌, true, IsTrue, IfSome, drop, length, option_map};
+ghost use Rattle.std.specs.Prelude.{Some, nat_eq};
+ghost use Rattle.art_arena.specs.arena.Visited.{count_of};
+ghost use Rattle.art_arena.specs.arena.Descents.{GoesOn};
+ghost use Rattle.std.specs.List.{starts_with};
+ghost use Rattle.art_lines.specs.Parsed.{command_with};
+ghost use Rattle.art_lines.specs.Reading.{command_of};
+ghost use Rattle.art_engine.specs.Ahead.{path_ahead, most_ahead, IsStepAhead};
+
+use crate::read_ahead::path_reader::PathReader;
+use crate::read_ahead::{ParsedLine, Roots};
+use arrayvec::ArrayVec;
+use art_arena::{InnerRef, NextStep};
+use art_lines::command::fields::Fields;
+use art_lines::command::read_line;
+use art_lines::command::word::{Change, LookUp, Word};
+use art_nodes::{LeafNode, OpaqueNodePtr};
+
+/// The longest line that is read before its turn.
+pub(crate) const SHORT: usize = 256;
+
+/// Room for a full key of such a line.
+pub(crate) const KEY: usize = 132;
+
+/// A line that is parsed before its turn. It has the node that comes next on the path of its key, how many bytes of the
+/// key lead there, how many nodes were read, and how many may be still. Of a line that has a path the key is that of
+/// its command.
+#[derive(Drop)]
+pub(crate) struct Line {
+    text: ArrayVec<u8, SHORT>,
+    word: Option<Word>,
+    fields: Fields,
+    key: ArrayVec<u8, KEY>,
+    of_number: bool,
+    node: OpaqueNodePtr,
+    depth: usize,
+    read: u64,
+    left: u64,
+    ghost spelled: { option_map (λ word. command_with word fields) word ≡ command_of text.items },
+    ghost few: { read + left ≤ most_ahead (command_of text.items) },
+    ghost small: { read + left ≤ 133 },
+    ghost path: { 0 < read + left → path_ahead (command_of text.items) ≡ Some key.items },
+}
+
+/// The child to which a key goes on from an inner node after so many of its bytes. It goes no further where it doesn't
+/// meet the prefix, as much of it as is stored.
+#[inline(always)]
+fn next_of<K, const PREFIX_LEN: usize>(
+    inner: &InnerRef<'_, K, Vec<u8>, PREFIX_LEN>,
+    key: &[u8],
+    depth: usize,
+) -> Option<NextStep>
+    ensures goes { IfSome result (λ step. GoesOn key.now depth inner.now.node step.byte step.child step.depth) }
+    ensures meets { IfSome result (λ step.
+        starts_with nat_eq (drop depth key.now) inner.now.node.header.stored ≡ true) }
+{
+    if depth > key.len() {
+        return None;
+    }
+    let rest = &key[depth..];
+    if !rest.starts_with(inner.read_prefix()) {
+        return None;
+    }
+    inner.next_step(key, depth)
+}
+
+/// Sets a key to these bytes, and returns whether there is room for them.
+fn set_key(key: &mut ArrayVec<u8, KEY>, bytes: &[u8]) -> bool
+    ensures { IsTrue result → key.new.items ≡ bytes.now }
+{
+    key.clear();
+    key.try_extend_from_slice(bytes).is_ok()
+}
+
+/// Sets a key to the one whose path is prefetched for a command, and returns whether there is one and it is short.
+fn set_path_key(word: Word, fields: &Fields, key: &mut ArrayVec<u8, KEY>) -> bool
+    ensures { IsTrue result → path_ahead (Some (command_with word fields.now)) ≡ Some key.new.items }
+{
+    match word {
+        Word::LookUp(LookUp::Get) => set_key(key, fields.full_key()),
+        Word::LookUp(LookUp::Find) => set_key(key, fields.full_key()),
+        Word::LookUp(LookUp::List) => set_key(key, fields.full_key()),
+        Word::LookUp(LookUp::Span) => {
+            !fields.value().cmp(fields.key()).is_lt() && set_key(key, fields.full_key())
+        }
+        Word::LookUp(LookUp::NGet) => set_key(key, &fields.number_key()),
+        Word::LookUp(LookUp::NSpan) => {
+            fields.number() <= fields.bound() && set_key(key, &fields.number_key())
+        }
+        Word::Change(Change::Over) => set_key(key, fields.full_key()),
+        Word::Change(Change::Del) => set_key(key, fields.full_key()),
+        Word::Change(Change::NDel) => set_key(key, &fields.number_key()),
+        Word::Change(Change::Put) => false,
+        Word::Change(Change::NPut) => false,
+        Word::Whole(_) => false,
+        Word::Drop => false,
+    }
+}
+
+/// Whether a word asks for something under a number.
+fn is_of_number(word: Word) -> bool {
+    matches!(
+        word,
+        Word::LookUp(LookUp::NGet | LookUp::NSpan) | Word::Change(Change::NDel)
+    )
+}
+
+impl Line {
+    /// The empty line.
+    pub(crate) fn new() -> Self {
+        let text: ArrayVec<u8, SHORT> = ArrayVec::new();
+        let mut fields = Fields::new();
+        let word = read_line(text.as_slice(), &mut fields);
+        Line {
+            text,
+            word,
+            fields,
+            key: ArrayVec::new(),
+            of_number: false,
+            node: OpaqueNodePtr::default(),
+            depth: 0,
+            read: 0,
+            left: 0,
+        }
+    }
+
+    /// Reads a line that is short. Its path begins at the root of a map that is given, if any.
+    pub(crate) fn read(&mut self, text: &[u8], roots: &Roots)
+        ensures none { self.new.read ≡ 0 }
+        ensures text { length text.now ≤ 256 → self.new.text.items ≡ text.now }
+    {
+        self.text.clear();
+        let _ = self.text.try_extend_from_slice(text);
+        self.word = read_line(self.text.as_slice(), &mut self.fields);
+        self.read = 0;
+        self.left = 0;
+        self.depth = 0;
+        let Some(word) = self.word else {
+            return;
+        };
+        self.of_number = is_of_number(word);
+        let Some(root) = roots.of(self.of_number) else {
+            return;
+        };
+        if set_path_key(word, &self.fields, &mut self.key) {
+            self.node = root;
+            self.left = self.key.len() as u64 + 1;
+        }
+    }
+
+    /// A law, which does nothing: what it asks for is what its bytes spell, and no more was read ahead than may be.
+    pub(crate) fn is_read(&self)
+        ensures read { option_map (λ word. command_with word self.now.fields) self.now.word
+            ≡ command_of self.now.text.items }
+        ensures few { self.now.read ≤ most_ahead (command_of self.now.text.items) }
+    {}
+
+    /// Returns it parsed.
+    pub(crate) fn parsed(&self) -> ParsedLine<'_>
+        ensures word { result.word ≡ self.now.word }
+        ensures fields { result.fields.now ≡ self.now.fields }
+        ensures own { result.ahead ≡ self.now.read }
+    {
+        ParsedLine {
+            word: self.word,
+            fields: &self.fields,
+            ahead: self.read,
+        }
+    }
+
+    /// Whether its path goes on in the map of numbers, or in that of keys.
+    #[inline(always)]
+    pub(crate) fn goes_on(&self, of_number: bool) -> bool {
+        self.left != 0 && self.of_number == of_number
+    }
+
+    /// Reads the next node of the path, if there is one, and returns it if it is a leaf.
+    #[inline(always)]
+    pub(crate) fn step<'a, K, const PREFIX_LEN: usize>(
+        &mut self,
+        reader: &mut PathReader<'a, K, PREFIX_LEN>,
+    ) -> Option<&'a LeafNode<K, Vec<u8>>>
+        ensures counted { self.new.read + count_of reader.old.reader ≡ self.old.read + count_of reader.new.reader }
+        ensures one { self.new.read ≤ self.old.read + 1 }
+        ensures along { IsStepAhead reader.old.arena.now self.old.key.items (self.old.node, self.old.depth)
+            (self.new.node, self.new.depth) }
+        ensures text { self.new.text.items ≡ self.old.text.items }
+    {
+        if self.left == 0 {
+            return None;
+        }
+        let Some(node) = reader.visit(self.node) else {
+            self.left = 0;
+            return None;
+        };
+        self.left -= 1;
+        self.read += 1;
+        match node.leaf() {
+            Ok(leaf) => {
+                self.left = 0;
+                Some(leaf)
+            }
+            Err(inner) => {
+                match next_of(&inner, self.key.as_slice(), self.depth) {
+                    Some(next) => {
+                        self.node = next.child;
+                        self.depth = next.depth;
+                    }
+                    None => self.left = 0,
+                }
+                None
+            }
+        }
+    }
+}
