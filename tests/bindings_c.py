@@ -22,8 +22,8 @@ TOP = os.path.dirname(os.path.dirname(os.path.abspath(__file__)))
 WARNINGS = ["-Wall", "-Wextra", "-Werror", "-g"]
 EXAMPLES = ("films", "routes")
 STEPS, SCRIPTS = 400, 40
-CALLS = 31  # of tests/bindings_refused.c
-TAKE_NO_MEMORY = {2, 14, 24, 25, 26, 27, 28, 29, 30}
+CALLS = 35  # of tests/bindings_refused.c
+TAKE_NO_MEMORY = {2, 14, 24, 25, 26, 27, 28, 29, 30, 34}
 COPY_A_KEY_IN_CONFLICT = {21, 23}  # where memory for it is refused, the conflict is told all the same
 TALLY = {True: 0, False: 0}
 

@@ -226,6 +226,38 @@ class Beside:
             del self.model.pairs[it]
         return (got[0], count.value), (DONE, len(gone))
 
+    def take_prefix(self):
+        if self.kind == "bytes":
+            return self.remove_prefix()
+        key, places, count = some_bytes(self.rng, 6)[:self.rng.randint(0, 2)], self.rng.choice([0, 1, 2, 5, 20]), ctypes.c_size_t(UNTOLD)
+        words, refused = (ctypes.c_uint64 * 20)(*[UNTOLD] * 20), self.code(True)
+        code = self.call("take_prefix", *arg(key), words, ctypes.c_size_t(places), ctypes.byref(count))
+        if refused is not None:
+            return (code, count.value, words[:]), (refused, UNTOLD, [UNTOLD] * 20)
+        with_it = sorted(it for it in self.model.pairs if it.startswith(key))
+        told = [self.model.pairs.pop(it) for it in with_it[:places]]
+        wanted = (MORE if len(with_it) > places else DONE) if told else NO_ROOM if with_it else NOT_FOUND
+        return (code, count.value, words[:]), (wanted, len(told), told + [UNTOLD] * (20 - len(told)))
+
+    def get_many(self):
+        """Some keys are looked up, in any order; at times the bytes end too early."""
+        if self.kind == "bytes":
+            return self.get()
+        keys = [self.some_key() for _ in range(self.rng.choice([0, 1, 3, 6]))]
+        held = b"".join(keys)
+        held = held[:self.rng.randint(0, len(held))] if self.rng.random() < 0.2 else held + b"more" * self.rng.randint(0, 1)
+        asked = [(len(it), UNTOLD) for it in keys] + [(777, 888)]
+        items, flags, told = (Pair * len(asked))(*asked), (ctypes.c_uint8 * 7)(*[FILL] * 7), ctypes.c_size_t(UNTOLD)
+        code = self.call("get_many", *arg(held), items, flags, ctypes.c_size_t(len(keys)), ctypes.byref(told))
+        got = code, told.value, [(it.key_len, it.told) for it in items], flags[:]
+        if self.model is None:
+            return got, (NO_MAP, UNTOLD, asked, [FILL] * 7)
+        whole = [at for at in range(len(keys)) if len(b"".join(keys[:at + 1])) <= len(held)]
+        words = [self.model.pairs.get(keys[at]) for at in whole]
+        found = [(len(keys[at]), UNTOLD if word is None else word) for at, word in zip(whole, words)]
+        return got, (DONE if len(whole) == len(keys) else CUT_OFF, len(whole), found + asked[len(whole):],
+                     [word is not None for word in words] + [FILL] * (7 - len(whole)))
+
     def ends(self):
         name, key = self.rng.choice([*ENDS, "find"]), self.some_key()
         if name.endswith("prefix"):
@@ -336,6 +368,36 @@ class Beside:
         getattr(self.lib, f"artmap_{self.kind}_free")(ctypes.byref(other))
         return (code, counts), (DONE, tuple(map(len, parts)))
 
+    def contents(self):
+        """All pairs, by a walk."""
+        room, pairs, count = (ctypes.c_uint8 * 4096)(), (Pair * 64)(), ctypes.c_size_t(0)
+        self.call("walk", ctypes.byref(Span()), room, ctypes.c_size_t(4096), pairs, ctypes.c_size_t(64), ctypes.byref(count))
+        found, at = [], 0
+        for it in pairs[:count.value]:
+            key, at = bytes(room[at:at + it.key_len]), at + it.key_len
+            size = 0 if self.kind == "words" else it.told
+            found.append((key, bytes(room[at:at + size]) if self.kind == "bytes" else it.told))
+            at += size
+        return found
+
+    def append(self):
+        """The pairs of another map move into it, up to the first that is refused; at times there is none, or it is frozen."""
+        other = Beside(self.lib, self.kind, self.rng)
+        if self.rng.random() < 0.9:
+            other.call("new")
+            other.model = Model()
+            for _ in range(self.rng.choice([0, 1, 4, 9])):
+                other.put()
+            other.model.is_frozen = self.rng.random() < 0.1 and other.call("freeze") == DONE
+        code, pairs = self.call("append", ctypes.byref(other.handle)), sorted(other.model.pairs.items()) if other.model else []
+        wanted = self.code(True) if self.code(True) is not None else other.code(True)
+        if wanted is None:
+            wanted, moved = self.model.load(pairs, 10 ** 6)
+            pairs = pairs[moved:]
+        left = other.contents()
+        other.call("free")
+        return (code, left), (wanted, pairs)
+
     def freeze(self):
         """The map is frozen, shared, read by the other handle, and mostly thawed again."""
         other, code = Handle(), self.call("freeze")
@@ -359,7 +421,7 @@ class Beside:
     def step(self):
         """One call at random, and what is wrong with it, if anything is."""
         name = self.rng.choice(["put"] * 8 + ["get", "get", "ends", "ends", "ends", "remove", "remove_prefix",
-                                              "audit", "load", "walk", "walk", "walk_words", "room", "copy", "part", "freeze",
+                                              "take_prefix", "get_many", "append", "audit", "load", "walk", "walk", "walk_words", "room", "copy", "part", "freeze",
                                               "thaw", "thaw", "new"])
         if name == "new" and self.rng.random() < 0.9:
             name = "put"

@@ -11,6 +11,7 @@ static int words(void) {
     artmap_words_pair pairs[2] = {{7, 7}, {7, 7}};
     artmap_span all = {0}, from_none = {.from = ARTMAP_FROM_KEY};
     uint64_t word = 9;
+    uint8_t found[2] = {9, 9};
     size_t len = 9, count = 9;
     if (artmap_words_new(&map) != ARTMAP_DONE) return 1;
     if (artmap_words_put(&map, NULL, 0, 5, NULL) != ARTMAP_DONE || artmap_words_len(&map) != 1) return 2;
@@ -29,6 +30,14 @@ static int words(void) {
     if (artmap_words_load(&map, NULL, 0, NULL, 0, &count) != ARTMAP_DONE || count != 0) return 17;
     if (artmap_words_remove_prefix(&map, NULL, 0, NULL) != ARTMAP_DONE) return 18;
     if (artmap_words_split_off(&map, NULL, 0, &other) != ARTMAP_DONE || artmap_words_len(&other) != 0) return 19;
+    if (artmap_words_get_many(&map, NULL, 0, NULL, NULL, 0, &count) != ARTMAP_DONE || count != 0) return 41;
+    if (artmap_words_take_prefix(&map, NULL, 0, NULL, 0, &count) != ARTMAP_NOT_FOUND || count != 0) return 42;
+    if (artmap_words_put(&other, NULL, 0, 5, NULL) != ARTMAP_DONE) return 43;
+    if (artmap_words_take_prefix(&other, NULL, 0, NULL, 0, NULL) != ARTMAP_NO_ROOM) return 44;
+    if (artmap_words_append(&map, &other) != ARTMAP_DONE || artmap_words_len(&map) != 1) return 45;
+    pairs[0] = pairs[1] = (artmap_words_pair){0, 7};
+    if (artmap_words_get_many(&map, NULL, 0, pairs, found, 2, NULL) != ARTMAP_DONE || pairs[1].word != 5 || !found[1]) return 46;
+    if (artmap_words_take_prefix(&map, NULL, 0, &word, 1, NULL) != ARTMAP_DONE || word != 5) return 47;
     artmap_words_free(&other);
     artmap_words_free(&map);
     return artmap_words_get(&map, NULL, 0, &word) == ARTMAP_NO_MAP ? 0 : 20;

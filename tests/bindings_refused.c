@@ -4,7 +4,8 @@
  *                          they were
  *
  * Where memory was refused the call is made once more, outside the window, and must do what it does in a free run. Of a
- * load, the map is to be as it was with those pairs put in that were told as taken.
+ * load, the map is to be as it was with those pairs put in that were told as taken; of an append, with those that have left
+ * the other map.
  */
 #include "artmap.h"
 
@@ -13,7 +14,7 @@
 #include <string.h>
 #include <unistd.h>
 
-enum { PAIRS = 11, MOST = 64, PLACES = 4, LOADS = 20 };
+enum { PAIRS = 11, MOST = 64, PLACES = 4, LOADS = 20, APPENDS = 31 };
 
 /* Below `a` there is a node for five, of which a loss makes one for four; the four others leave no spare one for that. */
 static const char *const keys[PAIRS] = {"aa", "ab", "ac", "ad", "ae", "b0", "b1", "c0", "c1", "d0", "d1"};
@@ -36,24 +37,38 @@ static artmap_code put_both(struct maps *maps, const char *key, const char *valu
     return code > ARTMAP_REPLACED ? code : artmap_bytes_put(&maps->bytes, key, strlen(key), value, strlen(value));
 }
 
-/* The sum of all pairs of both maps in order, by walks. */
-static unsigned long sum(struct maps *maps) {
+/* The pairs of a load or of the other map of an append, and whether the call is one of words. */
+static const char *const (*given(int which))[2] { return loads[which < APPENDS ? (which - LOADS) % 2 : 0]; }
+static int is_of_words(int which) { return which < LOADS + 2 || which == APPENDS; }
+
+static artmap_code put_given(artmap_words *words, artmap_bytes *bytes, int which, size_t i) {
+    const char *const *pair = given(which)[i];
+    return is_of_words(which) ? artmap_words_put(words, pair[0], strlen(pair[0]), word_of(pair[1]), NULL)
+                              : artmap_bytes_put(bytes, pair[0], strlen(pair[0]), pair[1], strlen(pair[1]));
+}
+
+/* The sum of all pairs of two maps in order, by walks. */
+static unsigned long sum_of(artmap_words *words_map, artmap_bytes *bytes_map) {
     unsigned char room[1024];
     artmap_words_pair words[MOST];
     artmap_bytes_pair bytes[MOST];
     artmap_span all = {0};
     size_t count = 0, more = 0, at = 0;
     unsigned long made = 17;
-    artmap_words_walk(&maps->words, &all, room, sizeof room, words, MOST, &count);
+    artmap_words_walk(words_map, &all, room, sizeof room, words, MOST, &count);
     for (size_t i = 0; i < count; i++) {
         for (size_t end = at + words[i].key_len; at < end; at++) made = made * 31 + room[at];
         made = made * 37 + words[i].word;
     }
     at = 0;
-    artmap_bytes_walk(&maps->bytes, &all, room, sizeof room, bytes, MOST, &more);
+    artmap_bytes_walk(bytes_map, &all, room, sizeof room, bytes, MOST, &more);
     for (size_t i = 0; i < more; i++)
         for (size_t end = at + bytes[i].key_len + bytes[i].value_len; at < end; at++) made = made * 41 + room[at];
-    return made * 2 + artmap_words_is_frozen(&maps->words) + artmap_bytes_is_frozen(&maps->bytes) + count + more;
+    return made * 2 + artmap_words_is_frozen(words_map) + artmap_bytes_is_frozen(bytes_map) + count + more;
+}
+
+static unsigned long sum(struct maps *maps) {
+    return sum_of(&maps->words, &maps->bytes) * 43 + sum_of(&maps->other_words, &maps->other_bytes);
 }
 
 static artmap_code load(struct maps *maps, int is_words, const char *const pairs[PLACES][2], size_t *taken) {
@@ -67,6 +82,13 @@ static artmap_code load(struct maps *maps, int is_words, const char *const pairs
     }
     return is_words ? artmap_words_load(&maps->words, room, strlen(room), words, PLACES, taken)
                     : artmap_bytes_load(&maps->bytes, room, strlen(room), bytes, PLACES, taken);
+}
+
+static artmap_code append(struct maps *maps, int which, size_t *moved) {
+    artmap_code code = is_of_words(which) ? artmap_words_append(&maps->words, &maps->other_words)
+                                          : artmap_bytes_append(&maps->bytes, &maps->other_bytes);
+    *moved = PLACES - artmap_words_len(&maps->other_words) - artmap_bytes_len(&maps->other_bytes);
+    return code;
 }
 
 static artmap_code call(struct maps *maps, int which, size_t *taken) {
@@ -100,10 +122,7 @@ static artmap_code call(struct maps *maps, int which, size_t *taken) {
     case 17: return artmap_bytes_split_off(bytes, "b1", 2, &maps->other_bytes);
     case 18: return artmap_bytes_freeze(bytes);
     case 19: return artmap_words_put(words, "aa", 2, 1, NULL);
-    case 20: return load(maps, 1, loads[0], taken);
-    case 21: return load(maps, 1, loads[1], taken);
-    case 22: return load(maps, 0, loads[0], taken);
-    case 23: return load(maps, 0, loads[1], taken);
+    case 20: case 21: case 22: case 23: return load(maps, is_of_words(which), given(which), taken);
     case 24: return artmap_words_walk(words, &span, room, MOST, pairs, PLACES, &count);
     case 25: return artmap_bytes_walk(bytes, &back, room, MOST, lens, PLACES, &count);
     case 26: return artmap_words_find(words, "aex", 3, &len, many);
@@ -111,22 +130,26 @@ static artmap_code call(struct maps *maps, int which, size_t *taken) {
     case 28: return artmap_words_walk_words(words, &back, many, PLACES, &count);
     case 29: return artmap_words_clear(words);
     case 30: return artmap_words_thaw(words);
+    case 31: case 32: return append(maps, which, taken);
+    case 33: return artmap_words_take_prefix(words, "a", 1, many, PLACES, &count);
+    case 34:
+        pairs[0] = pairs[1] = (artmap_words_pair){2, 0};
+        return artmap_words_get_many(words, "aaab", 4, pairs, (uint8_t *)room, 2, &count);
     default: exit(3);
     }
 }
 
-/* Both maps with the pairs, and the first of those that a load puts in. */
+/* Both maps with the pairs, and the first of those that a load or an append puts in; the others of an append. */
 static void make(struct maps *maps, int which, size_t taken) {
     if (artmap_words_new(&maps->words) != ARTMAP_DONE || artmap_bytes_new(&maps->bytes) != ARTMAP_DONE) exit(3);
     for (int i = 0; i < PAIRS; i++)
         if (put_both(maps, keys[i], "value") != ARTMAP_DONE) exit(3);
-    for (size_t i = 0; i < taken; i++) {
-        const char *const *pair = loads[(which - LOADS) % 2][i];
-        artmap_code code = which < LOADS + 2
-            ? artmap_words_put(&maps->words, pair[0], strlen(pair[0]), word_of(pair[1]), NULL)
-            : artmap_bytes_put(&maps->bytes, pair[0], strlen(pair[0]), pair[1], strlen(pair[1]));
-        if (code > ARTMAP_REPLACED) exit(3);
-    }
+    for (size_t i = 0; i < taken; i++)
+        if (put_given(&maps->words, &maps->bytes, which, i) > ARTMAP_REPLACED) exit(3);
+    if (which != APPENDS && which != APPENDS + 1) return;
+    if ((is_of_words(which) ? artmap_words_new(&maps->other_words) : artmap_bytes_new(&maps->other_bytes)) != ARTMAP_DONE) exit(3);
+    for (size_t i = taken; i < PLACES; i++)
+        if (put_given(&maps->other_words, &maps->other_bytes, which, i) != ARTMAP_DONE) exit(3);
 }
 
 static void free_all(struct maps *maps) {

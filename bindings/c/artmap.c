@@ -68,6 +68,8 @@ const char *artmap_code_text(artmap_code code) {
     artmap_code artmap_##KIND##_split_off(KIND *map, const void *key, size_t key_len, KIND *to) {                         \
         return KIND##_split_off(map, IN(key), key_len, to);                                                               \
     }                                                                                                                     \
+    code KIND##_append(KIND *, KIND *);                                                                                   \
+    artmap_code artmap_##KIND##_append(KIND *map, KIND *other) { return KIND##_append(map, other); }                      \
     code KIND##_reserve(KIND *, size_t);                                                                                  \
     artmap_code artmap_##KIND##_reserve(KIND *map, size_t additional) { return KIND##_reserve(map, additional); }         \
     code KIND##_shrink(KIND *);                                                                                           \
@@ -169,6 +171,21 @@ artmap_code artmap_words_load(words *map, const void *keys, size_t keys_len, con
                               size_t *taken) {
     size_t unwanted;
     return words_load(map, IN(keys), keys_len, ITEMS(const artmap_words_pair, pairs), count, TOLD(taken));
+}
+
+code words_get_many(words *, in, size_t, artmap_words_pair *, size_t, uint8_t *, size_t, size_t *);
+artmap_code artmap_words_get_many(words *map, const void *keys, size_t keys_len, artmap_words_pair *pairs, uint8_t *found,
+                                  size_t count, size_t *told) {
+    size_t unwanted;
+    return words_get_many(map, IN(keys), keys_len, PLACES(artmap_words_pair, pairs), count, OTHER_OUT(found), count,
+                          TOLD(told));
+}
+
+code words_take_prefix(words *, in, size_t, uint64_t *, size_t, size_t *);
+artmap_code artmap_words_take_prefix(words *map, const void *prefix, size_t prefix_len, uint64_t *told, size_t places,
+                                     size_t *count) {
+    size_t unwanted;
+    return words_take_prefix(map, IN(prefix), prefix_len, PLACES(uint64_t, told), places, TOLD(count));
 }
 
 /* Bytes. */

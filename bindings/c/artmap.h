@@ -226,6 +226,22 @@ artmap_code artmap_words_walk_words(artmap_words *map, const artmap_span *span, 
 artmap_code artmap_words_load(artmap_words *map, const void *keys, size_t keys_len, const artmap_words_pair *pairs,
                               size_t count, size_t *taken);
 
+/* Looks `count` keys up, which stand in `keys` end to end, as a get would: pairs[i] has the length of a key, and gets its
+ * word; found[i] is then 1. Where no pair has the key found[i] is 0, and pairs[i] keeps its word. `told` tells how many
+ * were looked up; what is behind them in both is left alone. The keys need not ascend.
+ * ARTMAP_DONE: all were; ARTMAP_CUT_OFF: those before the first that the bytes end in. */
+artmap_code artmap_words_get_many(artmap_words *map, const void *keys, size_t keys_len, artmap_words_pair *pairs,
+                                  uint8_t *found, size_t count, size_t *told);
+
+/* Takes out pairs whose keys begin with a prefix, from the least key on, and copies their words out in order, until there
+ * is no such pair or no place. All other pairs stay. `count` tells how many went. So words that point to something can be
+ * freed: free what the `count` words of a call point to, and call again as long as it answers ARTMAP_MORE.
+ * ARTMAP_DONE: no other key begins with it; ARTMAP_MORE: others are left; ARTMAP_NOT_FOUND: none began with it;
+ * ARTMAP_NO_ROOM: some do, and there is no place; ARTMAP_NO_MEMORY: the next pair stays, and those behind it, since a node
+ * was to become a smaller one; `count` is told as ever. */
+artmap_code artmap_words_take_prefix(artmap_words *map, const void *prefix, size_t prefix_len, uint64_t *words,
+                                     size_t places, size_t *count);
+
 /* Makes a copy of the map in another handle, whose map is freed. The copy is not frozen.
  * ARTMAP_DONE; ARTMAP_NO_MEMORY: the other handle has what it had. */
 artmap_code artmap_words_clone(artmap_words *map, artmap_words *to);
@@ -234,12 +250,20 @@ artmap_code artmap_words_clone(artmap_words *map, artmap_words *to);
  * ARTMAP_DONE; ARTMAP_NO_MEMORY: both handles have what they had. */
 artmap_code artmap_words_split_off(artmap_words *map, const void *key, size_t key_len, artmap_words *to);
 
-/* Allocates the nodes of so many more insertions, whatever their keys are: some kilobytes for each. It serves a few
- * insertions that must find memory for their nodes. A key's own bytes are still allocated as it goes in.
- * ARTMAP_DONE; ARTMAP_NO_MEMORY. */
+/* Moves all pairs of another map into this one, in ascending order: each as a put would, so a stored key gets the moved
+ * word. It stops at the first that is refused: the pairs before it have moved, and it is still in the other map with those
+ * behind it. So a second call goes on from there. The words that are replaced are not told.
+ * ARTMAP_DONE: the other map is empty; ARTMAP_CONFLICT: of the other map's least key; ARTMAP_NO_MEMORY; ARTMAP_NO_MAP,
+ * ARTMAP_FROZEN: of either map. Where this map is empty it is ARTMAP_DONE, and no memory is asked for. */
+artmap_code artmap_words_append(artmap_words *map, artmap_words *other);
+
+/* Allocates the nodes of so many more insertions, whatever their keys are: some kilobytes for each. As many insertions then
+ * take no memory for nodes, so it serves a few that must find it. A key's own bytes are still allocated as it goes in.
+ * ARTMAP_DONE: there is room for so many; always where there was; ARTMAP_NO_MEMORY. */
 artmap_code artmap_words_reserve(artmap_words *map, size_t additional);
 
-/* Gives memory back: of each kind of node, what lies behind the last one that is used.
+/* Gives memory back: of each kind of node, what lies behind the last one that is used. No node moves, so no map with these
+ * nodes in their places has less memory for them.
  * ARTMAP_DONE. */
 artmap_code artmap_words_shrink(artmap_words *map);
 
@@ -333,6 +357,7 @@ artmap_code artmap_bytes_load(artmap_bytes *map, const void *bytes, size_t bytes
 
 artmap_code artmap_bytes_clone(artmap_bytes *map, artmap_bytes *to);
 artmap_code artmap_bytes_split_off(artmap_bytes *map, const void *key, size_t key_len, artmap_bytes *to);
+artmap_code artmap_bytes_append(artmap_bytes *map, artmap_bytes *other);
 artmap_code artmap_bytes_reserve(artmap_bytes *map, size_t additional);
 artmap_code artmap_bytes_shrink(artmap_bytes *map);
 artmap_code artmap_bytes_clear(artmap_bytes *map);

@@ -10,23 +10,17 @@ use Rattle.art_c.specs.declared.handle.kept.Kept.TheVariants as kept
 use Rattle.art_c.specs.declared.handle.store.Store.{Store}
 use Rattle.art_c.specs.declared.handle.store.Store.TheVariants.{Words, Bytes}
 
-module _ {V X : Type 0} (view : Option Store → Option (MapState V)) (o new : Option Store) (x : X) (n : ℕ) where
+module _ {V X : Type 0} (view : Option Store → Option (MapState V)) (o new : Option Store) (x : X) where
   -- no map of this kind is there
-  none : (Fits : MapState V → X → Code → MapState V → X → Type 0) → n ≡ code_number NoMap → view o ≡ None → new ≡ o
-      → (code : Code) × (n ≡ code_number code) × OnMade Fits (view o) x code (view new) x
-  none Fits e f same =
-      (NoMap, e, subst (λ z. OnMade Fits z x NoMap (view new) x) (sym f) (refl, ap view same ∙ f, refl))
+  none : (Fits : MapState V → X → Code → MapState V → X → Type 0) → view o ≡ None → new ≡ o
+      → OnMade Fits (view o) x NoMap (view new) x
+  none Fits f same = subst (λ z. OnMade Fits z x NoMap (view new) x) (sym f) (refl, ap view same ∙ f, refl)
 
   -- it is frozen
-  is_shut : (Fits : Pairs V → X → Code → Pairs V → X → Type 0) (pairs : Pairs V) → n ≡ code_number Frozen
-      → view o ≡ Some (shut pairs) → new ≡ o
-      → (code : Code) × (n ≡ code_number code) × OnMade (Changes Fits) (view o) x code (view new) x
-  is_shut Fits pairs e f same = (
-    Frozen,
-    e,
-    subst (λ z. OnMade (Changes Fits) z x Frozen (view new) x) (sym f)
-        (shut pairs, ap view same ∙ f, (refl, refl, refl)),
-  )
+  is_shut : (Fits : Pairs V → X → Code → Pairs V → X → Type 0) (pairs : Pairs V) → view o ≡ Some (shut pairs) → new ≡ o
+      → OnMade (Changes Fits) (view o) x Frozen (view new) x
+  is_shut Fits pairs f same =
+      subst (λ z. OnMade (Changes Fits) z x Frozen (view new) x) (sym f) (shut pairs, ap view same ∙ f, (refl, refl, refl))
 
 -- what is answered where the map is read
 module _ {V X : Type 0} (view : Option Store → Option (MapState V)) (o new : Option Store) (x y : X) (n : ℕ) where
@@ -51,50 +45,78 @@ module _ {X : Type 0} (o new : Option Store) (x y : X) (n : ℕ) (code : Code) (
       read byte_map_in o new x y n Fits (state_of it) code e (ap byte_map_in (f ∙ ap Some (sym same ∙ is))) (g ∙ sym f)
       (subst (λ ps. Fits ps x code y) known fit)
 
-module _ {X : Type 0} (o new : Option Store) (x : X) (n : ℕ) where
+module _ {X : Type 0} (o new : Option Store) (x : X) where
   -- a call of words
+  module _ (Fits : MapState ℕ → X → Code → MapState ℕ → X → Type 0) where
+    pub none_of_words : o ≡ None → new ≡ None → OnMade Fits (word_map_in o) x NoMap (word_map_in new) x
+    none_of_words f g = none word_map_in o new x Fits (ap word_map_in f) (g ∙ sym f)
+
+    pub bytes_instead : (s t : Store) (it : Kept (List ℕ)) → o ≡ Some t → new ≡ Some s → s ≡ Bytes it → s ≡ t
+        → OnMade Fits (word_map_in o) x NoMap (word_map_in new) x
+    bytes_instead s t it f g is same =
+        none word_map_in o new x Fits (ap word_map_in (f ∙ ap Some (sym same ∙ is))) (g ∙ ap Some same ∙ sym f)
+
+  pub words_frozen : (Fits : Pairs ℕ → X → Code → Pairs ℕ → X → Type 0) (s t : Store) (it : Kept ℕ) (shared : _)
+      → it ≡ kept.Frozen shared → o ≡ Some t → new ≡ Some (Words it) → s ≡ Words it → s ≡ t
+      → OnMade (Changes Fits) (word_map_in o) x Frozen (word_map_in new) x
+  words_frozen Fits s t it shared known f g is same =
+      is_shut word_map_in o new x Fits shared.value.map.pairs (ap word_map_in (f ∙ ap Some (sym same ∙ is ∙ ap Words known)))
+      (g ∙ ap Some (sym is ∙ same) ∙ sym f)
+
+  -- and one of bytes
+  module _ (Fits : MapState (List ℕ) → X → Code → MapState (List ℕ) → X → Type 0) where
+    pub none_of_bytes : o ≡ None → new ≡ None → OnMade Fits (byte_map_in o) x NoMap (byte_map_in new) x
+    none_of_bytes f g = none byte_map_in o new x Fits (ap byte_map_in f) (g ∙ sym f)
+
+    pub words_instead : (s t : Store) (it : Kept ℕ) → o ≡ Some t → new ≡ Some s → s ≡ Words it → s ≡ t
+        → OnMade Fits (byte_map_in o) x NoMap (byte_map_in new) x
+    words_instead s t it f g is same =
+        none byte_map_in o new x Fits (ap byte_map_in (f ∙ ap Some (sym same ∙ is))) (g ∙ ap Some same ∙ sym f)
+
+  pub bytes_frozen : (Fits : Pairs (List ℕ) → X → Code → Pairs (List ℕ) → X → Type 0) (s t : Store) (it : Kept (List ℕ))
+      (shared : _) → it ≡ kept.Frozen shared → o ≡ Some t → new ≡ Some (Bytes it) → s ≡ Bytes it → s ≡ t
+      → OnMade (Changes Fits) (byte_map_in o) x Frozen (byte_map_in new) x
+  bytes_frozen Fits s t it shared known f g is same =
+      is_shut byte_map_in o new x Fits shared.value.map.pairs (ap byte_map_in (f ∙ ap Some (sym same ∙ is ∙ ap Bytes known)))
+      (g ∙ ap Some (sym is ∙ same) ∙ sym f)
+
+module _ {X : Type 0} (o new : Option Store) (x : X) (n : ℕ) where
+  -- the same, and the number is returned: of a call of words
   module _ (Fits : MapState ℕ → X → Code → MapState ℕ → X → Type 0) (e : n ≡ code_number NoMap) where
     pub no_words : o ≡ None → new ≡ None
         → (code : Code) × (n ≡ code_number code) × OnMade Fits (word_map_in o) x code (word_map_in new) x
-    no_words f g = none word_map_in o new x n Fits e (ap word_map_in f) (g ∙ sym f)
+    no_words f g = (NoMap, e, none_of_words o new x Fits f g)
 
     pub bytes_there : (s t : Store) (it : Kept (List ℕ)) → o ≡ Some t → new ≡ Some t → s ≡ Bytes it → s ≡ t
         → (code : Code) × (n ≡ code_number code) × OnMade Fits (word_map_in o) x code (word_map_in new) x
-    bytes_there s t it f g is same =
-        none word_map_in o new x n Fits e (ap word_map_in (f ∙ ap Some (sym same ∙ is))) (g ∙ sym f)
+    bytes_there s t it f g is same = (NoMap, e, bytes_instead o new x Fits s t it f (g ∙ ap Some (sym same)) is same)
 
     pub bytes_back : (s t : Store) (it : Kept (List ℕ)) → o ≡ Some t → new ≡ Some s → s ≡ Bytes it → s ≡ t
         → (code : Code) × (n ≡ code_number code) × OnMade Fits (word_map_in o) x code (word_map_in new) x
-    bytes_back s t it f g is same =
-        none word_map_in o new x n Fits e (ap word_map_in (f ∙ ap Some (sym same ∙ is))) (g ∙ ap Some same ∙ sym f)
+    bytes_back s t it f g is same = (NoMap, e, bytes_instead o new x Fits s t it f g is same)
 
   pub words_shut : (Fits : Pairs ℕ → X → Code → Pairs ℕ → X → Type 0) (s t : Store) (it : Kept ℕ) (shared : _)
       → n ≡ code_number Frozen → it ≡ kept.Frozen shared → o ≡ Some t → new ≡ Some (Words it) → s ≡ Words it → s ≡ t
       → (code : Code) × (n ≡ code_number code) × OnMade (Changes Fits) (word_map_in o) x code (word_map_in new) x
-  words_shut Fits s t it shared e known f g is same =
-      is_shut word_map_in o new x n Fits shared.value.map.pairs e (ap word_map_in (f ∙ ap Some (sym same ∙ is ∙ ap Words known)))
-      (g ∙ ap Some (sym is ∙ same) ∙ sym f)
+  words_shut Fits s t it shared e known f g is same = (Frozen, e, words_frozen o new x Fits s t it shared known f g is same)
 
-  -- and one of bytes
+  -- and of one of bytes
   module _ (Fits : MapState (List ℕ) → X → Code → MapState (List ℕ) → X → Type 0) (e : n ≡ code_number NoMap) where
     pub no_bytes : o ≡ None → new ≡ None
         → (code : Code) × (n ≡ code_number code) × OnMade Fits (byte_map_in o) x code (byte_map_in new) x
-    no_bytes f g = none byte_map_in o new x n Fits e (ap byte_map_in f) (g ∙ sym f)
+    no_bytes f g = (NoMap, e, none_of_bytes o new x Fits f g)
 
     pub words_there : (s t : Store) (it : Kept ℕ) → o ≡ Some t → new ≡ Some t → s ≡ Words it → s ≡ t
         → (code : Code) × (n ≡ code_number code) × OnMade Fits (byte_map_in o) x code (byte_map_in new) x
-    words_there s t it f g is same =
-        none byte_map_in o new x n Fits e (ap byte_map_in (f ∙ ap Some (sym same ∙ is))) (g ∙ sym f)
+    words_there s t it f g is same = (NoMap, e, words_instead o new x Fits s t it f (g ∙ ap Some (sym same)) is same)
 
     pub words_back : (s t : Store) (it : Kept ℕ) → o ≡ Some t → new ≡ Some s → s ≡ Words it → s ≡ t
         → (code : Code) × (n ≡ code_number code) × OnMade Fits (byte_map_in o) x code (byte_map_in new) x
-    words_back s t it f g is same =
-        none byte_map_in o new x n Fits e (ap byte_map_in (f ∙ ap Some (sym same ∙ is))) (g ∙ ap Some same ∙ sym f)
+    words_back s t it f g is same = (NoMap, e, words_instead o new x Fits s t it f g is same)
 
   pub bytes_shut : (Fits : Pairs (List ℕ) → X → Code → Pairs (List ℕ) → X → Type 0) (s t : Store) (it : Kept (List ℕ))
       (shared : _) → n ≡ code_number Frozen → it ≡ kept.Frozen shared → o ≡ Some t → new ≡ Some (Bytes it)
       → s ≡ Bytes it → s ≡ t
       → (code : Code) × (n ≡ code_number code) × OnMade (Changes Fits) (byte_map_in o) x code (byte_map_in new) x
   bytes_shut Fits s t it shared e known f g is same =
-      is_shut byte_map_in o new x n Fits shared.value.map.pairs e (ap byte_map_in (f ∙ ap Some (sym same ∙ is ∙ ap Bytes known)))
-      (g ∙ ap Some (sym is ∙ same) ∙ sym f)
+      (Frozen, e, bytes_frozen o new x Fits s t it shared known f g is same)

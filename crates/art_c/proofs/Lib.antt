@@ -1,10 +1,13 @@
 pub mod Answered
 pub mod Crosses
 pub mod Ends
+pub mod Gets
 pub mod Given
+pub mod Joins
 pub mod Layouts
 pub mod Loads
 pub mod Lookups
 pub mod Made
+pub mod Prefixes
 pub mod Values
 pub mod Walks

@@ -120,13 +120,13 @@ module _ (all : Pairs ℕ) (x : List ℕ) where
     pub fit : length given ≤ length x
 
   module _ {left : Pairs ℕ} {words : List ℕ} {count : ℕ} (c : WordsOut left words count) where
-    same-words : length words ≡ length x
+    pub same-words : length words ≡ length x
     same-words =
         let is : length (told_words c.given) ≡ length c.given = length-map c.given (λ (p : List ℕ × ℕ). p.1) in
         ap length c.words_are ∙ length-written (told_words c.given) x (omega (arith, is, c.fit))
 
     -- one more
-    pub one-word : (p : List ℕ × ℕ) (rest : Pairs ℕ) (told : List ℕ) → left ≡ p ∷ rest → count < length words
+    unfoldable pub one-word : (p : List ℕ × ℕ) (rest : Pairs ℕ) (told : List ℕ) → left ≡ p ∷ rest → count < length words
         → told ≡ set words count p.1 → WordsOut rest told (count + 1)
     one-word p rest told is place set_is =
         let same : length (told_words c.given) ≡ length c.given = length-map c.given (λ (q : List ℕ × ℕ). q.1) in

@@ -2,10 +2,13 @@ pub mod Answers
 pub mod Calls
 pub mod Codes
 pub mod Copies
+pub mod Gets
 pub mod Handles
 pub mod Held
+pub mod Joins
 pub mod Layouts
 pub mod Loads
+pub mod Prefixes
 pub mod Spans
 pub mod Walks
 pub mod Wholes

@@ -1,16 +1,41 @@
 -- What is done with a map as a whole.
-use Rattle.std.specs.Prelude.{◌≡◌, ◌⊎◌, ℕ, List, [], Option, Some}
+use Rattle.std.specs.Prelude.{◌≡◌, ◌⊎◌, ℕ, List, [], Option, Some, None}
 use Rattle.std.specs.declared.ops.Bound.TheVariants.{Included, Excluded, Unbounded}
+use Rattle.art_arena.specs.arena.Arena.{HasRoom, IsTrimmed}
 use Rattle.art_map.specs.Ranges.{pairs_between}
 use Rattle.art_c.specs.Calls.{whole, Nothing}
 use Rattle.art_c.specs.Handles.{MapState, own, shut, Pairs, state_pairs}
 use Rattle.art_c.specs.declared.code.Code.{Code}
+use Rattle.art_c.specs.declared.handle.kept.Kept.{Kept}
+use Rattle.art_c.specs.declared.handle.kept.Kept.TheVariants.{Own, Frozen}
 use Rattle.art_c.specs.declared.handle.store.Store.{Store}
+use Rattle.art_c.specs.declared.handle.store.Store.TheVariants.{Words, Bytes}
 use Rattle.art_c.specs.declared.code.Code.TheVariants.{Done, NotFound, NoMemory, Shared}
 
 -- a handle gets this, in the place of what it had, or there is no memory and it has what it had
 abbrev pub IsGivenStore : Store → Option Store → Code → Option Store → Type 0
 IsGivenStore store x code y = ((code ≡ Done) × (y ≡ Some store)) ⊎ ((code ≡ NoMemory) × (y ≡ x))
+
+-- in a map that is kept, and can be changed, so many more nodes of any kinds take no memory
+abbrev pub HasRoomIn : {V : Type 0} → ℕ → Kept V → Type 0
+HasRoomIn n (Own owned) = HasRoom owned.map.nodes n
+HasRoomIn n (Frozen shared) = ⊥
+
+-- the same of the map behind a handle
+abbrev pub HasRoomBehind : ℕ → Option Store → Type 0
+HasRoomBehind n (Some (Words kept)) = HasRoomIn n kept
+HasRoomBehind n (Some (Bytes kept)) = HasRoomIn n kept
+HasRoomBehind n None = ⊥
+
+-- a map that is kept has no slot that its nodes do not need, and the map behind a handle
+abbrev pub IsTrimmedIn : {V : Type 0} → Kept V → Type 0
+IsTrimmedIn (Own owned) = IsTrimmed owned.map.nodes
+IsTrimmedIn (Frozen shared) = ⊥
+
+abbrev pub IsTrimmedBehind : Option Store → Type 0
+IsTrimmedBehind (Some (Words kept)) = IsTrimmedIn kept
+IsTrimmedBehind (Some (Bytes kept)) = IsTrimmedIn kept
+IsTrimmedBehind None = ⊥
 
 module _ {V : Type 0} where
   -- a handle gets this map, in the place of what it had, or there is no memory and it has what it had

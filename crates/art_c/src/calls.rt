@@ -2,7 +2,10 @@
 
 pub(crate) mod changes;
 pub(crate) mod counts;
+pub(crate) mod gets;
+pub(crate) mod joins;
 pub(crate) mod loads;
+pub(crate) mod prefixes;
 pub(crate) mod reads;
 pub(crate) mod walks;
 pub(crate) mod wholes;

@@ -1,14 +1,17 @@
 //! The exports of maps of bytes: a map as a whole.
 #![tactic(auto, using(crate::proofs::Answered::no_bytes, crate::proofs::Given::new_bytes))]
 
-ghost use Rattle.std.specs.Prelude.{◌≡◌, length, None};
+ghost use Rattle.std.specs.Prelude.{◌≡◌, ◌*◌, length, None};
 ghost use Rattle.art_c.specs.Answers.{Answers, Changes, OnlyReads};
 ghost use Rattle.art_c.specs.Calls.{IsAudited, IsNew, IsPrefixRemoved};
+ghost use Rattle.art_c.specs.Codes.{code_number};
 ghost use Rattle.art_c.specs.Handles.{bytes_behind, is_frozen_map, pairs_or_none, store_behind};
+ghost use Rattle.art_c.specs.Joins.{IsAppended};
 ghost use Rattle.art_c.specs.Wholes.{IsCleared, GetsCopy, IsFrozen, IsReserved, IsShared, IsShrunk};
-ghost use Rattle.art_c.specs.Wholes.{IsSplitOff, IsThawed};
+ghost use Rattle.art_c.specs.Wholes.{HasRoomBehind, IsSplitOff, IsThawed, IsTrimmedBehind};
+ghost use Rattle.art_c.specs.declared.code.Code.TheVariants.{Done, NoMemory};
 
-use crate::calls::{changes, counts, wholes};
+use crate::calls::{changes, counts, joins, wholes};
 use crate::code::Code;
 use crate::handle::{Handle, Kept, Store, changing, keeping, reading};
 use crate::nodes::NodeCounts;
@@ -114,10 +117,22 @@ pub extern "C" fn bytes_split_off(
     changing!(alloc, handle, Bytes not Words, |map| wholes::split_bytes(alloc, map, key, to))
 }
 
+/// Moves all pairs of another handle's map into this one, up to the first that is refused.
+#[unsafe(no_mangle)]
+pub extern "C" fn bytes_append(alloc: Global, handle: &mut Handle, other: &mut Handle) -> u32
+    ensures { Answers (Changes IsAppended) (bytes_behind handle.old) (bytes_behind other.old)
+        result (bytes_behind handle.new) (bytes_behind other.new) }
+{
+    changing!(alloc, handle, Bytes not Words, |map| joins::append_bytes(alloc, map, other))
+}
+
 /// Allocates the nodes of so many more insertions.
 #[unsafe(no_mangle)]
 pub extern "C" fn bytes_reserve(alloc: Global, handle: &mut Handle, additional: usize) -> u32
-    ensures { Answers (Changes IsReserved) (bytes_behind handle.old) tt result (bytes_behind handle.new) tt }
+    ensures pairs { Answers (Changes IsReserved) (bytes_behind handle.old) tt result (bytes_behind handle.new) tt }
+    ensures room { result ≡ code_number Done → HasRoomBehind (2 * additional) (store_behind handle.new) }
+    ensures succeeds { result ≡ code_number NoMemory
+        → HasRoomBehind (2 * additional) (store_behind handle.old) → ⊥ }
 {
     changing!(alloc, handle, Bytes not Words, |map| wholes::reserve(map, additional))
 }
@@ -125,7 +140,8 @@ pub extern "C" fn bytes_reserve(alloc: Global, handle: &mut Handle, additional: 
 /// Gives memory back that the nodes don't need.
 #[unsafe(no_mangle)]
 pub extern "C" fn bytes_shrink(alloc: Global, handle: &mut Handle) -> u32
-    ensures { Answers (Changes IsShrunk) (bytes_behind handle.old) tt result (bytes_behind handle.new) tt }
+    ensures pairs { Answers (Changes IsShrunk) (bytes_behind handle.old) tt result (bytes_behind handle.new) tt }
+    ensures trimmed { result ≡ code_number Done → IsTrimmedBehind (store_behind handle.new) }
 {
     changing!(alloc, handle, Bytes not Words, |map| wholes::shrink(map))
 }

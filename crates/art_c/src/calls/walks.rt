@@ -229,7 +229,7 @@ pub(crate) fn walk<V: Value>(
 }
 
 /// What is answered of so many words.
-fn words_code(count: usize, is_more: bool) -> Code
+pub(super) fn words_code(count: usize, is_more: bool) -> Code
     ensures { result ≡ words_code count is_more }
 {
     match (count, is_more) {

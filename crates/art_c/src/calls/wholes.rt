@@ -1,11 +1,13 @@
 //! What is done with a map as a whole.
 #![tactic(auto, using(crate::proofs::Given::given_words, crate::proofs::Given::given_bytes))]
 
-ghost use Rattle.std.specs.Prelude.{◌≡◌, ◌⊎◌, [], MatchResult, true};
+ghost use Rattle.std.specs.Prelude.{◌≡◌, ◌⊎◌, ◌*◌, [], MatchResult, true};
+ghost use Rattle.art_arena.specs.arena.Arena.{HasRoom, IsTrimmed};
 ghost use Rattle.art_c.specs.Codes.{code_number};
 ghost use Rattle.art_c.specs.Handles.{bytes_behind, is_shut, own, state_of, store_behind, words_behind};
 ghost use Rattle.art_c.specs.Wholes.{IsCleared, GetsCopy, IsFrozen, IsGiven, IsGivenStore, IsReserved, IsShared};
 ghost use Rattle.art_c.specs.Wholes.{IsSharedOf, IsShrunk, IsSplitOff, IsThawed};
+ghost use Rattle.art_c.specs.declared.code.Code.TheVariants.{Done, NoMemory};
 
 use crate::bytes::Bytes;
 use crate::code::Code;
@@ -93,7 +95,9 @@ pub(crate) fn split_bytes(alloc: Global, map: &mut Map<Bytes>, key: &[u8], to: &
 }
 
 pub(crate) fn reserve<V: Drop>(map: &mut Map<V>, additional: usize) -> Code
-    ensures { IsReserved map.old.pairs tt result map.new.pairs tt }
+    ensures pairs { IsReserved map.old.pairs tt result map.new.pairs tt }
+    ensures room { result ≡ Done → HasRoom map.new.nodes (2 * additional) }
+    ensures succeeds { result ≡ NoMemory → HasRoom map.old.nodes (2 * additional) → ⊥ }
 {
     match map.reserve(additional) {
         Ok(()) => Code::Done,
@@ -102,7 +106,8 @@ pub(crate) fn reserve<V: Drop>(map: &mut Map<V>, additional: usize) -> Code
 }
 
 pub(crate) fn shrink<V: Drop>(map: &mut Map<V>) -> Code
-    ensures { IsShrunk map.old.pairs tt result map.new.pairs tt }
+    ensures pairs { IsShrunk map.old.pairs tt result map.new.pairs tt }
+    ensures trimmed { IsTrimmed map.new.nodes }
 {
     map.shrink_to_fit();
     Code::Done

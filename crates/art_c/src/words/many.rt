@@ -2,14 +2,16 @@
 #![tactic(auto, using(crate::proofs::Answered::no_words))]
 
 ghost use Rattle.art_c.specs.Answers.{Answers, Changes, OnlyReads};
+ghost use Rattle.art_c.specs.Gets.{IsManyGot};
 ghost use Rattle.art_c.specs.Handles.{words_behind};
 ghost use Rattle.art_c.specs.Layouts.{no_text, word_key_len, word_text_len, words_pair};
 ghost use Rattle.art_c.specs.Loads.{IsLoaded};
+ghost use Rattle.art_c.specs.Prefixes.{IsPrefixTaken};
 ghost use Rattle.art_c.specs.Spans.{reach};
 ghost use Rattle.art_c.specs.Walks.{IsWalked, IsWordsWalked, many_rooms};
 
-use crate::calls::loads;
 use crate::calls::walks::{self, Span};
+use crate::calls::{gets, loads, prefixes};
 use crate::code::Code;
 use crate::handle::{Handle, Kept, Store, changing, reading};
 use crate::value::WordsPair;
@@ -72,4 +74,36 @@ pub extern "C" fn words_load(
         result (words_behind handle.new) taken.new }
 {
     changing!(alloc, handle, Words not Bytes, |map| loads::load(map, alloc, keys, pairs, taken))
+}
+
+/// Looks many keys up, and tells the words of those that are stored.
+#[unsafe(no_mangle)]
+pub extern "C" fn words_get_many(
+    alloc: Global,
+    handle: &mut Handle,
+    keys: &[u8],
+    pairs: &mut [WordsPair],
+    found: &mut [u8],
+    told: &mut usize,
+) -> u32
+    ensures { Answers (OnlyReads (IsManyGot keys.now))
+        (words_behind handle.old) ((pairs.old, found.old), told.old)
+        result (words_behind handle.new) ((pairs.new, found.new), told.new) }
+{
+    reading!(alloc, handle, Words not Bytes, |map| gets::get_many(map, keys, pairs, found, told))
+}
+
+/// Takes out the first pairs whose keys begin with a prefix, and tells their words.
+#[unsafe(no_mangle)]
+pub extern "C" fn words_take_prefix(
+    alloc: Global,
+    handle: &mut Handle,
+    prefix: &[u8],
+    words: &mut [u64],
+    count: &mut usize,
+) -> u32
+    ensures { Answers (Changes (IsPrefixTaken prefix.now)) (words_behind handle.old) (words.old, count.old)
+        result (words_behind handle.new) (words.new, count.new) }
+{
+    changing!(alloc, handle, Words not Bytes, |map| prefixes::take_prefix(map, prefix, words, count))
 }

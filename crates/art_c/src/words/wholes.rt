@@ -1,14 +1,17 @@
 //! The exports of maps of words: a map as a whole.
 #![tactic(auto, using(crate::proofs::Answered::no_words, crate::proofs::Given::new_words))]
 
-ghost use Rattle.std.specs.Prelude.{◌≡◌, length, None};
+ghost use Rattle.std.specs.Prelude.{◌≡◌, ◌*◌, length, None};
 ghost use Rattle.art_c.specs.Answers.{Answers, Changes, OnlyReads};
 ghost use Rattle.art_c.specs.Calls.{IsAudited, IsNew, IsPrefixRemoved};
+ghost use Rattle.art_c.specs.Codes.{code_number};
 ghost use Rattle.art_c.specs.Handles.{is_frozen_map, pairs_or_none, store_behind, words_behind};
+ghost use Rattle.art_c.specs.Joins.{IsAppended};
 ghost use Rattle.art_c.specs.Wholes.{IsCleared, GetsCopy, IsFrozen, IsReserved, IsShared, IsShrunk};
-ghost use Rattle.art_c.specs.Wholes.{IsSplitOff, IsThawed};
+ghost use Rattle.art_c.specs.Wholes.{HasRoomBehind, IsSplitOff, IsThawed, IsTrimmedBehind};
+ghost use Rattle.art_c.specs.declared.code.Code.TheVariants.{Done, NoMemory};
 
-use crate::calls::{changes, counts, wholes};
+use crate::calls::{changes, counts, joins, wholes};
 use crate::code::Code;
 use crate::handle::{Handle, Kept, Store, changing, keeping, reading};
 use crate::nodes::NodeCounts;
@@ -114,10 +117,22 @@ pub extern "C" fn words_split_off(
     changing!(alloc, handle, Words not Bytes, |map| wholes::split_words(alloc, map, key, to))
 }
 
+/// Moves all pairs of another handle's map into this one, up to the first that is refused.
+#[unsafe(no_mangle)]
+pub extern "C" fn words_append(alloc: Global, handle: &mut Handle, other: &mut Handle) -> u32
+    ensures { Answers (Changes IsAppended) (words_behind handle.old) (words_behind other.old)
+        result (words_behind handle.new) (words_behind other.new) }
+{
+    changing!(alloc, handle, Words not Bytes, |map| joins::append_words(alloc, map, other))
+}
+
 /// Allocates the nodes of so many more insertions.
 #[unsafe(no_mangle)]
 pub extern "C" fn words_reserve(alloc: Global, handle: &mut Handle, additional: usize) -> u32
-    ensures { Answers (Changes IsReserved) (words_behind handle.old) tt result (words_behind handle.new) tt }
+    ensures pairs { Answers (Changes IsReserved) (words_behind handle.old) tt result (words_behind handle.new) tt }
+    ensures room { result ≡ code_number Done → HasRoomBehind (2 * additional) (store_behind handle.new) }
+    ensures succeeds { result ≡ code_number NoMemory
+        → HasRoomBehind (2 * additional) (store_behind handle.old) → ⊥ }
 {
     changing!(alloc, handle, Words not Bytes, |map| wholes::reserve(map, additional))
 }
@@ -125,7 +140,8 @@ pub extern "C" fn words_reserve(alloc: Global, handle: &mut Handle, additional: 
 /// Gives memory back that the nodes don't need.
 #[unsafe(no_mangle)]
 pub extern "C" fn words_shrink(alloc: Global, handle: &mut Handle) -> u32
-    ensures { Answers (Changes IsShrunk) (words_behind handle.old) tt result (words_behind handle.new) tt }
+    ensures pairs { Answers (Changes IsShrunk) (words_behind handle.old) tt result (words_behind handle.new) tt }
+    ensures trimmed { result ≡ code_number Done → IsTrimmedBehind (store_behind handle.new) }
 {
     changing!(alloc, handle, Words not Bytes, |map| wholes::shrink(map))
 }

@@ -1,0 +1,70 @@
+-- The pairs of a map that have moved into another so far.
+use Rattle.std.proofs.Common.{◌≡◌, ◌==◌, ℕ, Bool, true, length, List, [], ◌∷◌, ◌++◌, Option, Some, None, refl, sym, ap, subst, ◌∙◌, append_assoc, arith, eqb-true}
+use Rattle.std.proofs.lemmas.List.{append-nil}
+use Rattle.art_arena.proofs.Common.{key_of, AscendsByKey}
+use Rattle.art_map.proofs.Common.{first_item, with_pairs_put}
+use Rattle.art_map.proofs.Puts.{put-behind, put-more}
+use Rattle.art_c.specs.Calls.{IsPutRefused, whole}
+use Rattle.art_c.specs.Handles.{Pairs}
+use Rattle.art_c.specs.Joins.{ArePairsMoved, MoveEnds, MovesFirst}
+use Rattle.art_c.specs.declared.code.Code.{Code}
+use Rattle.art_c.specs.declared.code.Code.TheVariants.{Done}
+
+module _ {V : Type 0} where
+  -- these were moved
+  abbrev pub MovedSoFar : Pairs V → Pairs V → Pairs V → Pairs V → Type 0
+  MovedSoFar all old left now = (moved : Pairs V) × (all ≡ moved ++ left) × (now ≡ with_pairs_put whole moved old)
+
+  -- none yet
+  pub none-moved : (all old : Pairs V) → MovedSoFar all old all old
+  none-moved all old = ([], refl, refl)
+
+  -- one more
+  pub one-moved : (all old left now rest new : Pairs V) → MovedSoFar all old left now → MovesFirst left now rest new
+      → MovedSoFar all old rest new
+  one-moved all old left now rest new (moved, are, put) (p, first, is) = (
+    moved ++ p ∷ [],
+    are ∙ ap (λ ps. moved ++ ps) first ∙ sym (append_assoc moved (p ∷ []) rest),
+    is ∙ ap (λ ps. with_pairs_put whole (p ∷ []) ps) put ∙ sym (put-more whole moved p old),
+  )
+
+  -- it ends there
+  pub move-ended : (all old left now : Pairs V) (code : Code) → MovedSoFar all old left now → MoveEnds left now code
+      → ArePairsMoved all old code left now
+  move-ended all old left now code (moved, are, put) ends = (moved, are, put, ends)
+
+  -- an empty map takes all at once
+  pub all-moved : (all old : Pairs V) → old ≡ [] → AscendsByKey (key_of whole) all → ArePairsMoved all old Done old all
+  all-moved all old none up = (
+    all,
+    sym (append-nil all) ∙ ap (λ ps. all ++ ps) (sym none),
+    sym (put-behind whole [] all up) ∙ ap (with_pairs_put whole all) (sym none),
+    ends old none,
+  )
+    where
+      ends : (ps : Pairs V) → ps ≡ [] → MoveEnds ps all Done
+      ends [] e = refl
+      ends (p ∷ ps) e = absurd (cc)
+
+  -- a map that is told to be empty has no pair
+  pub no-pair : (ps : Pairs V) (b : Bool) → b ≡ (length ps == 0) → b ≡ true → ps ≡ []
+  no-pair [] b e h = refl
+  no-pair (p ∷ ps) b e h = let none = eqb-true (length (p ∷ ps)) 0 (sym e ∙ h) in absurd (omega (arith, none))
+
+  -- the first pair that is found is the one that leaves
+  pub first-leaves : (left rest : Pairs V) (p q : List ℕ × V) → Some p ≡ first_item left → left ≡ q ∷ rest → q.0 ≡ p.0
+  first-leaves [] rest p q e is = absurd (cc)
+  first-leaves (r ∷ left) rest p q e is = cc
+
+  -- how it ends by the first pair that is left
+  pub none-left : (left now : Pairs V) → None ≡ first_item left → MoveEnds left now Done
+  none-left [] now e = refl
+  none-left (p ∷ left) now e = absurd (cc)
+
+  pub first-stays : (left now : Pairs V) (p : List ℕ × V) (code : Code) → Some p ≡ first_item left
+      → IsPutRefused p.0 now code now → MoveEnds left now code
+  first-stays [] now p code e refused = absurd (cc)
+  first-stays (q ∷ left) now p code e refused = subst (λ k. IsPutRefused k now code now) (some-key p q e) refused
+    where
+      some-key : (p q : List ℕ × V) → Some p ≡ Some q → p.0 ≡ q.0
+      some-key p q e = cc

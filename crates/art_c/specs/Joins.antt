@@ -1,0 +1,30 @@
+-- What becomes of a map into which another's pairs move.
+use Rattle.std.specs.Prelude.{◌≡◌, List, [], ◌∷◌, ◌++◌, Option}
+use Rattle.art_map.specs.Asked.{with_pairs_put}
+use Rattle.art_operations.specs.Pairs.{with_pair_put}
+use Rattle.art_c.specs.Answers.{Changes, OnMade}
+use Rattle.art_c.specs.Calls.{IsPutRefused, whole}
+use Rattle.art_c.specs.Handles.{MapState, Pairs}
+use Rattle.art_c.specs.declared.code.Code.{Code}
+use Rattle.art_c.specs.declared.code.Code.TheVariants.{Done}
+
+module _ {V : Type 0} where
+  -- the first pair of another map moved, to the place of its key
+  abbrev pub MovesFirst : Pairs V → Pairs V → Pairs V → Pairs V → Type 0
+  MovesFirst other old left new =
+      (p : _) × (other ≡ p ∷ left) × (new ≡ with_pair_put whole p.0 p.1 old)
+
+  -- how it ends: the other map has no pair, or a put of its first is refused
+  abbrev pub MoveEnds : Pairs V → Pairs V → Code → Type 0
+  MoveEnds [] pairs code = code ≡ Done
+  MoveEnds (p ∷ rest) pairs code = IsPutRefused p.0 pairs code pairs
+
+  -- The first pairs of the other map moved, each as it would be put in, and the others are still there. It ended so
+  -- behind them.
+  abbrev pub ArePairsMoved : Pairs V → Pairs V → Code → Pairs V → Pairs V → Type 0
+  ArePairsMoved other old code left new =
+      (moved : Pairs V) × (other ≡ moved ++ left) × (new ≡ with_pairs_put whole moved old) × MoveEnds left new code
+
+  -- the same of the map in another handle: it has to have one that is not frozen, and else nothing is done
+  abbrev pub IsAppended : Pairs V → Option (MapState V) → Code → Pairs V → Option (MapState V) → Type 0
+  IsAppended old x code new y = OnMade (Changes ArePairsMoved) x old code y new

@@ -1,0 +1,101 @@
+//! All pairs of a map move into another.
+ghost use Rattle.std.specs.Prelude.{◌≡◌, MatchOption};
+ghost use Rattle.art_c.specs.Handles.{bytes_behind, words_behind};
+ghost use Rattle.art_c.specs.Joins.{ArePairsMoved, IsAppended, MoveEnds, MovesFirst};
+
+use crate::bytes::Bytes;
+use crate::code::Code;
+use crate::handle::{Handle, Kept, Map, Store};
+use std::alloc::Global;
+use std::mem;
+
+/// Moves the first pair of another map. Tells how it ends where it moves none. All memory is allocated before the pair
+/// leaves.
+fn move_first<V: Drop>(map: &mut Map<V>, other: &mut Map<V>) -> Option<Code>
+    ensures { MatchOption result (MovesFirst other.old.pairs map.old.pairs other.new.pairs map.new.pairs)
+        (λ code. MoveEnds other.old.pairs map.old.pairs code
+        × (other.new.pairs ≡ other.old.pairs) × (map.new.pairs ≡ map.old.pairs)) }
+{
+    let Some((key, _value)) = other.first_key_value() else {
+        return Some(Code::Done);
+    };
+    let Ok(_) = map.place(key) else {
+        return Some(Code::Conflict);
+    };
+    let Ok(()) = map.reserve(1) else {
+        return Some(Code::NoMemory);
+    };
+    match other.pop_first() {
+        Ok(Some((key, value))) => match map.try_insert(key, value) {
+            Ok(_old) => None,
+            Err(_) => unreachable!(),
+        },
+        Ok(None) => Some(Code::Done),
+        Err(_) => Some(Code::NoMemory),
+    }
+}
+
+/// Moves the pairs of another map while they can be put in. An empty map takes them all at once.
+fn append<V: Drop>(map: &mut Map<V>, other: &mut Map<V>) -> Code
+    ensures { ArePairsMoved other.old.pairs map.old.pairs result other.new.pairs map.new.pairs }
+{
+    // Tells that they ascend.
+    let (_nodes, _root) = other.nodes();
+    if map.is_empty() {
+        mem::swap(map, other);
+        return Code::Done;
+    }
+    loop {
+        if let Some(code) = move_first(map, other) {
+            return code;
+        }
+    }
+}
+
+#[tactic(auto, using(crate::proofs::Answered::none_of_words))]
+pub(crate) fn append_words(alloc: Global, map: &mut Map<u64>, other: &mut Handle) -> Code
+    ensures { IsAppended map.old.pairs (words_behind other.old) result map.new.pairs (words_behind other.new) }
+{
+    match other.take(alloc) {
+        Some(mut store) => match &mut *store {
+            Store::Words(Kept::Own(owned)) => {
+                let code = append(map, &mut owned.map);
+                *other = Handle::of(store);
+                code
+            }
+            Store::Words(Kept::Frozen(_)) => {
+                *other = Handle::of(store);
+                Code::Frozen
+            }
+            Store::Bytes(_) => {
+                *other = Handle::of(store);
+                Code::NoMap
+            }
+        },
+        None => Code::NoMap,
+    }
+}
+
+#[tactic(auto, using(crate::proofs::Answered::none_of_bytes))]
+pub(crate) fn append_bytes(alloc: Global, map: &mut Map<Bytes>, other: &mut Handle) -> Code
+    ensures { IsAppended map.old.pairs (bytes_behind other.old) result map.new.pairs (bytes_behind other.new) }
+{
+    match other.take(alloc) {
+        Some(mut store) => match &mut *store {
+            Store::Bytes(Kept::Own(owned)) => {
+                let code = append(map, &mut owned.map);
+                *other = Handle::of(store);
+                code
+            }
+            Store::Bytes(Kept::Frozen(_)) => {
+                *other = Handle::of(store);
+                Code::Frozen
+            }
+            Store::Words(_) => {
+                *other = Handle::of(store);
+                Code::NoMap
+            }
+        },
+        None => Code::NoMap,
+    }
+}
