@@ -1,11 +1,12 @@
 #!/usr/bin/env python3
-"""perf/bindings.py --perf FOLDER [--sizes 100000,1000000] [--keys dense,rand8,url] [--repeats N]: the library's callers.
+"""perf/bindings.py --perf FOLDER [--sizes 100000,1000000] [--keys dense,rand8,url] [--repeats N] [--only c|rust]
 
 Prints two tables of nanoseconds and ratios, of one run: the map through C beside std::map, libjudy and unproved radix
-trees, and through Rust beside `BTreeMap` with the same keys. It takes the library that ./lib made last, out/libartmap.a, and says
-whether that was proved. FOLDER is a folder of yardsticks with build.sh and libbench; it needs cargo, cc and Debian's
-libjudy-dev. Keys are looked up in another order than they went in.
-Through C a walk is timed twice: many pairs in a call (artmap_words_walk), and one (artmap_words_next).
+trees, and through Rust beside `BTreeMap`, `HashMap` and those trees with the same keys. It takes the library that ./lib
+made last, out/libartmap.a, and says whether that was proved. FOLDER is a folder of yardsticks with build.sh, libbench
+and peers; it needs cargo, cc and Debian's libjudy-dev. Keys are looked up in another order than they went in.
+Through C a walk is timed twice: many pairs in a call (artmap_words_walk), and one (artmap_words_next); --keys are those
+of C. Through Rust a range of the unproved trees ends at a key, and one of the others where so many pairs were taken.
 """
 import argparse
 import os
@@ -19,7 +20,9 @@ TOP = os.path.dirname(os.path.dirname(os.path.abspath(__file__)))
 # Of the tables: the step, and its column in the tables of libbench.
 STEPS = {"put": "insert", "get": "get", "next": "iterate", "range": "range", "clone": "clone", "remove": "remove"}
 PEERS = ("std::map", "judy", "art-vec", "art-list")
-IN_RUST = ("put", "get", "next", "back", "range of 100", "range of 1", "load", "remove")
+IN_RUST = ("put", "get", "miss", "remove", "next", "range of 1", "range of 10", "range of 100", "load", "shuffled",
+           "clone", "bytes a pair")
+BESIDE = ("BTreeMap", "HashMap", "art-vec", "art-list")
 
 
 def tell(what):
@@ -61,12 +64,17 @@ def through_c(given, room):
 
 def through_rust(given, room):
     """By keys and size: of each map the nanoseconds of each step."""
+    top = f"{room}/rust"
+    shutil.copytree(f"{TOP}/bindings/rust", top, ignore=shutil.ignore_patterns("target"))
+    with open(f"{top}/Cargo.toml", "a", encoding="utf-8") as file:
+        file.write(f'\n[dev-dependencies]\npeers.path = "{os.path.abspath(given.perf)}/peers"\n')
     tell("timing it through Rust")
-    env = {**os.environ, "CARGO_TARGET_DIR": f"{room}/cargo", "RUSTFLAGS": "-C target-cpu=x86-64-v2"}
-    words = ["cargo", "bench", "-q", "--offline", "--locked", "--", *given.sizes.split(",")]
+    env = {**os.environ, "CARGO_TARGET_DIR": f"{room}/cargo", "RUSTFLAGS": "-C target-cpu=x86-64-v2 --cfg peer",
+           "ARTMAP_LIB_DIR": f"{TOP}/out"}
+    words = ["cargo", "bench", "-q", "--offline", "--", *given.sizes.split(","), f"rounds={given.repeats}"]
     tables = {}
-    for line in called(words, cwd=f"{TOP}/bindings/rust", env=env).splitlines():
-        if found := re.fullmatch(r"(\w+) (\d+) (\w+) (\d+) (.+)", line):
+    for line in called(words, cwd=top, env=env).splitlines():
+        if found := re.fullmatch(r"(\w+) (\d+) (\S+) (\d+) (.+)", line):
             keys, size, name, ns, step = found.groups()
             tables.setdefault((keys, int(size)), {}).setdefault(name, {})[step] = float(ns)
     return tables
@@ -82,12 +90,21 @@ def main():
     parser.add_argument("--sizes", default="100000,1000000")
     parser.add_argument("--keys", default="dense,rand8,url")
     parser.add_argument("--repeats", type=int, default=3)
+    parser.add_argument("--only", choices=("c", "rust"))
     given = parser.parse_args()
     proved, made = f"{TOP}/crates/art_c/out/libart_c.a", f"{TOP}/out/libartmap.a"
     is_proved = os.path.exists(proved) and os.path.getmtime(proved) <= os.path.getmtime(made)
     print("the library is proved" if is_proved else "the library is built without proofs, with run-time checks")
     with tempfile.TemporaryDirectory() as room:
-        in_c, in_rust = through_c(given, room), through_rust(given, room)
+        in_c = through_c(given, room) if given.only != "rust" else {}
+        in_rust = through_rust(given, room) if given.only != "c" else {}
+    if in_c:
+        print_c(in_c)
+    if in_rust:
+        print_rust(in_rust)
+
+
+def print_c(in_c):
     print(f"\nThrough C, ns: here (a walk by artmap_words_next), and to {', '.join(PEERS)}\n")
     print(f"| Keys | Pairs | {' | '.join(STEPS)} |\n|---|---:|{'---|' * len(STEPS)}")
     for (keys, size), maps in sorted(in_c.items(), key=lambda it: it[0][1]):
@@ -97,11 +114,19 @@ def main():
             also = f" ({maps['steps'][head]})" if step in ("next", "range", "clone") else ""
             cells.append(f"{ns}{also}: " + ", ".join(ratio(ns, maps[it][head]) for it in PEERS))
         print(f"| {keys} | {size} | {' | '.join(cells)} |")
-    print(f"\nThrough Rust, ns: here, and to BTreeMap\n\n| Keys | Pairs | {' | '.join(IN_RUST)} |")
-    print(f"|---|---:|{'---|' * len(IN_RUST)}")
-    for (keys, size), maps in in_rust.items():
-        here, tree = maps["ArtMap"], maps["BTreeMap"]
-        print(f"| {keys} | {size} | {' | '.join(f'{here[it]:.0f}: {ratio(here[it], tree[it])}' for it in IN_RUST)} |")
+
+
+def print_rust(in_rust):
+    kinds = list(in_rust)
+    print(f"\nThrough Rust, ns: here, and to {', '.join(BESIDE)}\n")
+    print(f"| | {' | '.join(f'{keys}, {size}' for keys, size in kinds)} |\n|---|{'---|' * len(kinds)}")
+    for step in IN_RUST:
+        cells = []
+        for maps in in_rust.values():
+            ns = maps["ArtMap"].get(step)
+            others = [maps[it].get(step) for it in BESIDE]
+            cells.append(f"{ns:.0f}: " + ", ".join(ratio(ns, it) if it else "-" for it in others) if ns else "-")
+        print(f"| {step} | {' | '.join(cells)} |")
 
 
 if __name__ == "__main__":

@@ -20,7 +20,7 @@ import quick
 
 CRATE = f"{TOP}/bindings/rust"
 EXAMPLES = ("films", "paths", "sizes")
-CALLS = 22  # of examples/refused.rs
+CALLS = 30  # of examples/refused.rs
 TAKE_NO_MEMORY = {5, 9, 20, 21}
 NEVER_FAIL = {1, 19}  # (a stored key's value is set in its place; a walk goes on in the room that it has)
 SANITIZED = ("--lib", "--test", "differential", "--test", "panics", "--test", "map", "--test", "keys")
@@ -28,6 +28,8 @@ SANITIZED_CALLS = 200_000  # of tests/differential.rs, which makes a million wit
 TYPES = {"artmap_words *": "*mut Handle", "const void *": "*const u8", "void *": "*mut u8", "size_t *": "*mut usize",
          "size_t ": "usize", "uint32_t ": "u32", "uint64_t ": "u64", "uint64_t *": "*mut u64", "bool ": "bool",
          "const artmap_span *": "*const RawSpan", "const artmap_words_pair *": "*const Pair"}
+SERDE = ("serde", "serde_derive", "serde_json")
+REGISTRY = "/usr/share/cargo/registry"  # of Debian's librust-serde-dev and librust-serde-json-dev
 ANSWERS = {"artmap_code": "u32", "size_t": "usize", "void": "", "bool": "bool"}
 STRUCTS = {"artmap_words": "Handle", "artmap_span": "RawSpan", "artmap_words_pair": "Pair"}
 TALLY = {True: 0, False: 0}
@@ -188,6 +190,51 @@ def refused(env, made, room):
             told(f"call {call}, {number - 1} requests refused{rest}", is_right, why or f"refused {kept}")
 
 
+def alone(env, room):
+    """With no registry in sight, a crate that depends on this one is built; here the feature serde tells why it isn't."""
+    env = {**env, "CARGO_HOME": f"{room}/home"}
+    ran = run(["cargo", "build", "--offline", "--locked", "--features", "serde"], env)
+    is_told = ran.returncode and "is for crates that depend on artmap" in ran.stderr
+    told("the feature serde in the crate's own folder", is_told, ran.stderr[-2000:])
+    os.makedirs(f"{room}/alone/src")
+    with open(f"{room}/alone/Cargo.toml", "w", encoding="utf-8") as file:
+        file.write(f'[package]\nname = "alone"\nedition = "2024"\n[dependencies]\nartmap.path = "{CRATE}"\n')
+    with open(f"{room}/alone/src/main.rs", "w", encoding="utf-8") as file:
+        file.write('fn main() {\n    println!("{:?}", artmap::ArtMap::from([("a", 1)]));\n}\n')
+    ran = run(["cargo", "run", "-q", "--offline", "--manifest-path", f"{room}/alone/Cargo.toml"], env)
+    told("a crate that depends on it", (ran.returncode, ran.stdout) == (0, '{"a": 1}\n'), ran.stdout + ran.stderr)
+
+
+def with_serde(env, room):
+    """The feature serde, by Debian's sources in the place of crates.io: a crate that has it, and what `tidy` asks."""
+    if not all(glob(f"{REGISTRY}/{it}-1.*") for it in SERDE):
+        print("Debian's librust-serde-dev and librust-serde-json-dev are not here: the feature serde is skipped")
+        return
+    at = f"{room}/rust"
+    shutil.copytree(CRATE, at, ignore=shutil.ignore_patterns("target", "Cargo.lock"))
+    with open(f"{at}/Cargo.toml", "w", encoding="utf-8") as file:
+        # (without the place-holder: the crate itself asks for serde, too)
+        file.write(re.sub(r"(?ms)^\[patch\.crates-io\]\n.*?\n\n", "", read(f"{CRATE}/Cargo.toml")))
+    env = {**env, "CARGO_TARGET_DIR": f"{env['CARGO_TARGET_DIR']}/serde", "RUSTDOCFLAGS": "-D warnings"}
+    source = ["--offline", "--config", 'source.crates-io.replace-with="debian"', "--config",
+              f'source.debian.directory="{REGISTRY}"', "--manifest-path"]
+    mine, user = f"{at}/Cargo.toml", f"{at}/with_serde/Cargo.toml"
+    ran = run(["cargo", "test", *source, user], env)
+    cases = re.findall(r"(?m)^test (.+?) \.\.\. (\w+)", ran.stdout)
+    for name, ended in cases:
+        told(name, ended == "ok", ended)
+    told("with_serde: cargo test", ran.returncode == 0 and len(cases) >= 5, (ran.stdout + ran.stderr)[-4000:])
+    ran = run(["cargo", "run", "-q", *source, user], env)
+    is_right = (ran.returncode, ran.stdout) == (0, read(f"{CRATE}/with_serde/main.out"))
+    told("with_serde: its program", is_right, ran.stdout + ran.stderr)
+    for name, words in (("the crate's clippy", ["clippy", *source, mine, "--features", "serde", "--", "-D", "warnings"]),
+                        ("the crate's pages", ["doc", *source, mine, "--features", "serde", "--no-deps"]),
+                        ("clippy", ["clippy", *source, user, "--all-targets", "--", "-D", "warnings"]),
+                        ("cargo fmt", ["fmt", "--check", "--manifest-path", user])):
+        ran = run(["cargo", *words], env)
+        told(f"with_serde: {name}", ran.returncode == 0, (ran.stdout + ran.stderr)[-4000:])
+
+
 def without_library(env, room):
     """Where the library isn't there, the build says how to make it."""
     env = {**env, "CARGO_TARGET_DIR": f"{room}/cargo", "ARTMAP_LIB_DIR": f"{room}/nowhere"}
@@ -220,7 +267,8 @@ def main():
             parts = {"declared": lambda: declared(of), "tests": lambda: tests(env), "tidy": lambda: tidy(env),
                      "examples": lambda: examples(env, f"{target}/debug/examples"),
                      "refused": lambda: refused(env, f"{target}/debug/examples", room),
-                     "sanitized": lambda: sanitized(env), "without_library": lambda: without_library(env, room)}
+                     "sanitized": lambda: sanitized(env), "alone": lambda: alone(env, room),
+                     "with_serde": lambda: with_serde(env, room), "without_library": lambda: without_library(env, room)}
             for it in words or parts:
                 parts[it]()
     print(f"{TALLY[True]} passed, {TALLY[False]} failed")

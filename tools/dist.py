@@ -79,14 +79,14 @@ def run(words, folder, **more):
 
 
 def crate(staged, proved):
-    """The crate for Rust, with the library inside; cargo builds it once, as its user will."""
+    """The crate for Rust, with the library inside; cargo builds it once, as its user will. (`cargo package` would ask a
+    registry for what the features need.)"""
     name = f"artmap-{install.version()}"
     at = laid_out("bindings/rust", "rust")
     install.copy(f"{staged}/lib/libartmap.a", f"{at}/lib/{TARGET}/libartmap.a")
     install.write(f"{at}/PROVED", proved)
-    words = ["cargo", "package", "--offline", "--allow-dirty", "--target-dir", f"{ROOM}/cargo"]
-    run(words, at, ARTMAP_LIB_DIR="")
-    shutil.copyfile(f"{ROOM}/cargo/package/{name}.crate", f"{TOP}/{MADE}/{name}.crate")
+    run(["cargo", "build", "--offline", "--locked", "--target-dir", f"{ROOM}/cargo"], at, ARTMAP_LIB_DIR="")
+    archive(at, name, f"{TOP}/{MADE}/{name}.crate")
     return f"{name}.crate"
 
 

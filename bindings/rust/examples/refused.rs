@@ -4,13 +4,15 @@
 //!
 //! Where memory was refused the call is made once more, outside the window, and must do what it does in a free run. Calls
 //! that stop where they are (`try_retain` and its like) leave some of the pairs.
-use artmap::{AllocError, ArtMap, Entry, FrozenMap, TryInsertError};
+use artmap::{AllocError, ArtMap, Entry, Front, FrozenMap, TryInsertError};
 use std::io::Write;
 use std::ops::Bound;
 use std::process::exit;
 
 type Pairs = Vec<(String, Vec<u8>)>;
 type Map = ArtMap<String, Vec<u8>>;
+/// Keys whose bytes are put together, and have no room on the stack.
+type Parts = (String, u32);
 
 /// Below `a` there is a node for five, of which a loss makes one for four.
 fn pairs() -> Pairs {
@@ -35,6 +37,13 @@ struct Given {
     long: ArtMap<String, u32>,
     frozen: FrozenMap<String, Vec<u8>>,
     part: String,
+    together: [ArtMap<Parts, u32>; 2],
+    asked: Parts,
+    query: Parts,
+}
+
+fn parts(number: u32) -> Parts {
+    ("p".repeat(130), number)
 }
 
 fn given() -> Given {
@@ -50,6 +59,9 @@ fn given() -> Given {
         long: (0..9).map(|it| ("m".repeat(100 * it), 7)).collect(),
         frozen: some.freeze(),
         part: all[2].0[..51].to_string(),
+        together: [0, 30].map(|from| (from..from + 50).map(|it| (parts(it), it)).collect()),
+        asked: parts(41),
+        query: parts(3),
         all,
     }
 }
@@ -70,6 +82,33 @@ fn entered(map: &mut Map, key: String, value: Vec<u8>) -> Result<usize, TryInser
     match map.try_entry(key) {
         Ok(Entry::Vacant(entry)) => entry.try_insert_entry(value).map(|it| it.get().len()),
         _ => exit(3),
+    }
+}
+
+/// Walks and look-ups that need memory for the bytes of keys.
+fn put_together(which: usize, given: &mut Given) -> Result<usize, AllocError> {
+    let ([map, other], asked) = (&mut given.together, &given.asked);
+    match which {
+        23 => {
+            let mut found =
+                usize::from(map.try_contains_key(asked)?) + map.try_get_mut(asked)?.map_or(0, |it| *it as usize);
+            found += map.try_get_key_value(asked)?.map_or(0, |pair| pair.0.0.len());
+            found += map.try_prefix_get(&Front(asked))?.map_or(0, |it| *it as usize);
+            Ok(found + map.try_range(asked..)?.count() + map.try_prefix(&Front(given.query.0.as_str()))?.count())
+        }
+        24 => {
+            map.try_retain(|key, _| key.1 % 5 != 0)?;
+            Ok(map.len())
+        }
+        25 => map.try_split_off(asked).map(|it| it.len() + 100 * map.len()),
+        26 => map.try_append(other).map(|()| map.len() + 100 * other.len()).map_err(|_| AllocError),
+        27 => {
+            for taken in map.try_extract_if(asked.., |key, _| key.1 % 2 == 0) {
+                taken?;
+            }
+            Ok(map.len())
+        }
+        _ => map.try_remove_prefix(&Front(given.query.0.as_str())),
     }
 }
 
@@ -136,13 +175,22 @@ fn call(map: &mut Map, which: usize, given: &mut Given) -> Result<usize, AllocEr
             let absent = text.strip_prefix('m').unwrap_or(text);
             Ok(usize::from(given.long.contains_key(text)) + usize::from(given.long.contains_key(absent)))
         }
+        22 => kept(&mut given.new, |key, value| match map.try_entry(key) {
+            Ok(entry) => entry.try_or_insert(value).map(|it| it.len()),
+            Err(_) => exit(3),
+        }),
+        23..=28 => put_together(which, given),
+        29 => kept(&mut given.new, |key, value| match map.try_prefix_entry(key) {
+            Ok(entry) => entry.try_insert_entry(value).map(|it| it.get().len()),
+            Err(_) => exit(3),
+        }),
         _ => exit(3),
     }
 }
 
 /// Those that stop where they are.
 fn leaves_some(which: usize) -> bool {
-    [8, 10, 13, 16].contains(&which)
+    [8, 10, 13, 16, 29].contains(&which)
 }
 
 fn window(is_open: bool) {

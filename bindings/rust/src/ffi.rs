@@ -15,7 +15,7 @@
 //!
 //! At each block stands the clause of `art_c` that says what its call answers (`crates/art_c`).
 use crate::Key;
-use crate::error::AllocError;
+use crate::error::{AllocError, or_end};
 use crate::slab::{Slab, Slot};
 use crate::walk::{Limits, Walk, Way};
 use std::cell::UnsafeCell;
@@ -452,7 +452,7 @@ impl<'a, K: Key, V, L: Limits> WalkMut<'a, K, V, L> {
             Way::Up => self.front,
             Way::Down => self.back,
         };
-        let index = self.walk.next_sure(self.words, way, |_| last.expect("a key was lent"))?;
+        let index = or_end(self.walk.next_sure(self.words, way, |_| last.expect("a key was lent")))?;
         assert!(index < self.len, "libartmap.a is not that of this crate: it told the word {index}");
         // SAFETY: rules 1 to 4 are kept by `Words`. Clause of `artmap_words_walk_words`: IsWordsWalked: the words are those of
         // pairs that ascend (or descend), all behind the key given. `next_sure` goes on behind the very pair that was lent

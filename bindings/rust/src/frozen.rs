@@ -43,7 +43,8 @@ pub struct FrozenMap<K, V> {
 }
 
 impl<K, V> ArtMap<K, V> {
-    /// Makes it a map that nobody changes, for readers in many threads.
+    /// Makes it a map that nobody changes, for readers in many threads. It has no form with `try_`, since std's `Arc` has no
+    /// such one.
     ///
     /// ```
     /// let frozen = artmap::ArtMap::from([(1, 'a')]).freeze();
@@ -256,6 +257,120 @@ impl<K: Key, V> FrozenMap<K, V> {
     /// ```
     pub fn prefix<P: KeyPrefix<K> + ?Sized>(&self, prefix: &P) -> Prefix<'_, K, V> {
         self.view().prefix(prefix)
+    }
+
+    /// As [`ArtMap::try_get`].
+    ///
+    /// ```
+    /// assert_eq!(artmap::ArtMap::from([(1, 'a')]).freeze().try_get(&1), Ok(Some(&'a')));
+    /// ```
+    ///
+    /// # Errors
+    ///
+    /// As there.
+    pub fn try_get<Q: Key + ?Sized>(&self, key: &Q) -> Result<Option<&V>, AllocError>
+    where
+        K: Borrow<Q>,
+    {
+        Ok(self.view().try_get(key)?.map(|pair| pair.1))
+    }
+
+    /// As [`ArtMap::try_get_key_value`].
+    ///
+    /// ```
+    /// assert_eq!(artmap::ArtMap::from([(1, 'a')]).freeze().try_get_key_value(&1), Ok(Some((&1, &'a'))));
+    /// ```
+    ///
+    /// # Errors
+    ///
+    /// As there.
+    pub fn try_get_key_value<Q: Key + ?Sized>(&self, key: &Q) -> Result<Option<(&K, &V)>, AllocError>
+    where
+        K: Borrow<Q>,
+    {
+        self.view().try_get(key)
+    }
+
+    /// As [`ArtMap::try_contains_key`].
+    ///
+    /// ```
+    /// assert_eq!(artmap::ArtMap::from([(1, 'a')]).freeze().try_contains_key(&1), Ok(true));
+    /// ```
+    ///
+    /// # Errors
+    ///
+    /// As there.
+    pub fn try_contains_key<Q: Key + ?Sized>(&self, key: &Q) -> Result<bool, AllocError>
+    where
+        K: Borrow<Q>,
+    {
+        Ok(self.view().try_get(key)?.is_some())
+    }
+
+    /// As [`ArtMap::try_prefix_get`].
+    ///
+    /// ```
+    /// assert_eq!(artmap::ArtMap::from([([10u8, 1], 'a')]).freeze().try_prefix_get(&[10u8, 1, 7]), Ok(Some(&'a')));
+    /// ```
+    ///
+    /// # Errors
+    ///
+    /// As there.
+    pub fn try_prefix_get<P: KeyPrefix<K> + ?Sized>(&self, query: &P) -> Result<Option<&V>, AllocError> {
+        Ok(self.view().try_prefix_get(query)?.map(|pair| pair.1))
+    }
+
+    /// As [`ArtMap::try_prefix_get_key_value`].
+    ///
+    /// ```
+    /// let routes = artmap::ArtMap::from([([10u8, 1], 'a')]).freeze();
+    /// assert_eq!(routes.try_prefix_get_key_value(&[10u8, 1, 7]), Ok(Some((&[10, 1], &'a'))));
+    /// ```
+    ///
+    /// # Errors
+    ///
+    /// As there.
+    pub fn try_prefix_get_key_value<P: KeyPrefix<K> + ?Sized>(
+        &self,
+        query: &P,
+    ) -> Result<Option<(&K, &V)>, AllocError> {
+        self.view().try_prefix_get(query)
+    }
+
+    /// As [`ArtMap::try_range`].
+    ///
+    /// ```
+    /// assert_eq!(artmap::ArtMap::from([(1, 'a'), (2, 'b')]).freeze().try_range(2..).map(|pairs| pairs.count()), Ok(1));
+    /// ```
+    ///
+    /// # Errors
+    ///
+    /// As there.
+    ///
+    /// # Panics
+    ///
+    /// As there.
+    pub fn try_range<Q, R>(&self, range: R) -> Result<Range<'_, K, V>, AllocError>
+    where
+        Q: Key + ?Sized,
+        K: Borrow<Q>,
+        R: RangeBounds<Q>,
+    {
+        self.view().try_range(&range)
+    }
+
+    /// As [`ArtMap::try_prefix`].
+    ///
+    /// ```
+    /// let words = artmap::ArtMap::from([("car", 1), ("dog", 2)]).freeze();
+    /// assert_eq!(words.try_prefix("ca").map(|pairs| pairs.count()), Ok(1));
+    /// ```
+    ///
+    /// # Errors
+    ///
+    /// As there.
+    pub fn try_prefix<P: KeyPrefix<K> + ?Sized>(&self, prefix: &P) -> Result<Prefix<'_, K, V>, AllocError> {
+        self.view().try_prefix(prefix)
     }
 }
 

@@ -60,7 +60,7 @@ impl<'a, K: Key, V, L: Limits> Pairs<'a, K, V, L> {
             return slot.and_then(Slot::pair);
         }
         let slab = self.view.slab;
-        let index = self.walk.next(self.view.words, way, |index| slab.pair(index).0)?;
+        let index = or_end(self.walk.next(self.view.words, way, |index| slab.pair(index).0))?;
         Some(slab.pair(index))
     }
 }

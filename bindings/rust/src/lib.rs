@@ -35,13 +35,19 @@
 //! # Memory and panics
 //!
 //! Where memory lacks, a call ends the program, as those of std's collections do. A call whose name begins with `try_` says
-//! it instead, and tells what it leaves. A panic in a `Drop`, a `Clone`, a closure, an iterator or a [`Key`] leaves the map
-//! whole.
+//! it instead, and tells what it leaves. All that may find no memory has such a form, but for [`freeze`](ArtMap::freeze) and
+//! the steps of walks: a step needs memory where the bytes of a key are put together and are more than 120. A panic in a
+//! `Drop`, a `Clone`, a closure, an iterator or a [`Key`] leaves the map whole.
 //!
 //! # Threads
 //!
 //! A map may go to another thread. It has one call at a time, those that read too, so it is not `Sync`: where many threads
 //! read, [`freeze`](ArtMap::freeze) it, and give each a clone of the [`FrozenMap`].
+//!
+//! # Features
+//!
+//! The feature `serde`, which is off by default, has `Serialize` and `Deserialize` of serde for maps, sets and [`Ended`]; what
+//! is frozen has `Serialize`. A map is one to serde, too, and a set a sequence. Without it the crate has no dependency.
 #![deny(missing_docs, unsafe_code)]
 
 pub mod compared;
@@ -57,7 +63,7 @@ pub use map::{
 pub use owned::{IntoIter, IntoKeys, IntoValues};
 pub use room::Room as KeyBytes;
 pub use set::{ArtSet, Difference, FrozenSet, Intersection, SymmetricDifference, Union};
-pub use set::{SetExtractIf, SetIntoIter, SetIter, SetPrefix, SetRange};
+pub use set::{SetExtractIf, SetIntoIter, SetIter, SetPrefix, SetRange, SetTryExtractIf};
 
 mod error;
 #[allow(unsafe_code, reason = "all of it stands here")]
@@ -69,6 +75,8 @@ mod key;
 mod map;
 mod owned;
 mod room;
+#[cfg(feature = "serde")]
+mod serde;
 mod set;
 mod slab;
 mod view;

@@ -6,6 +6,7 @@ mod extract;
 mod prefix_entry;
 mod read;
 mod traits;
+mod tried;
 
 pub use bulk::AppendError;
 pub use entry::{Entry, OccupiedEntry, VacantEntry};

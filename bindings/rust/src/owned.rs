@@ -1,5 +1,6 @@
 //! Walks that take a map's pairs out of it.
 use crate::Key;
+use crate::error::or_end;
 use crate::map::ArtMap;
 use crate::view::View;
 use crate::walk::{All, Walk, Way};
@@ -49,9 +50,9 @@ impl<K: Key, V> IntoIter<K, V> {
             return None;
         }
         let ArtMap { words, slab } = &mut self.map;
-        let index = self.walk.next(words, way, |index| slab.pair(index).0)?;
+        let index = or_end(self.walk.next(words, way, |index| slab.pair(index).0))?;
         // (behind the pair the walk finds no way once its key has gone)
-        self.walk.settle(words, way, |index| slab.pair(index).0);
+        or_end(self.walk.settle(words, way, |index| slab.pair(index).0));
         Some(slab.take(index))
     }
 
@@ -60,7 +61,7 @@ impl<K: Key, V> IntoIter<K, V> {
         let view = View { words: &self.map.words, slab: &self.map.slab };
         let mut walk = self.walk.clone();
         (0..self.left()).map_while(move |_| {
-            let index = walk.next(view.words, Way::Up, |index| view.slab.pair(index).0)?;
+            let index = or_end(walk.next(view.words, Way::Up, |index| view.slab.pair(index).0))?;
             Some(view.slab.pair(index))
         })
     }

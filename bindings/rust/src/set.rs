@@ -8,9 +8,11 @@ mod traits;
 pub use frozen::FrozenSet;
 pub use iter::{
     ExtractIf as SetExtractIf, IntoIter as SetIntoIter, Iter as SetIter, Prefix as SetPrefix, Range as SetRange,
+    TryExtractIf as SetTryExtractIf,
 };
 pub use merge::{Difference, Intersection, SymmetricDifference, Union};
 
+use crate::error::AllocError;
 use crate::map::ArtMap;
 use crate::{Key, KeyPrefix, Ordered};
 use iter::{Iter, Prefix, Range};
@@ -73,6 +75,19 @@ impl<K> ArtSet<K> {
     /// ```
     pub fn clear(&mut self) {
         self.map.clear();
+    }
+
+    /// Makes room for so many more keys. The tree has none beforehand.
+    ///
+    /// ```
+    /// assert_eq!(artmap::ArtSet::<u32>::new().try_reserve(100), Ok(()));
+    /// ```
+    ///
+    /// # Errors
+    ///
+    /// Where there is no memory for them. The set is as it was.
+    pub fn try_reserve(&mut self, additional: usize) -> Result<(), AllocError> {
+        self.map.try_reserve(additional)
     }
 }
 
@@ -172,6 +187,86 @@ impl<K: Key> ArtSet<K> {
     /// ```
     pub fn prefix<P: KeyPrefix<K> + ?Sized>(&self, prefix: &P) -> Prefix<'_, K> {
         Prefix(self.map.prefix(prefix))
+    }
+
+    /// As [`contains`](Self::contains).
+    ///
+    /// ```
+    /// assert_eq!(artmap::ArtSet::from([1]).try_contains(&1), Ok(true));
+    /// ```
+    ///
+    /// # Errors
+    ///
+    /// As [`ArtMap::try_get`].
+    pub fn try_contains<Q: Key + ?Sized>(&self, key: &Q) -> Result<bool, AllocError>
+    where
+        K: Borrow<Q>,
+    {
+        Ok(self.try_get(key)?.is_some())
+    }
+
+    /// As [`get`](Self::get).
+    ///
+    /// ```
+    /// assert_eq!(artmap::ArtSet::from([1]).try_get(&1), Ok(Some(&1)));
+    /// ```
+    ///
+    /// # Errors
+    ///
+    /// As [`ArtMap::try_get`].
+    pub fn try_get<Q: Key + ?Sized>(&self, key: &Q) -> Result<Option<&K>, AllocError>
+    where
+        K: Borrow<Q>,
+    {
+        Ok(self.map.try_get_key_value(key)?.map(|pair| pair.0))
+    }
+
+    /// As [`prefix_get`](Self::prefix_get).
+    ///
+    /// ```
+    /// assert_eq!(artmap::ArtSet::from([[10u8, 1]]).try_prefix_get(&[10u8, 1, 7]), Ok(Some(&[10, 1])));
+    /// ```
+    ///
+    /// # Errors
+    ///
+    /// As [`ArtMap::try_prefix_get`].
+    pub fn try_prefix_get<P: KeyPrefix<K> + ?Sized>(&self, query: &P) -> Result<Option<&K>, AllocError> {
+        Ok(self.map.try_prefix_get_key_value(query)?.map(|pair| pair.0))
+    }
+
+    /// As [`range`](Self::range).
+    ///
+    /// ```
+    /// assert_eq!(artmap::ArtSet::from([1, 2]).try_range(2..).map(|keys| keys.count()), Ok(1));
+    /// ```
+    ///
+    /// # Errors
+    ///
+    /// As [`ArtMap::try_range`].
+    ///
+    /// # Panics
+    ///
+    /// As [`ArtMap::range`].
+    pub fn try_range<Q, R>(&self, range: R) -> Result<Range<'_, K>, AllocError>
+    where
+        Q: Key + ?Sized,
+        K: Borrow<Q>,
+        R: RangeBounds<Q>,
+    {
+        self.map.try_range(range).map(Range)
+    }
+
+    /// As [`prefix`](Self::prefix).
+    ///
+    /// ```
+    /// assert_eq!(artmap::ArtSet::from(["car", "dog"]).try_prefix("ca").map(|keys| keys.count()), Ok(1));
+    /// ```
+    ///
+    /// # Errors
+    ///
+    /// As [`ArtMap::try_prefix`].
+    pub fn try_prefix<P: KeyPrefix<K> + ?Sized>(&self, prefix: &P) -> Result<Prefix<'_, K>, AllocError> {
+        self.map.try_prefix(prefix).map(Prefix)
     }
 }
 

@@ -78,16 +78,30 @@ impl<'a, K: Key, V> View<'a, K, V> {
     }
 
     #[inline]
+    pub(crate) fn try_get<Q: Key + ?Sized>(self, key: &Q) -> Result<Option<(&'a K, &'a V)>, AllocError>
+    where
+        K: Borrow<Q>,
+    {
+        Ok(self.pair(word_of_key(self.words, key)?))
+    }
+
+    #[inline]
     pub(crate) fn get<Q: Key + ?Sized>(self, key: &Q) -> Option<(&'a K, &'a V)>
     where
         K: Borrow<Q>,
     {
-        self.pair(or_end(word_of_key(self.words, key)))
+        or_end(self.try_get(key))
+    }
+
+    pub(crate) fn try_prefix_get<P: KeyPrefix<K> + ?Sized>(
+        self,
+        query: &P,
+    ) -> Result<Option<(&'a K, &'a V)>, AllocError> {
+        Ok(self.pair(self.words.find(query.to_prefix()?.as_ref())))
     }
 
     pub(crate) fn prefix_get<P: KeyPrefix<K> + ?Sized>(self, query: &P) -> Option<(&'a K, &'a V)> {
-        let bytes = or_end(query.to_prefix());
-        self.pair(self.words.find(bytes.as_ref()))
+        or_end(self.try_prefix_get(query))
     }
 
     pub(crate) fn end(self, way: Way) -> Option<(&'a K, &'a V)> {
@@ -98,14 +112,25 @@ impl<'a, K: Key, V> View<'a, K, V> {
         Iter::new(self)
     }
 
+    pub(crate) fn try_range<Q: Key + ?Sized, R: RangeBounds<Q>>(self, range: &R) -> Result<Range<'a, K, V>, AllocError>
+    where
+        K: Borrow<Q>,
+    {
+        Ok(Range::new(self, between(range)?))
+    }
+
     pub(crate) fn range<Q: Key + ?Sized, R: RangeBounds<Q>>(self, range: &R) -> Range<'a, K, V>
     where
         K: Borrow<Q>,
     {
-        Range::new(self, or_end(between(range)))
+        or_end(self.try_range(range))
+    }
+
+    pub(crate) fn try_prefix<P: KeyPrefix<K> + ?Sized>(self, prefix: &P) -> Result<Prefix<'a, K, V>, AllocError> {
+        Ok(Prefix::new(self, prefix_room(prefix)?))
     }
 
     pub(crate) fn prefix<P: KeyPrefix<K> + ?Sized>(self, prefix: &P) -> Prefix<'a, K, V> {
-        Prefix::new(self, or_end(prefix_room(prefix)))
+        or_end(self.try_prefix(prefix))
     }
 }

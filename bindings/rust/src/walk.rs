@@ -1,14 +1,16 @@
 //! Walks over the words of a map, from both ends. A walk keeps no pointer into the proved map. Words are told many at a time,
 //! more each time; then the next call finds its place by the key of the last one.
 use crate::Key;
-use crate::error::or_end;
+use crate::error::AllocError;
 use crate::ffi::{From, To, Words};
 use crate::map::CHANGED;
 use crate::room::Room;
 use std::ops::Bound;
 
-/// How many words are asked for first, how many times more each time, and how many at most.
-const FIRST: usize = 16;
+/// How many words are asked for first, how many next, how many times more each time from then on, and how many at most. A
+/// range of which few pairs are wanted waits for each word that it asks for in vain.
+const FIRST: usize = 10;
+const NEXT: usize = 32;
 const TIMES: usize = 2;
 const MOST: usize = 1024;
 
@@ -112,9 +114,9 @@ impl Batch {
         if self.count == 0 {
             return &mut self.few;
         }
-        let had = if self.many.is_empty() { FIRST } else { self.many.len() };
-        let wanted = (had * TIMES).min(MOST);
-        if wanted > had && self.many.try_reserve_exact(wanted - self.many.len()).is_ok() {
+        let had = self.many.len();
+        let wanted = (had * TIMES).clamp(NEXT, MOST);
+        if wanted > had && self.many.try_reserve_exact(wanted - had).is_ok() {
             self.many.resize(wanted, 0);
         }
         if self.many.is_empty() { &mut self.few } else { &mut self.many }
@@ -151,19 +153,20 @@ impl<L: Limits> Walk<L> {
         Walk { limits, front, back, is_done: false }
     }
 
-    /// The index of the next pair from one of the ends. `key_of` lends the key of the index that this end gave last.
+    /// The index of the next pair from one of the ends. `key_of` lends the key of the index that this end gave last. An error
+    /// where there is no memory for the bytes of that key: the walk is as it was.
     #[inline]
     pub(crate) fn next<'k, K: Key + 'k>(
         &mut self,
         words: &Words,
         way: Way,
         key_of: impl FnOnce(usize) -> &'k K,
-    ) -> Option<usize> {
+    ) -> Result<Option<usize>, AllocError> {
         if let Ok(index) = self.given(way) {
-            return index;
+            return Ok(index);
         }
-        self.fill(words, way, key_of, false);
-        self.given(way).ok().flatten()
+        self.fill(words, way, key_of, false)?;
+        Ok(self.given(way).ok().flatten())
     }
 
     /// As `next`, and it is sure that the walk goes on behind the pair that this end gave last: so no pair is met twice.
@@ -172,20 +175,26 @@ impl<L: Limits> Walk<L> {
         words: &Words,
         way: Way,
         key_of: impl FnOnce(usize) -> &'k K,
-    ) -> Option<usize> {
+    ) -> Result<Option<usize>, AllocError> {
         if let Ok(index) = self.given(way) {
-            return index;
+            return Ok(index);
         }
-        self.fill(words, way, key_of, true);
-        self.given(way).ok().flatten()
+        self.fill(words, way, key_of, true)?;
+        Ok(self.given(way).ok().flatten())
     }
 
     /// Has the next words told where all have been given, so that the pair that was given last may go.
-    pub(crate) fn settle<'k, K: Key + 'k>(&mut self, words: &Words, way: Way, key_of: impl FnOnce(usize) -> &'k K) {
+    pub(crate) fn settle<'k, K: Key + 'k>(
+        &mut self,
+        words: &Words,
+        way: Way,
+        key_of: impl FnOnce(usize) -> &'k K,
+    ) -> Result<(), AllocError> {
         let end = if way == Way::Up { &self.front } else { &self.back };
         if !self.is_done && end.batch.given == end.batch.count && end.batch.has_more {
-            self.fill(words, way, key_of, false);
+            self.fill(words, way, key_of, false)?;
         }
+        Ok(())
     }
 
     /// The index of the next of the words that were told, or none at the end of the walk. An error where others are to be told
@@ -212,7 +221,13 @@ impl<L: Limits> Walk<L> {
     }
 
     #[inline(never)]
-    fn fill<'k, K: Key + 'k>(&mut self, words: &Words, way: Way, key_of: impl FnOnce(usize) -> &'k K, is_sure: bool) {
+    fn fill<'k, K: Key + 'k>(
+        &mut self,
+        words: &Words,
+        way: Way,
+        key_of: impl FnOnce(usize) -> &'k K,
+        is_sure: bool,
+    ) -> Result<(), AllocError> {
         let near = if way == Way::Up { &mut self.front } else { &mut self.back };
         let (batch, to) = (&mut near.batch, self.limits.to(way));
         let mut given = 0;
@@ -228,12 +243,13 @@ impl<L: Limits> Walk<L> {
                     given = usize::from(told.0 > 0 && places[0] == last);
                     told
                 } else {
-                    let bytes = or_end(key.to_bytes());
+                    let bytes = key.to_bytes()?;
                     assert!(!is_sure || words.get(bytes.as_ref()) == Some(last), "{CHANGED}");
                     words.walk(way, From::After(bytes.as_ref()), to, batch.places())
                 }
             }
         };
         (batch.count, batch.given, batch.has_more) = (count, given, has_more);
+        Ok(())
     }
 }

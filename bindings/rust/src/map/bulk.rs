@@ -5,7 +5,7 @@ use crate::map::{ArtMap, CHANGED, word_of};
 use crate::room::Room;
 use crate::slab::Slab;
 use crate::view::index_of;
-use crate::walk::{Between, Walk, Way};
+use crate::walk::{All, Between, Walk, Way};
 use crate::{Key, NoPrefixes};
 use std::borrow::Borrow;
 use std::error::Error;
@@ -276,7 +276,7 @@ impl<K: Key, V> ArtMap<K, V> {
         Filling::new(self).fill(pairs)
     }
 
-    /// A map of these pairs, whose types of keys may have prefixes.
+    /// A map of these pairs, whose types of keys may have prefixes. Those that ascend go in many at once.
     ///
     /// ```
     /// let map = artmap::ArtMap::try_from_iter([(vec![2], 'b'), (vec![1], 'a')]).unwrap();
@@ -316,7 +316,7 @@ impl<K: Key, V> ArtMap<K, V> {
         }
     }
 
-    /// As [`append`](Self::append), of keys of all types. It makes a copy of this map's tree meanwhile.
+    /// As [`append`](Self::append), of keys of all types. It makes a copy of this map's tree first.
     ///
     /// ```
     /// let mut map = artmap::ArtMap::from([(1, 'a')]);
@@ -333,9 +333,12 @@ impl<K: Key, V> ArtMap<K, V> {
             return Ok(());
         }
         let mut words = self.words.try_clone()?;
-        let (mut gone, mut index) = (Vec::new(), self.slab.end());
-        for (key, _) in &*other {
-            match words.put(key.to_bytes()?.as_ref(), word_of(index))? {
+        let (mut gone, mut moved) = (Vec::new(), Vec::new());
+        moved.try_reserve_exact(other.len()).map_err(AllocError::from)?;
+        let (mut walk, theirs) = (Walk::new(All), &other.slab);
+        while let Some(index) = walk.next_sure(&other.words, Way::Up, |index| theirs.pair(index).0)? {
+            let word = word_of(self.slab.end() + moved.len());
+            match theirs.pair(index).0.with_bytes(|bytes| words.put(bytes, word))?? {
                 Put::New => {}
                 Put::Replaced(old) => {
                     gone.try_reserve(1).map_err(AllocError::from)?;
@@ -343,11 +346,13 @@ impl<K: Key, V> ArtMap<K, V> {
                 }
                 Put::Conflict => return Err(AppendError::Prefix),
             }
-            index += 1;
+            moved.push(index);
         }
-        self.slab.reserve_behind(other.len())?;
+        self.slab.reserve_behind(moved.len())?;
         self.words = words;
-        for (key, value) in std::mem::take(other) {
+        let mut other = std::mem::take(other);
+        for index in moved {
+            let (key, value) = other.slab.take(index);
             self.slab.push(key, value);
         }
         drop(Rest { slab: &mut self.slab, pairs: gone.into_iter() });
@@ -414,7 +419,7 @@ impl<K: Key, V> ArtMap<K, V> {
     fn parting(&self, limits: Between) -> Result<Parting<K, V>, AllocError> {
         let (mut made, mut run, mut indexes) = (Self::new(), Run::new(), Vec::new());
         let (mut walk, slab) = (Walk::new(limits), &self.slab);
-        while let Some(index) = walk.next_sure(&self.words, Way::Up, |index| slab.pair(index).0) {
+        while let Some(index) = walk.next_sure(&self.words, Way::Up, |index| slab.pair(index).0)? {
             run.push(slab.pair(index).0.to_bytes()?.as_ref(), word_of(indexes.len()))?;
             indexes.try_reserve(1)?;
             indexes.push(index);

@@ -340,7 +340,7 @@ impl<K: Key, V> ArtMap<K, V> {
     fn take_all(&mut self, prefix: &[u8]) -> Result<usize, AllocError> {
         let mut gone = Vec::new();
         let (mut walk, slab) = (Walk::new(Under(Room::of(prefix)?)), &self.slab);
-        while let Some(index) = walk.next_sure(&self.words, Way::Up, |index| slab.pair(index).0) {
+        while let Some(index) = walk.next_sure(&self.words, Way::Up, |index| slab.pair(index).0)? {
             gone.try_reserve(1)?;
             gone.push(index);
         }

@@ -103,6 +103,58 @@ impl<'a, K: Key, V> Entry<'a, K, V> {
         }
     }
 
+    /// As [`insert_entry`](Self::insert_entry).
+    ///
+    /// ```
+    /// let mut map = artmap::ArtMap::new();
+    /// assert!(map.entry("a").try_insert_entry(1).is_ok_and(|entry| *entry.get() == 1));
+    /// ```
+    ///
+    /// # Errors
+    ///
+    /// Where memory lacks. The map is as it was, and the pair is handed back.
+    pub fn try_insert_entry(self, value: V) -> Result<OccupiedEntry<'a, K, V>, TryInsertError<K, V>> {
+        match self {
+            Entry::Occupied(mut entry) => {
+                entry.insert(value);
+                Ok(entry)
+            }
+            Entry::Vacant(entry) => entry.try_insert_entry(value),
+        }
+    }
+
+    /// As [`or_insert`](Self::or_insert).
+    ///
+    /// ```
+    /// let mut map = artmap::ArtMap::new();
+    /// assert_eq!(map.entry("a").try_or_insert(1), Ok(&mut 1));
+    /// assert_eq!(map.entry("a").try_or_insert(2), Ok(&mut 1));
+    /// ```
+    ///
+    /// # Errors
+    ///
+    /// Where memory lacks. The map is as it was, and the pair is handed back.
+    pub fn try_or_insert(self, value: V) -> Result<&'a mut V, TryInsertError<K, V>> {
+        self.try_or_insert_with(|| value)
+    }
+
+    /// As [`or_insert_with`](Self::or_insert_with).
+    ///
+    /// ```
+    /// let mut map = artmap::ArtMap::new();
+    /// assert_eq!(map.entry("a").try_or_insert_with(|| 1), Ok(&mut 1));
+    /// ```
+    ///
+    /// # Errors
+    ///
+    /// Where memory lacks. The map is as it was, and the pair is handed back.
+    pub fn try_or_insert_with<F: FnOnce() -> V>(self, make: F) -> Result<&'a mut V, TryInsertError<K, V>> {
+        match self {
+            Entry::Occupied(entry) => Ok(entry.into_mut()),
+            Entry::Vacant(entry) => entry.try_insert(make()),
+        }
+    }
+
     /// The value; where the key is not stored it is stored with this one.
     ///
     /// ```
@@ -330,6 +382,23 @@ impl<'a, K: Key, V> VacantEntry<'a, K, V> {
     /// ```
     pub fn insert(self, value: V) -> &'a mut V {
         self.insert_entry(value).into_mut()
+    }
+
+    /// As [`insert`](Self::insert).
+    ///
+    /// ```
+    /// use artmap::{ArtMap, Entry};
+    ///
+    /// let mut map = ArtMap::new();
+    /// let Entry::Vacant(entry) = map.entry("a") else { unreachable!() };
+    /// assert_eq!(entry.try_insert(1), Ok(&mut 1));
+    /// ```
+    ///
+    /// # Errors
+    ///
+    /// Where memory lacks. The map is as it was, and the pair is handed back.
+    pub fn try_insert(self, value: V) -> Result<&'a mut V, TryInsertError<K, V>> {
+        self.try_insert_entry(value).map(OccupiedEntry::into_mut)
     }
 
     /// As [`insert`](Self::insert), and it gives the entry.

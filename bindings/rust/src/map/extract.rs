@@ -26,26 +26,34 @@ impl<K, V, F: FnMut(&K, &mut V) -> bool> Goes<K, V> for Said<F> {
 /// What is left to be looked at.
 pub(crate) struct Extraction<'a, K, V, F, L> {
     map: &'a mut ArtMap<K, V>,
-    walk: Walk<L>,
+    /// An error where there was no memory for the bounds.
+    walk: Result<Walk<L>, AllocError>,
     goes: F,
     is_done: bool,
 }
 
 impl<K: Key, V, F: Goes<K, V>, L: Limits> Extraction<'_, K, V, F, L> {
     pub(crate) fn step(&mut self) -> Option<Result<(K, V), AllocError>> {
-        while !self.is_done {
-            let ArtMap { words, slab } = &mut *self.map;
-            let index = self.walk.next(words, Way::Up, |index| slab.pair(index).0)?;
+        if self.is_done {
+            return None;
+        }
+        let found = self.next_that_goes().transpose();
+        self.is_done = !matches!(found, Some(Ok(_)));
+        found
+    }
+
+    fn next_that_goes(&mut self) -> Result<Option<(K, V)>, AllocError> {
+        let walk = self.walk.as_mut().map_err(|why| *why)?;
+        let ArtMap { words, slab } = &mut *self.map;
+        while let Some(index) = walk.next(words, Way::Up, |index| slab.pair(index).0)? {
             let (key, value) = slab.pair_mut(index);
             if self.goes.goes(key, value) {
                 // (behind the pair the walk finds no way once its key has gone)
-                self.walk.settle(words, Way::Up, |index| slab.pair(index).0);
-                let taken = self.map.take_at(index);
-                self.is_done = taken.is_err();
-                return Some(taken);
+                walk.settle(words, Way::Up, |index| slab.pair(index).0)?;
+                return self.map.take_at(index).map(Some);
             }
         }
-        None
+        Ok(None)
     }
 
     /// How many are left at most.
@@ -132,8 +140,7 @@ impl<K: Key, V> ArtMap<K, V> {
     }
 
     /// As [`extract_if`](Self::extract_if). Where memory lacks, an item is an error, and the last one: the pair stays, with
-    /// its value as the closure left it.
-    /// (A bound of more than 120 bytes is copied before that, as by `extract_if`.)
+    /// its value as the closure left it. Where it lacks for the bytes of a bound, that is the only item.
     ///
     /// ```
     /// let mut map = artmap::ArtMap::from([(1, 'a'), (2, 'b')]);
@@ -159,7 +166,7 @@ impl<K: Key, V> ArtMap<K, V> {
         Q: Key + ?Sized,
         R: RangeBounds<Q>,
     {
-        let walk = Walk::new(or_end(between(range)));
+        let walk = between(range).map(Walk::new);
         Extraction { map: self, walk, goes, is_done: false }
     }
 
@@ -190,7 +197,7 @@ impl<K: Key, V> ArtMap<K, V> {
     /// it are as they were.
     pub fn try_retain<F: FnMut(&K, &mut V) -> bool>(&mut self, mut keep: F) -> Result<(), AllocError> {
         let goes = Said(|key: &K, value: &mut V| !keep(key, value));
-        let mut rest = Extraction { map: self, walk: Walk::new(All), goes, is_done: false };
+        let mut rest = Extraction { map: self, walk: Ok(Walk::new(All)), goes, is_done: false };
         while let Some(taken) = rest.step() {
             drop(taken?);
         }

@@ -1,6 +1,6 @@
 //! Entries of keys that others may begin, or begin with: what stands in the way of a key, looked up once.
 use crate::Key;
-use crate::error::{AllocError, or_end};
+use crate::error::{AllocError, TryInsertError, TryKeyError, no_memory, or_end};
 use crate::iter::Prefix;
 use crate::iter_mut::PrefixMut;
 use crate::map::{ArtMap, OccupiedEntry};
@@ -74,6 +74,27 @@ impl<'a, K: Key, V> PrefixEntry<'a, K, V> {
                 entry
             }
             PrefixEntry::Inner(entry) | PrefixEntry::Vacant(entry) => entry.insert_entry(value),
+        }
+    }
+
+    /// As [`insert_entry`](Self::insert_entry).
+    ///
+    /// ```
+    /// let mut map = artmap::ArtMap::new();
+    /// let entry = map.try_prefix_entry(vec![1]).unwrap();
+    /// assert!(entry.try_insert_entry('a').is_ok());
+    /// ```
+    ///
+    /// # Errors
+    ///
+    /// As [`ArtMap::try_prefix_insert`].
+    pub fn try_insert_entry(self, value: V) -> Result<OccupiedEntry<'a, K, V>, TryInsertError<K, V>> {
+        match self {
+            PrefixEntry::Occupied(mut entry) => {
+                entry.insert(value);
+                Ok(entry)
+            }
+            PrefixEntry::Inner(entry) | PrefixEntry::Vacant(entry) => entry.try_insert_entry(value),
         }
     }
 
@@ -201,11 +222,31 @@ impl<'a, K: Key, V> InnerEntry<'a, K, V> {
     /// assert_eq!(entry.insert_entry('a').remove(), 'a');
     /// ```
     pub fn insert_entry(self, value: V) -> OccupiedEntry<'a, K, V> {
-        or_end(self.map.make_way(&self.key));
-        match self.map.put(self.key, value) {
-            Ok((index, _)) => OccupiedEntry { map: self.map, index },
+        match self.try_insert_entry(value) {
+            Ok(entry) => entry,
             Err(why) => why.end(),
         }
+    }
+
+    /// As [`insert_entry`](Self::insert_entry).
+    ///
+    /// ```
+    /// use artmap::{ArtMap, PrefixEntry};
+    ///
+    /// let mut map = ArtMap::new();
+    /// let PrefixEntry::Vacant(entry) = map.prefix_entry(vec![1]) else { unreachable!() };
+    /// assert!(entry.try_insert_entry('a').is_ok());
+    /// ```
+    ///
+    /// # Errors
+    ///
+    /// As [`ArtMap::try_prefix_insert`].
+    pub fn try_insert_entry(self, value: V) -> Result<OccupiedEntry<'a, K, V>, TryInsertError<K, V>> {
+        if let Err(AllocError) = self.map.make_way(&self.key) {
+            return Err(TryInsertError::Memory { key: self.key, value });
+        }
+        let (index, _) = self.map.put(self.key, value)?;
+        Ok(OccupiedEntry { map: self.map, index })
     }
 }
 
@@ -220,15 +261,32 @@ impl<K: Key, V> ArtMap<K, V> {
     /// assert_eq!(map.len(), 1);
     /// ```
     pub fn prefix_entry(&mut self, key: K) -> PrefixEntry<'_, K, V> {
-        let (found, has_more) = {
-            let bytes = or_end(key.to_bytes());
-            let found = self.words.find(bytes.as_ref());
-            (found, found.is_none() && self.words.has_prefix(bytes.as_ref()))
-        };
-        match found {
-            Some(word) => PrefixEntry::Occupied(OccupiedEntry { map: self, index: index_of(word) }),
-            None if has_more => PrefixEntry::Inner(InnerEntry { map: self, key }),
-            None => PrefixEntry::Vacant(InnerEntry { map: self, key }),
+        match self.try_prefix_entry(key) {
+            Ok(entry) => entry,
+            Err(_) => no_memory(),
         }
+    }
+
+    /// As [`prefix_entry`](Self::prefix_entry).
+    ///
+    /// ```
+    /// let mut map = artmap::ArtMap::new();
+    /// assert_eq!(map.try_prefix_entry(vec![1]).unwrap().or_insert('a'), &'a');
+    /// ```
+    ///
+    /// # Errors
+    ///
+    /// Where there is no memory for the bytes of the key, which is handed back.
+    pub fn try_prefix_entry(&mut self, key: K) -> Result<PrefixEntry<'_, K, V>, TryKeyError<K>> {
+        let met = key.with_bytes(|bytes| {
+            let found = self.words.find(bytes);
+            (found, found.is_none() && self.words.has_prefix(bytes))
+        });
+        Ok(match met {
+            Ok((Some(word), _)) => PrefixEntry::Occupied(OccupiedEntry { map: self, index: index_of(word) }),
+            Ok((None, true)) => PrefixEntry::Inner(InnerEntry { map: self, key }),
+            Ok((None, false)) => PrefixEntry::Vacant(InnerEntry { map: self, key }),
+            Err(AllocError) => return Err(TryKeyError::Memory { key }),
+        })
     }
 }

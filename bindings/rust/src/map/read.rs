@@ -1,5 +1,5 @@
 //! Calls that look pairs up, and walk over them.
-use crate::error::{AllocError, or_end};
+use crate::error::or_end;
 use crate::iter::{Iter, IterBytes, Keys, Prefix, Range, Values};
 use crate::iter_mut::{IterMut, PrefixMut, RangeMut, ValuesMut};
 use crate::map::ArtMap;
@@ -66,38 +66,6 @@ impl<K: Key, V> ArtMap<K, V> {
     {
         let word = or_end(word_of_key(&self.words, key))?;
         Some(self.slab.pair_mut(index_of(word)).1)
-    }
-
-    /// As [`get`](Self::get).
-    ///
-    /// ```
-    /// assert_eq!(artmap::ArtMap::from([(1, 'a')]).try_get(&1), Ok(Some(&'a')));
-    /// ```
-    ///
-    /// # Errors
-    ///
-    /// Where there is no memory for the bytes of the key.
-    pub fn try_get<Q: Key + ?Sized>(&self, key: &Q) -> Result<Option<&V>, AllocError>
-    where
-        K: Borrow<Q>,
-    {
-        Ok(word_of_key(&self.words, key)?.map(|word| self.slab.pair(index_of(word)).1))
-    }
-
-    /// As [`get_mut`](Self::get_mut).
-    ///
-    /// ```
-    /// assert_eq!(artmap::ArtMap::from([(1, 'a')]).try_get_mut(&1), Ok(Some(&mut 'a')));
-    /// ```
-    ///
-    /// # Errors
-    ///
-    /// Where there is no memory for the bytes of the key.
-    pub fn try_get_mut<Q: Key + ?Sized>(&mut self, key: &Q) -> Result<Option<&mut V>, AllocError>
-    where
-        K: Borrow<Q>,
-    {
-        Ok(word_of_key(&self.words, key)?.map(|word| self.slab.pair_mut(index_of(word)).1))
     }
 
     /// The value of the one key that begins the query, or equals it: of prefixes as keys, the one that the query is under.
@@ -280,29 +248,6 @@ impl<K: Key, V> ArtMap<K, V> {
         self.view().range(&range)
     }
 
-    /// As [`range`](Self::range).
-    ///
-    /// ```
-    /// let map = artmap::ArtMap::from([(1, 'a'), (2, 'b')]);
-    /// assert_eq!(map.try_range(2..).map(|pairs| pairs.count()), Ok(1));
-    /// ```
-    ///
-    /// # Errors
-    ///
-    /// Where there is no memory for the bytes of a bound, which the walk keeps; up to 120 need none.
-    ///
-    /// # Panics
-    ///
-    /// As [`range`](Self::range).
-    pub fn try_range<Q, R>(&self, range: R) -> Result<Range<'_, K, V>, AllocError>
-    where
-        Q: Key + ?Sized,
-        K: Borrow<Q>,
-        R: RangeBounds<Q>,
-    {
-        Ok(Range::new(self.view(), between(&range)?))
-    }
-
     /// The pairs between two bounds, with values to be written.
     ///
     /// ```
@@ -333,20 +278,6 @@ impl<K: Key, V> ArtMap<K, V> {
     /// ```
     pub fn prefix<P: KeyPrefix<K> + ?Sized>(&self, prefix: &P) -> Prefix<'_, K, V> {
         self.view().prefix(prefix)
-    }
-
-    /// As [`prefix`](Self::prefix).
-    ///
-    /// ```
-    /// let map = artmap::ArtMap::from([("car", 1), ("dog", 2)]);
-    /// assert_eq!(map.try_prefix("ca").map(|pairs| pairs.count()), Ok(1));
-    /// ```
-    ///
-    /// # Errors
-    ///
-    /// Where there is no memory for the bytes of the prefix, which the walk keeps; up to 120 need none.
-    pub fn try_prefix<P: KeyPrefix<K> + ?Sized>(&self, prefix: &P) -> Result<Prefix<'_, K, V>, AllocError> {
-        Ok(Prefix::new(self.view(), prefix_room(prefix)?))
     }
 
     /// The pairs whose keys begin with a prefix, with values to be written.

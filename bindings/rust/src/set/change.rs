@@ -1,6 +1,6 @@
 //! Calls that put keys in and take them out.
 use super::ArtSet;
-use super::iter::{ExtractIf, IntoIter, OfKeys};
+use super::iter::{ExtractIf, IntoIter, OfKeys, TryExtractIf};
 use crate::error::{AllocError, TryInsertError, TryKeyError};
 use crate::map::AppendError;
 use crate::{Key, KeyPrefix, NoPrefixes};
@@ -98,6 +98,22 @@ impl<K: Key> ArtSet<K> {
         K: Borrow<Q>,
     {
         self.map.remove_entry(key).map(first)
+    }
+
+    /// As [`remove`](Self::remove).
+    ///
+    /// ```
+    /// assert_eq!(artmap::ArtSet::from([1]).try_remove(&1), Ok(true));
+    /// ```
+    ///
+    /// # Errors
+    ///
+    /// As [`try_take`](Self::try_take).
+    pub fn try_remove<Q: Key + ?Sized>(&mut self, key: &Q) -> Result<bool, AllocError>
+    where
+        K: Borrow<Q>,
+    {
+        Ok(self.try_take(key)?.is_some())
     }
 
     /// As [`take`](Self::take).
@@ -224,7 +240,27 @@ impl<K: Key> ArtSet<K> {
         R: RangeBounds<Q>,
         F: FnMut(&K) -> bool,
     {
-        ExtractIf(self.map.extraction(&range, OfKeys(goes)))
+        ExtractIf(self.try_extract_if(range, goes).0)
+    }
+
+    /// As [`extract_if`](Self::extract_if). Where memory lacks, an item is an error, and the last one: that key stays.
+    ///
+    /// ```
+    /// let mut set = artmap::ArtSet::from([1, 2]);
+    /// assert!(set.try_extract_if(.., |key| *key == 1).eq([Ok(1)]));
+    /// ```
+    ///
+    /// # Panics
+    ///
+    /// As [`ArtMap::range`](crate::ArtMap::range).
+    pub fn try_extract_if<Q, R, F>(&mut self, range: R, goes: F) -> TryExtractIf<'_, K, F>
+    where
+        Q: Key + ?Sized,
+        K: Borrow<Q>,
+        R: RangeBounds<Q>,
+        F: FnMut(&K) -> bool,
+    {
+        TryExtractIf(self.map.extraction(&range, OfKeys(goes)))
     }
 
     /// Moves all keys of another set into this one.

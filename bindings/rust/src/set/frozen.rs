@@ -171,6 +171,86 @@ impl<K: Key> FrozenSet<K> {
     pub fn prefix<P: KeyPrefix<K> + ?Sized>(&self, prefix: &P) -> Prefix<'_, K> {
         Prefix(self.0.prefix(prefix))
     }
+
+    /// As [`ArtSet::try_contains`].
+    ///
+    /// ```
+    /// assert_eq!(artmap::ArtSet::from([1]).freeze().try_contains(&1), Ok(true));
+    /// ```
+    ///
+    /// # Errors
+    ///
+    /// As there.
+    pub fn try_contains<Q: Key + ?Sized>(&self, key: &Q) -> Result<bool, AllocError>
+    where
+        K: Borrow<Q>,
+    {
+        Ok(self.try_get(key)?.is_some())
+    }
+
+    /// As [`ArtSet::try_get`].
+    ///
+    /// ```
+    /// assert_eq!(artmap::ArtSet::from([1]).freeze().try_get(&1), Ok(Some(&1)));
+    /// ```
+    ///
+    /// # Errors
+    ///
+    /// As there.
+    pub fn try_get<Q: Key + ?Sized>(&self, key: &Q) -> Result<Option<&K>, AllocError>
+    where
+        K: Borrow<Q>,
+    {
+        Ok(self.0.try_get_key_value(key)?.map(|pair| pair.0))
+    }
+
+    /// As [`ArtSet::try_prefix_get`].
+    ///
+    /// ```
+    /// assert_eq!(artmap::ArtSet::from([[10u8, 1]]).freeze().try_prefix_get(&[10u8, 1, 7]), Ok(Some(&[10, 1])));
+    /// ```
+    ///
+    /// # Errors
+    ///
+    /// As there.
+    pub fn try_prefix_get<P: KeyPrefix<K> + ?Sized>(&self, query: &P) -> Result<Option<&K>, AllocError> {
+        Ok(self.0.try_prefix_get_key_value(query)?.map(|pair| pair.0))
+    }
+
+    /// As [`ArtSet::try_range`].
+    ///
+    /// ```
+    /// assert!(artmap::ArtSet::from([1, 2]).freeze().try_range(2..).is_ok_and(|keys| keys.eq(&[2])));
+    /// ```
+    ///
+    /// # Errors
+    ///
+    /// As there.
+    ///
+    /// # Panics
+    ///
+    /// As there.
+    pub fn try_range<Q, R>(&self, range: R) -> Result<Range<'_, K>, AllocError>
+    where
+        Q: Key + ?Sized,
+        K: Borrow<Q>,
+        R: RangeBounds<Q>,
+    {
+        self.0.try_range(range).map(Range)
+    }
+
+    /// As [`ArtSet::try_prefix`].
+    ///
+    /// ```
+    /// assert!(artmap::ArtSet::from(["car", "dog"]).freeze().try_prefix("ca").is_ok_and(|keys| keys.eq(&["car"])));
+    /// ```
+    ///
+    /// # Errors
+    ///
+    /// As there.
+    pub fn try_prefix<P: KeyPrefix<K> + ?Sized>(&self, prefix: &P) -> Result<Prefix<'_, K>, AllocError> {
+        self.0.try_prefix(prefix).map(Prefix)
+    }
 }
 
 impl<K> Clone for FrozenSet<K> {

@@ -1,6 +1,6 @@
 //! Walks over a set.
 use crate::Key;
-use crate::error::or_end;
+use crate::error::{AllocError, or_end};
 use crate::iter::{Keys, Prefix as MapPrefix, Range as MapRange};
 use crate::map::{Extraction, Goes};
 use crate::owned::IntoKeys;
@@ -46,6 +46,17 @@ pub struct IntoIter<K>(pub(crate) IntoKeys<K, ()>);
 /// ```
 #[must_use = "iterators are lazy and do nothing unless consumed; `retain` drops what goes"]
 pub struct ExtractIf<'a, K, F>(pub(crate) Extraction<'a, K, (), OfKeys<F>, Between>);
+
+/// The keys that a closure says are to go, or that there is no memory to take them out. [`ArtSet::try_extract_if`] makes it.
+///
+/// [`ArtSet::try_extract_if`]: crate::ArtSet::try_extract_if
+///
+/// ```
+/// let mut set = artmap::ArtSet::from([1, 2]);
+/// assert!(set.try_extract_if(.., |key| *key == 1).eq([Ok(1)]));
+/// ```
+#[must_use = "iterators are lazy and do nothing unless consumed"]
+pub struct TryExtractIf<'a, K, F>(pub(crate) Extraction<'a, K, (), OfKeys<F>, Between>);
 
 /// The keys of which a closure says so.
 pub(crate) struct OfKeys<F>(pub(crate) F);
@@ -110,6 +121,20 @@ impl<K: Key, F: FnMut(&K) -> bool> Iterator for ExtractIf<'_, K, F> {
 }
 
 impl<K: Key, F: FnMut(&K) -> bool> FusedIterator for ExtractIf<'_, K, F> {}
+
+impl<K: Key, F: FnMut(&K) -> bool> Iterator for TryExtractIf<'_, K, F> {
+    type Item = Result<K, AllocError>;
+
+    fn next(&mut self) -> Option<Self::Item> {
+        Some(self.0.step()?.map(|pair| pair.0))
+    }
+
+    fn size_hint(&self) -> (usize, Option<usize>) {
+        (0, Some(self.0.most()))
+    }
+}
+
+impl<K: Key, F: FnMut(&K) -> bool> FusedIterator for TryExtractIf<'_, K, F> {}
 
 macro_rules! copies {
     ($($of:ident)*) => {$(

@@ -1,13 +1,17 @@
 //! How long calls take, in nanoseconds a pair, beside `BTreeMap`, and beside `HashMap` where order is not asked.
 //!
-//!     cargo bench --offline [-- SIZE ..]   1000, 100000 and 1000000 pairs, if no size is told
+//!     cargo bench --offline [-- SIZE .. KEYS .. rounds=N]   1000, 100000 and 1000000 pairs of all keys, if none are told
 //!
 //! A line tells the keys, how many, the map, the nanoseconds of a pair, and the step; a last one the ratios.
-//! All maps have keys of the same type and `u64` values, and lend what they lend. Keys are looked up, missed and taken out in
+//! All maps have keys of the same type and `u64` values, and lend what they lend. `perf/bindings.py` has unproved radix trees
+//! beside them. Keys are looked up, missed and taken out in
 //! another order than they went in. Each map runs in turn, several rounds; the least time of each counts. Keys:
 //!
 //! - `rand8`: `Vec<u8>` of eight random bytes; `url`: `Vec<u8>` of some 60 bytes, of hosts and paths;
 //! - `u64`: random numbers; `dense`: the numbers from 0 on; `text`: `String`s as the urls.
+#[cfg(peer)]
+mod peer;
+
 use artmap::{ArtMap, Key, NoPrefixes};
 use std::collections::{BTreeMap, HashMap};
 use std::env;
@@ -43,6 +47,14 @@ impl Random {
 trait Made: Clone + Ord + Hash + Key {
     fn of(number: u64) -> Self;
 }
+
+/// What unproved trees ask of keys.
+#[cfg(peer)]
+use peer::Coded;
+#[cfg(not(peer))]
+trait Coded {}
+#[cfg(not(peer))]
+impl<K> Coded for K {}
 
 fn mixed(number: u64) -> u64 {
     let number = (number ^ (number >> 31)).wrapping_mul(0x7fb5_d329_728e_a185);
@@ -264,6 +276,9 @@ fn weighed(kind: &str, map: &str, size: usize) -> String {
     String::from_utf8_lossy(&ran.stdout).trim().to_string()
 }
 
+/// Goes through the steps of a map.
+type Steps<K> = fn(&Keys<K>) -> Times;
+
 fn least(best: &mut Times, again: Times) {
     if best.is_empty() {
         *best = again;
@@ -272,20 +287,27 @@ fn least(best: &mut Times, again: Times) {
     }
 }
 
-fn bench<K: Made + NoPrefixes>(kind: &str, size: usize, rounds: usize) {
+fn bench<K: Made + NoPrefixes + Coded>(kind: &str, size: usize, rounds: usize) {
     let keys = keys::<K>(size);
-    let (mut arts, mut trees, mut hashes) = (Vec::new(), Vec::new(), Vec::new());
+    let maps: [(&str, Steps<K>); _] = [
+        ("ArtMap", art),
+        ("BTreeMap", tree),
+        ("HashMap", hash),
+        #[cfg(peer)]
+        ("art-vec", peer::vec),
+        #[cfg(peer)]
+        ("art-list", peer::list),
+    ];
+    let mut best = maps.map(|_| Vec::new());
     for _ in 0..rounds {
-        least(&mut arts, art(&keys));
-        least(&mut trees, tree(&keys));
-        least(&mut hashes, hash(&keys));
+        best.iter_mut().zip(maps).for_each(|(best, (_, steps))| least(best, steps(&keys)));
     }
-    for (name, times) in [("ArtMap", &arts), ("BTreeMap", &trees), ("HashMap", &hashes)] {
+    for (times, (name, _)) in best.iter().zip(maps) {
         for (what, ns) in times {
             println!("{kind} {size} {name} {ns:.0} {what}");
         }
     }
-    let ratios = arts.iter().zip(&trees).map(|((what, mine), (_, other))| format!("{what} {:.2}", mine / other));
+    let ratios = best[0].iter().zip(&best[1]).map(|((what, mine), (_, other))| format!("{what} {:.2}", mine / other));
     println!("{kind} {size}, ArtMap to BTreeMap: {}", ratios.collect::<Vec<_>>().join(", "));
     if size >= 100_000 {
         for map in ["ArtMap", "BTreeMap"] {
@@ -312,9 +334,10 @@ fn main() {
     let kinds: Vec<&String> =
         words.iter().filter(|it| ["rand8", "url", "u64", "dense", "text"].contains(&it.as_str())).collect();
     let is_wanted = |kind: &str| kinds.is_empty() || kinds.iter().any(|it| *it == kind);
+    let rounds = words.iter().find_map(|it| it.strip_prefix("rounds=")?.parse().ok());
     let told: Vec<usize> = words.iter().filter_map(|it| it.parse().ok()).collect();
     for size in if told.is_empty() { vec![1_000, 100_000, 1_000_000] } else { told } {
-        let rounds = (2_000_000 / size).clamp(3, 50);
+        let rounds = rounds.unwrap_or((2_000_000 / size).clamp(3, 50));
         if is_wanted("rand8") {
             bench::<Rand8>("rand8", size, rounds);
         }
