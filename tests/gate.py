@@ -8,7 +8,8 @@ must-fail edits (those of must-fail/ alone: tests/must_fail.py tries the others)
 which shared memory counts once). Only this run's processes are looked at, twice a second, and each ten seconds for
 memory. The row 'all' is what the system counted of the whole run; what stands in no crate's row is rt itself, and what
 processes used behind the last look at them. Each library that was proved has a second name under out/rlibs, by which
-tests/must_fail.py finds what this run proved, also where a session's own libraries are put back.
+tests/must_fail.py finds what this run proved, also where a session's own libraries are put back. Beside it stand the
+names of the functions that were proved.
 """
 import glob
 import os
@@ -38,6 +39,7 @@ class State:
         self.crates = re.findall(r"(?m)^([\w-]+)[^#\n]*", text)
         self.with_tests = [it for it in self.crates if self.tests_of(it)]
         self.proved, self.tested, self.ran, self.edits, self.rooms, self.faults = set(), set(), set(), {}, {}, []
+        self.functions = {}
         self.results, self.counts, self.part, self.said, self.when = 0, {}, "", "", 0
 
     @staticmethod
@@ -50,9 +52,13 @@ class State:
         found = re.match(r"rt: (\w+)(: its tests are)? (proved|NOT PROVED)", line)
         if found:
             (self.tested if found[2] else self.proved).add(found[1])
+        function = re.match(r"fn (\w+)::(\S+): proved", line)
+        if function:
+            self.functions.setdefault(function[1], []).append(function[2])
         given = re.match(r"rt: (\w+) (?:proved|is kept: )", line)
         if given:
             keep_library(given[1])
+            must_fail.note_proved(given[1], self.functions.get(given[1], []))
         begins = re.match(r"rt: (\w+): trying its must-fail edits \((\d+)\)", line)
         if begins:
             self.edits[begins[1]] = int(begins[2])

@@ -71,7 +71,8 @@ def make(top):
     for it in OWN:
         shutil.copy(f"tests/{it}", f"{top}/tests/{it}")
     os.makedirs(f"{top}/tools")
-    shutil.copy("tools/quick.py", f"{top}/tools/quick.py")
+    for it in ("quick.py", "module.py"):
+        shutil.copy(f"tools/{it}", f"{top}/tools/{it}")
     files = {"crates.txt": "tiny:\n", "crates/tiny/src/lib.rt": SOURCE, EDITS: EDIT, ROWS: TABLE, RUNS: "# None.\n"}
     for path, text in files.items():
         cases.write(f"{top}/{path}", text)

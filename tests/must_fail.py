@@ -8,15 +8,24 @@
     tests/must_fail.py --none-is-fine ..  where no edit is chosen, nothing fails
     tests/must_fail.py --anew ..          tries also what an earlier run saw refused (out/must_fail.json), of the same
                                           sources and by the same script
-All edits of a crate are carried out on one copy, and one `rattle check` judges their functions, each named by `--only`
-(tests/edits.py has their form; two of one function go in two rounds). Three things are told apart:
+The edits of a crate are carried out on one copy, and one `rattle check` judges their functions, each named by `--only`
+(tests/edits.py has their form; two of one function go in two checks). All other functions are taken as proved there, since
+ci proves them: a hole stands in the place of each proof. Three things are told apart:
 - a goal of the function is open, which has no written answer: the edit is refused;
 - a written answer no longer fits its goal: the function is judged again without that answer. Where `search` then leaves
   the goal open the edit is refused; where it proves it, the next such answer is left out; where it proves all, the edit
   is let through;
 - a written answer names what the edit took away, and nothing else is open: that says nothing, and fails.
 It also fails where the function is proved with it (whatever else it calls), and where the text no longer applies or
-compiles. What rattle says stands in out/must_fail-CRATE-ROUND.log; the last line is 'N passed, M failed'.
+compiles.
+
+Where an edit leaves several goals open, one is enough: each that is searched for costs seconds. So tests/must_fail.goals
+has those that were open before, and the first alone is searched for; a hole stands for each other. Where it is open the
+edit is refused, as before. In any other case the edit is judged whole. So a line that is wrong or lacks costs time, and
+changes no verdict. Each run writes out/must_fail.goals, to take its place.
+
+At the end stands what the checks of each crate took, and its dearest edits. What rattle says stands in
+out/must_fail-CRATE-CHECK.log; the last line is 'N passed, M failed'.
 """
 import concurrent.futures
 import hashlib
@@ -41,6 +50,16 @@ TREE, ENDED = f"{RLIBS}/tree", f"{RLIBS}/ended"
 # try once more what it could offer for the open goals, which takes as long as the check itself.
 NO_OFFERS = "no_offers"
 REFUSED = f"\npub {NO_OFFERS} : no_such_goal\n{NO_OFFERS} = no_such_goal\n"
+# A function that no edit of a check stands in is taken as proved there: ci proves it. Its proof is then one hole, which all
+# share, of any statement.
+TAKEN = "proofs/TakenAsProved.antt", "pub taken : {A : Type 2} → A\ntaken = ?\n"
+HOLE = """use Rattle.%s.proofs.%s.Statement as stated
+use Rattle.%s.proofs.TakenAsProved.{taken}
+
+pub %s_spec : {M : Type 1} → stated.statement M
+%s_spec = taken
+"""
+PROOFS = ("Answers.antt", "Invariants.antt", "Proof.antt")
 # What rattle says of an answer that names what is not there, or rests on what is not proved.
 GONE = re.compile(r"is not in scope|has no field|has no `|that can be named|was not admitted|is no name")
 
@@ -57,6 +76,11 @@ class Said:
         if not self.state or self.open or self.errors:
             return False
         return bool(re.search(r"part in its proof is not made yet|it calls `.*, which (is|are) not proved", self.state))
+
+    def waits_for(self, crate):
+        """The functions of the crate that it is said to call and that are not proved."""
+        called = re.search(r"it calls (`.*), which (is|are) not proved", self.state)
+        return set(re.findall(rf"`{crate}::([^`]+)`", called[1])) if called else set()
 
     def none(self):
         """Why there is no verdict on the function, or None."""
@@ -79,6 +103,11 @@ class Said:
         ways = {re.sub(r"-clause-.*", "", it) for it in answers.goals if it not in lost}
         fresh = [it for it in self.open if it not in answers.goals]
         return [it for it in fresh if not lost or re.sub(r"-clause-.*", "", it) in ways]
+
+    def goals_open(self, answers):
+        """The open goals that no answer is written for, those first that are false at some values."""
+        found = [it for it in dict.fromkeys(self.open) if it not in answers.goals]
+        return sorted(found, key=lambda it: it not in self.false)
 
     def verdict(self, answers, without=()):
         """Whether the edit of the function is refused, and by what; None where it is to be judged again without the answers
@@ -214,6 +243,34 @@ class Kept:
             os.replace(f"{self.file}.new", self.file)
 
 
+class Opened:
+    """The goals that a whole check of an edit found open, where there are several and no answer is written for them: the
+    first alone is searched for in the next run. `file` has a line for each such edit."""
+
+    file, made = "tests/must_fail.goals", "out/must_fail.goals"
+
+    def __init__(self):
+        self.lock, self.known, self.titles = threading.Lock(), {}, []
+        if os.path.isfile(self.file):
+            self.known = dict(re.findall(r"(?m)^([^#:\n]+): (.+)$", cases.read(self.file)))
+
+    def of(self, edit):
+        return self.known.get(edit.title(), "").split()
+
+    def note(self, edit, goals):
+        """Keeps what a whole check of an edit found."""
+        with self.lock:
+            self.known[edit.title()] = " ".join(goals)
+            self.write()
+
+    def write(self):
+        """Writes the lines of `titles`, as they are to stand: what this run found, and else what was known."""
+        text = "# Goals that tests/must_fail.py found open in edits. It searches for the first alone. See its text.\n"
+        for title in sorted(it for it in self.titles if " " in self.known.get(it, "")):
+            text += f"{title}: {self.known[title]}\n"
+        cases.write(self.made, text)
+
+
 def mark_tree():
     """Says in out/rlibs of which tree the libraries there are to be. None of an earlier run stays."""
     shutil.rmtree(RLIBS, ignore_errors=True)
@@ -221,6 +278,12 @@ def mark_tree():
     with open(f"{TREE}.part", "w", encoding="utf-8") as file:
         file.write(sum_of_tree())
     os.rename(f"{TREE}.part", TREE)
+
+
+def note_proved(crate, functions):
+    """Says in out/rlibs that rt ci has proved a crate, and which functions, where it told (what it kept it does not)."""
+    cases.write(f"{RLIBS}/{crate}.proved.part", "".join(f"{it}\n" for it in functions))
+    os.rename(f"{RLIBS}/{crate}.proved.part", f"{RLIBS}/{crate}.proved")
 
 
 def wait_for(path):
@@ -254,6 +317,11 @@ class Libraries:
                 return f"rt lib did not build {it}: {self.built[it]}"
         return None
 
+    def proved(self, name):
+        """The functions of a crate that rt ci said were proved, once it has proved the crate."""
+        path = self.beside_ci and wait_for(f"{RLIBS}/{name}.proved")
+        return cases.read(path).split() if path else []
+
     def lib(self, name):
         how = {"cwd": f"{TOP}/crates/{name}", "stdin": subprocess.DEVNULL, "text": True}
         ran = subprocess.run(["rt", "lib"], stdout=subprocess.PIPE, stderr=subprocess.STDOUT, **how)
@@ -276,9 +344,9 @@ class Libraries:
 class Crate:
     """A crate whose edits are tried: a copy of it, and what its checks keep there from one round to the next."""
 
-    def __init__(self, name, chosen, libraries, kept, room):
+    def __init__(self, name, chosen, libraries, kept, opened, room):
         self.name, self.edits, self.libraries, self.kept, self.room = name, chosen, libraries, kept, f"{room}/{name}"
-        self.told, self.number = {}, 0
+        self.opened, self.told, self.number, self.checks, self.spent, self.holes = opened, {}, 0, [], {}, []
 
     def run(self):
         """Tries all edits, and gives each with whether it is refused and by what."""
@@ -298,8 +366,7 @@ class Crate:
             self.tell(edit, False, f"NOT TRIED: {lacking}")
         if todo and not lacking:
             self.copy()
-            for chosen in rounds(todo):
-                self.try_round(chosen)
+            self.try_all(todo)
             shutil.rmtree(self.room, ignore_errors=True)
         return self.told
 
@@ -313,81 +380,165 @@ class Crate:
         for it in PARTS:
             if os.path.isdir(f"{TOP}/crates/{self.name}/{it}"):
                 shutil.copytree(f"{TOP}/crates/{self.name}/{it}", f"{self.room}/{it}")
+        self.holes = self.proved()
         kept = f"{TOP}/crates/{self.name}/out/incremental"
         if os.path.isdir(kept) and not self.libraries.beside_ci:
             shutil.copytree(kept, f"{self.room}/kept", copy_function=link)
 
-    def try_round(self, chosen):
-        """Tries edits that touch no function twice, in one check. Those that do not compile are told, and the rest are
-        tried again; so are those that the others kept from being judged."""
-        while chosen:
-            text, bad = self.check(chosen)
-            if not bad:
-                found = said_by(text, self.name)
-                waits = [it for it in chosen if found.get(it.function, Said()).waits()]
-                waits = waits if len(waits) < len(chosen) else []
-                self.judge([it for it in chosen if it not in waits], found)
-                chosen = waits
+    def proved(self):
+        """The functions that are taken as proved: those that rt ci proved, and those of the copy that have files of proofs,
+        but for those of a cycle, which have one proof together, and what rattle makes of other crates' types."""
+        top, found = f"{self.room}/proofs", {*self.libraries.proved(self.name)}
+        for folder, _, files in os.walk(top):
+            if {*PROOFS} & {*files}:
+                found.add(os.path.relpath(folder, top).replace("/", "::"))
+        return sorted(it for it in found if not re.search(r"(^|::)\+|\+\+|[{<]", it))
+
+    def not_taken(self, text, tried):
+        """Whether rattle refused the hole of a function. It keeps its proof from then on, and the check is made anew."""
+        errors = re.findall(r"(?m)^(?:\./)?proofs/(\S+)/Proof\.antt:\d+:\d+: error", text)
+        found = {it.replace("/", "::") for it in errors} & {*self.holes} - tried
+        self.holes = [it for it in self.holes if it not in found]
+        return bool(found)
+
+    def taken(self, tried):
+        """The texts of the copy by which all functions are taken as proved, but those that are tried."""
+        texts = {}
+        for function in self.holes:
+            if function not in tried:
+                folder, name = f"proofs/{function.replace('::', '/')}", function.split("::")[-1]
+                texts |= {f"{folder}/{it}": None for it in PROOFS if os.path.exists(f"{self.room}/{folder}/{it}")}
+                texts[f"{folder}/Proof.antt"] = HOLE % (self.name, function.replace("::", "."), self.name, name, name)
+        if texts:
+            root = f"{self.room}/proofs/Lib.antt"
+            texts["proofs/Lib.antt"] = (cases.read(root) if os.path.exists(root) else "") + "\nmod TakenAsProved\n"
+            texts[TAKEN[0]] = TAKEN[1]
+        return texts
+
+    def try_all(self, todo):
+        """Tries edits, as many in each check as touch no function twice. Behind each check come those of it that it says
+        nothing of yet (another edit kept them from being judged, or an answer no longer fits), and those that had no place
+        in it. What an earlier run found open in an edit is looked at `first`: where it is open that is all, and else the
+        edit is judged as if nothing was known of it."""
+        first = {it: self.opened.of(it) for it in todo if self.opened.of(it)}
+        left, apart = {}, {}
+        while todo:
+            chosen = fitting(todo, apart)
+            text, bad = self.check(chosen, left, first)
+            if self.not_taken(text, {it.function for it in chosen}):
                 continue
-            for edit, why in bad:
+            ended = {edit: why for edit, why in bad if not first.pop(edit, None)}
+            for edit, why in ended.items():
                 self.tell(edit, False, why)
-            chosen = [it for it in chosen if it not in [edit for edit, _ in bad]]
+            again = [it for it in chosen if it not in ended]
+            if not bad:
+                again = self.judge(chosen, said_by(text, self.name), left, apart, first)
+            todo = again + [it for it in todo if it not in chosen]
 
     def answers(self, edit):
         return f"proofs/{edit.function.replace('::', '/')}/Answers.antt"
 
-    def judge(self, chosen, found):
-        """Tells what came of edits in one check. Those by whose answers alone it shows nothing yet are judged again."""
-        left = {}
-        while chosen:
-            again = []
-            for edit in chosen:
-                said, answers = found.get(edit.function, Said()), Answers(f"{self.room}/{self.answers(edit)}")
-                verdict = said.verdict(answers, left.get(edit, ()))
-                if verdict is None:
-                    # (one goal that stays open is enough: each that is searched for costs seconds)
-                    fits = said.parted()[1]
-                    goals = [it for it in fits if it in answers.goals][:1] or fits
-                    more = answers.without([*left.get(edit, ()), *goals])[1]
-                    if more == left.get(edit, set()):
-                        verdict = False, f"NOT JUDGED: this fits no longer, and can't be left out: {', '.join(fits)}"
-                    left[edit] = more
-                if verdict is None:
-                    again.append(edit)
-                else:
-                    self.tell(edit, *verdict)
-            chosen = again
-            if chosen:
-                text, bad = self.check(chosen, left)
-                found = said_by(text, self.name)
-                for edit, why in bad:
-                    self.tell(edit, False, why)
-                chosen = [it for it in chosen if it not in [edit for edit, _ in bad]]
+    def judge(self, chosen, found, left, apart, first):
+        """Tells what came of edits in one check, and gives those that are to be tried again: in `left` with the answers
+        that are to be left out then, in `apart` with the functions that are not to be edited beside theirs."""
+        again, said = [], {it: found.get(it.function, Said()) for it in chosen}
+        waits = [it for it in chosen if said[it].waits() and len(chosen) > 1]
+        for edit in chosen:
+            if edit in waits:
+                others = {it.function for it in chosen if it is not edit}
+                ended = {it.function for it in chosen if it not in waits} or others
+                apart[edit] = apart.get(edit, set()) | (said[edit].waits_for(self.name) & others or ended)
+                again.append(edit)
+                continue
+            answers = Answers(f"{self.room}/{self.answers(edit)}")
+            verdict = said[edit].verdict(answers, left.get(edit, ()))
+            if edit in first and not (verdict and verdict[0]):
+                del first[edit]
+                again.append(edit)
+                continue
+            if verdict is None:
+                # (one goal that stays open is enough: each that is searched for costs seconds)
+                fits = said[edit].parted()[1]
+                goals = [it for it in fits if it in answers.goals][:1] or fits
+                more = answers.without([*left.get(edit, ()), *goals])[1]
+                if more == left.get(edit, set()):
+                    verdict = False, f"NOT JUDGED: this fits no longer, and can't be left out: {', '.join(fits)}"
+                left[edit] = more
+            if verdict is None:
+                again.append(edit)
+            else:
+                self.tell(edit, *verdict)
+                if verdict[0] and edit not in first and edit not in left:
+                    self.opened.note(edit, said[edit].goals_open(answers))
+        return again
 
-    def check(self, chosen, left=()):
+    def check(self, chosen, left, first):
         """What rattle says of a copy with these edits, and the edits that keep it from judging, each with why. Of those in
-        `left` some answers are left out."""
+        `left` some answers are left out; of those in `first` one of these goals is judged, and the others are not."""
         texts = {}
         for edit in chosen:
             texts = edit.carried_out(texts)
-            if edit in left:
+            if edit in first:
+                text = Answers(f"{self.room}/{self.answers(edit)}").text
+                texts[self.answers(edit)] = passed_over(text, self.name, edit.function, first[edit][1:])
+            elif edit in left:
                 texts[self.answers(edit)] = Answers(f"{self.room}/{self.answers(edit)}").without(left[edit])[0]
         for path in (self.answers(it) for it in chosen):
             if not os.path.exists(f"{self.room}/{path.replace('Answers', 'Proof')}"):
                 texts[path] = (texts[path] if path in texts else Answers(f"{self.room}/{path}").text) + REFUSED
+        tried = dict.fromkeys(edit.function for edit in chosen)
+        texts |= {path: text for path, text in self.taken(tried).items() if path not in texts}
         was = {path: cases.read(f"{self.room}/{path}") if os.path.exists(f"{self.room}/{path}") else None for path in texts}
         write(self.room, texts)
         self.number += 1
-        words = [*self.libraries.words(self.name), "--incremental", "kept"]
-        for it in dict.fromkeys(edit.function for edit in chosen):
+        words = [*self.libraries.words(self.name), "--incremental", "kept", "--allow-holes"]
+        for it in tried:
             words += ["--only", it]
         how = {"cwd": self.room, "stdin": subprocess.DEVNULL, "errors": "replace"}
-        ran = subprocess.run(words, stdout=subprocess.PIPE, stderr=subprocess.STDOUT, **how)
+        began = time.time()
+        ran, spent = run(words, how)
         write(self.room, was)
+        self.note_costs(chosen, began, spent)
         with open(f"{TOP}/out/must_fail-{self.name}-{self.number}.log", "w", encoding="utf-8") as log:
-            log.write(f"{' '.join(it.name for it in chosen)}\n{ran.stdout}")
+            log.write(f"{' '.join(it.name for it in chosen)}\n{ran.stdout}\n{spent:.0f} s of processor time\n")
         judged = re.search(r"(?m)^only=\d+ ", ran.stdout)
         return ran.stdout, [] if judged else blamed(ran, chosen, texts)
+
+    def note_costs(self, chosen, began, spent):
+        """Notes what a check took, and by the times of the files that it kept near what of it each edited function took."""
+        files = [(os.stat(it).st_mtime, it) for it in glob(f"{self.room}/kept/*/Rattle-{self.name}-*.oantt")]
+        share, last = spent / max(time.time() - began, 0.01), began
+        self.checks.append(spent)
+        for when, name in sorted(it for it in files if it[0] >= began):
+            for edit in chosen:
+                if f"-proofs.{edit.function.replace('::', '.')}." in name:
+                    self.spent[edit.name] = self.spent.get(edit.name, 0) + (when - last) * share
+            last = when
+
+    def costs(self):
+        """What the crate's checks took, and which edits took most of it."""
+        if self.checks:
+            dear = sorted(self.spent.items(), key=lambda it: -it[1])[:3]
+            told = ", ".join(f"{name} {spent:.0f}" for name, spent in dear)
+            each = " + ".join(f"{it:.0f}" for it in self.checks)
+            yield f"{self.name}: {sum(self.checks):.0f} s of processor time, by checks {each}; of which most {told}"
+
+
+def run(words, how):
+    """Runs a command, and gives how it ended, with what it printed, and the seconds of processor time that it took."""
+    with subprocess.Popen(words, stdout=subprocess.PIPE, stderr=subprocess.STDOUT, text=True, **how) as ran:
+        said = ran.stdout.read()
+        _, status, used = os.wait4(ran.pid, 0)
+        ran.returncode = os.waitstatus_to_exitcode(status)
+    return subprocess.CompletedProcess(words, ran.returncode, said), used.ru_utime + used.ru_stime
+
+
+def passed_over(text, crate, function, goals):
+    """The text of a function's answers, in which these goals are passed over by a hole each."""
+    name = re.search(r"(?m)^use \S+\.Goals as (\S+)$", text)
+    if goals and not name:
+        text = f"use Rattle.{crate}.proofs.{function.replace('::', '.')}.Goals as goal\n{text}"
+    return text + "".join(f"\npub {it} : {name[1] if name else 'goal'}.{it}\n{it} = ?\n" for it in goals)
 
 
 def blamed(ran, chosen, texts):
@@ -435,44 +586,47 @@ def link(one, other):
     return shutil.copy2(one, other)
 
 
-def rounds(todo):
-    """Puts the edits into rounds, none of which touches a function twice, or has a text that another took."""
-    found = []
+def fitting(todo, apart):
+    """The edits that one check can judge, those first that stand first: none touches a function that another does, or has
+    a text that another took, or is to be kept apart from another."""
+    chosen, touched, texts = [], set(), {}
     for edit in todo:
-        touched = {(path, at) for path, _, at in edit.places()} | {edit.function}
-        for one in found:
-            try:
-                if not touched & one[0]:
-                    texts = edit.carried_out(one[2])
-                    one[0] |= touched
-                    one[1].append(edit)
-                    one[2] = texts
-                    break
-            except ValueError:
-                continue
-        else:
-            found.append([touched, [edit], edit.carried_out({})])
-    return [chosen for _, chosen, _ in found]
+        own = {(path, at) for path, _, at in edit.places()} | {edit.function}
+        beside = {it.function for it in chosen}
+        if own & touched or apart.get(edit, set()) & beside or any(edit.function in apart.get(it, ()) for it in chosen):
+            continue
+        try:
+            texts = edit.carried_out(texts)
+        except ValueError:
+            continue
+        chosen.append(edit)
+        touched |= own
+    return chosen
 
 
 def main():
     given = cases.given(__doc__, "--all", "--beside-ci", "--anew", "--none-is-fine", words=1 << 20)
     libraries, kept, chosen, words = Libraries("--beside-ci" in given), Kept("--anew" in given), {}, given.words
+    opened = Opened()
     for name in libraries.crates:
         every = [it for it in edits.of_crate(f"crates/{name}") if it.gate or "--all" in given]
         every = [it for it in every if not it.place.startswith("tests/")]
         every = [it for it in every if not words or any(word in it.title() for word in words)]
         chosen.update({name: every} if every else {})
     os.makedirs("out", exist_ok=True)
+    opened.titles = [edit.title() for every in chosen.values() for edit in every]
+    opened.write()
     number = os.environ.get("RT_JOBS", "")
     lanes = int(number) if number.isdigit() and int(number) else len(os.sched_getaffinity(0))
     if libraries.beside_ci:
         lanes = 1
     with tempfile.TemporaryDirectory() as room, concurrent.futures.ThreadPoolExecutor(lanes) as pool:
         # (the libraries are built one by one; the crates that take longest begin first)
-        order = [Crate(name, every, libraries, kept, room) for name, every in chosen.items()]
+        order = [Crate(name, every, libraries, kept, opened, room) for name, every in chosen.items()]
         order = order if libraries.beside_ci else order[::-1]
         told = [it for tries in pool.map(Crate.run, order) for it in tries.values()]
+    for it in order:
+        print("\n".join(it.costs()), end="\n" * bool(it.checks))
     tally = cases.Tally()
     tally.passed, tally.failed = (sum(refused is it for refused, _ in told) for it in (True, False))
     if "--none-is-fine" in given and not told:

@@ -2,6 +2,9 @@
 """Shows what tests/must_fail.py says of edits of each kind, on a tiny crate of its own: those that are let through, no
 longer apply or compile, or are refused by a name alone must fail it, each with its line.
 
+Some are tried once more, with goals of an earlier run that are looked at first, most of them wrong: each must come out as in
+the first run.
+
     tests/must_fail_shown.py     at the top of the repository; the last line is 'N passed, M failed'
 """
 import os
@@ -124,6 +127,16 @@ invariant-loop-it l = l.at ≡ l.it
 }
 # The text of a function, and what takes its place, so that an answer names what is gone.
 FIRST = ("let first = same(n);", "let one = same(n); let first = one;")
+# Goals that are looked at first. Of `new_way_out` both are so; of the others they are wrong: of edits that are let through,
+# a goal that is none, and one that has an answer.
+FIRST_GOALS = """tiny/new_way_out: returns-then-n-eq7 returns
+tiny/equal_body: returns no_such_goal
+tiny/equal_caller: returns returns
+tiny/no_answer_fits: returns no_such_goal
+tiny/smaller: no_such_goal returns-then-b-a
+tiny/of_another: no_such_goal returns
+tiny/not_there: returns no_such_goal
+"""
 # An edit's name, its function, the texts with what takes their place, and how its line goes on.
 EDITS = (
     ("smaller", "larger", [("if a < b {", "if b < a {")], "refused: open, and false at some values: returns"),
@@ -169,16 +182,33 @@ def ends(ran):
     assert ran.stdout.endswith(wanted) and ran.returncode == 1, f"status {ran.returncode}, {ran.stdout[-300:]}"
 
 
+def tried(top, *words):
+    """What the script says of the crate, from nothing."""
+    how = {"cwd": top, "stdin": subprocess.DEVNULL, "text": True, "errors": "replace"}
+    words = [sys.executable, "-B", os.path.abspath("tests/must_fail.py"), "--anew", *words]
+    return subprocess.run(words, stdout=subprocess.PIPE, stderr=subprocess.STDOUT, **how)
+
+
+def comes_out_as(name, said, wanted):
+    """Whether an edit comes out as before, by whichever goals."""
+    found, before = (re.search(rf"(?m)^tiny/{name}: (refused|FAILED: [A-Z ]+).*", it) for it in (said, wanted))
+    assert found and before and found[1] == before[1], f"{found and found[0]}, and before {before and before[0]}"
+    return f"as it must be: {found[0]}"
+
+
 def main():
     told = cases.Tally(cases.given(__doc__, words=0).word)
     with cases.folder() as top:
         make(top)
-        how = {"cwd": top, "stdin": subprocess.DEVNULL, "text": True, "errors": "replace"}
-        words = [sys.executable, "-B", os.path.abspath("tests/must_fail.py")]
-        ran = subprocess.run(words, stdout=subprocess.PIPE, stderr=subprocess.STDOUT, **how)
+        ran = tried(top)
+        names = re.findall(r"(?m)^tiny/(\w+)", FIRST_GOALS)[:-1]
+        cases.write(f"{top}/tests/must_fail.goals", FIRST_GOALS)
+        again = tried(top, *[f"tiny/{it}" for it in names])
     for name, *_, wanted in EDITS:
         told.case(name, line_of, ran.stdout, name, wanted)
     told.case("the end", ends, ran)
+    for name in names:
+        told.case(f"{name}, looked at first", comes_out_as, name, again.stdout, ran.stdout)
     told.end()
 
 
