@@ -1,19 +1,34 @@
-"""What play_map has to answer to a line over a map, by a model made from the contracts. It knows no tree: a map is a
-sorted list."""
+"""What play_map has to answer to a line over a map, by a model made from the contracts. It knows no tree, but where
+nodes are counted: a map is a sorted list."""
 import itertools
 from bisect import bisect_left, bisect_right
 from collections import Counter
 
+import operations_tree
 from map_entries import Entries
 from map_words import BOTH, CLASSES, FILLING, PREFIX_FILLING, SHRINKING, Pairs, Refused, bytes_in, common, hashed
-from map_words import number, option, shown, text, untagged, with_tag
+from map_words import number, option, room_behind, shown, text, untagged, with_tag
+
+
+class Counts(str):
+    """An answer that follows from how many bytes of a prefix a node stores; of itself it is that for four."""
+
+    def __new__(cls, answer):
+        made = super().__new__(cls, answer(4))
+        made.of = answer
+        return made
+
+
+def bound_of(word):
+    """The bound that a word tells."""
+    return None if word[0] == "*" else operations_tree.Bound(word[0] == "[", bytes_in(word))
 
 
 class Model(Entries):
     """Pairs in the order of their keys' bytes. A method for each call, of the words behind its name. Where `refuse` is
     a number, the removal by an extraction with this number, of those that make a node smaller, finds no memory, and so
     does the insertion with this number of a call that makes several, of those of new keys. For the first `room` pairs
-    that the next line puts in, the line before has made room, so that they are not counted."""
+    that the next line puts in there is room that was made, so that they are not counted."""
 
     def __init__(self, is_ended, pairs=(), other=(), bag=(), refuse=None, room=0):
         self.pairs, self.other, self.bag = Pairs(pairs), Pairs(other), list(bag)
@@ -57,7 +72,7 @@ class Model(Entries):
         if call in PREFIX_FILLING:
             name, words = "fill_prefix", [call, *words]
         told = getattr(self, name)(*words)
-        self.room = int(words[0]) if call == "reserve" else 0
+        self.room = room_behind(self.room, call, words[0])
         return told
 
     # Look-ups.
@@ -142,6 +157,33 @@ class Model(Entries):
         keys = self.pairs.keys_in_order
         return self.first_three(keys[bisect_right(keys, bytes_in(word)) :])
 
+    def tree(self):
+        pairs = [(untagged(key), self.pairs[key]) for key in self.pairs.keys_in_order]
+        return operations_tree.tree_of(pairs) if pairs else None
+
+    def call_count_prefix(self, word, *_):
+        tree, front = self.tree(), bytes_in(word)
+        return Counts(lambda stored: f"{operations_tree.part_of(tree, front, stored)[0] if tree else 0} read")
+
+    def call_count_range(self, start, end, *_):
+        if self.between(start, end) is None:
+            return "invalid"
+        tree, keys, ends = self.tree(), list(self.pairs.keys_in_order), (bound_of(start), bound_of(end))
+        return Counts(lambda stored: f"{operations_tree.range_reads(tree, keys, *ends, stored) if tree else 0} read")
+
+    def call_count_cut(self, word, *_):
+        """The pairs that leave, and the nodes that were read to find them or were freed."""
+        tree, front = self.tree(), bytes_in(word)
+        gone = self.behind(word)
+        for key in gone:
+            del self.pairs[key]
+
+        def answer(stored):
+            reads, part = operations_tree.part_of(tree, front, stored) if tree else (0, None)
+            return f"{len(gone)} {reads + (operations_tree.count_nodes(part) if part else 0)}"
+
+        return Counts(answer)
+
     # Changes.
     def call_try_insert(self, word, number, *_):
         key = self.key(word)
@@ -184,6 +226,18 @@ class Model(Entries):
 
     def call_reserve(self, *_):
         return "done"
+
+    call_shrink = call_reserve
+
+    # How many bytes are held is counted by tests/held.c: so it answers what the line says.
+    def call_held(self, name, *_):
+        return f"held {name}"
+
+    def call_less(self, name, *_):
+        return f"less {name}"
+
+    def call_more(self, name, *_):
+        return f"more {name}"
 
     def take(self, key):
         return f"{shown(self.pairs.kept(key))} {self.pairs.pop(key)}" if key in self.pairs else "None"

@@ -3,6 +3,8 @@ from bisect import bisect_left, insort
 
 SHRINKING = {5, 17, 33, 49}
 CLASSES = ((2, 4), (5, 16), (17, 32), (33, 48), (49, 256))
+# Calls that put in one pair or key, and need no memory where there is room for it.
+SINGLE = {"insert", "try_insert", "replace", "replace_entry"}
 FILLING = ("or_insert", "or_default", "or_insert_with", "or_insert_with_key")
 PREFIX_FILLING = [f"prefix_{it}{entry}" for it in FILLING for entry in ("", "_entry")]
 BOTH = 0xFFFF_FFFF_FFFF_FFFF
@@ -97,6 +99,14 @@ class Pairs(dict):
         """The key that is stored of those that equal this one, or else this one."""
         at = bisect_left(self.keys_in_order, key)
         return self.keys_in_order[at] if key in self else key
+
+
+def room_behind(room, call, word):
+    """For how many pairs there is room behind a line: `reserve` makes it, an insertion of one uses it up, `clear` keeps
+    it. Of any other call nothing is said."""
+    if call == "reserve":
+        return int(word)
+    return room if call == "clear" else max(0, room - 1) if call in SINGLE else 0
 
 
 class Refused(Exception):

@@ -5,7 +5,8 @@ set_model.py) made from the contracts.
     tests/maps.py [WORD]           at the top of the repository; WORD: only scripts that have it in a name
     tests/maps.py --show FILE      prints what the model answers to a script
 The scripts of tests/maps/ are worked rows; others are made at random from fixed seeds, or go through all small maps.
-Each is played over three lengths of stored prefixes, by the player that tests/players.py builds.
+Each is played over three lengths of stored prefixes, or over the one in its name, by the player that tests/players.py
+builds. Under it tests/held.c counts the bytes that are held, for the lines that ask how many are.
 """
 import itertools
 import os
@@ -14,8 +15,9 @@ import subprocess
 import sys
 from glob import glob
 
+import cases
 import players
-from map_model import Model
+from map_model import Counts, Model
 from map_words import FILLING, PREFIX_FILLING
 from set_model import SetModel
 
@@ -58,6 +60,8 @@ ENDED_CALLS |= {"swap": "", "split_off": "s", "into_iter": "e", "into_keys": "e"
 ENDED_CALLS |= {"remove_from_both": "p"}
 ENDED_CALLS |= {"append": "", "extend": "", "from_vec": "", "from_iter": "", "clone": "", "compare": ""}
 ENDED_CALLS |= {"hash": "", "debug": "", "extend_from_refs": ""}
+# Calls of a map that tell how many nodes are read; so many stand at the end of a script.
+COUNTS, COUNTED = {"count_prefix": "p", "count_range": "bb", "count_cut": "p"}, 12
 # Calls that are given a bag of pairs, which is filled before.
 FROM_BAG = ("extend", "from_vec", "from_iter")
 # Calls that make a map larger, and smaller: by turns the ones are made often, and the others.
@@ -114,26 +118,38 @@ def script(seed, kind, length):
             model.answer(line)
     if kind == "set":
         return lines + ["iter " + "f" * (len(model.keys) + 1)]
+    for call in of.choices(list(COUNTS), k=COUNTED):
+        lines.append(" ".join([call, *map(word, COUNTS[call])]))
+        model.answer(lines[-1])
     return lines + ["check", "iter " + "f" * (len(model.pairs) + 1)]
 
 
 def wanted(kind, lines):
-    """What the model answers to a script."""
+    """What the model answers to a script, for each length of stored prefixes."""
     model = model_of(kind)
-    return "".join(f"{model.answer(line)}\n" for line in lines)
+    answers = [model.answer(line) for line in lines]
+    return {size: "".join(f"{it.of(size) if isinstance(it, Counts) else it}\n" for it in answers) for size in PREFIX_LENS}
+
+
+def sizes(name):
+    """The lengths of prefixes over which a script is played: that one which stands in its name, if one does."""
+    return [int(it) for it in name.split(".")[1:] if it.isdigit()] or PREFIX_LENS
 
 
 def rows(file):
     """A worked row: what was written down for it is what the model answers too."""
     kind, lines = file.split(".")[-2], open(file).read().splitlines()
-    written = open(file[: -len("lines")] + "replies").read()
-    assert written == wanted(kind, lines), f"{file}: the model answers {wanted(kind, lines)}"
+    written, model = open(file[: -len("lines")] + "replies").read(), wanted(kind, lines)
+    for size in sizes(os.path.basename(file)):
+        assert written == model[size], f"{file}: the model answers {model[size]}"
     return kind, lines
 
 
 def play(program, prefix_len, kind, lines, model):
     text = "".join(f"{line}\n" for line in [f"map {prefix_len} {kind}", *lines])
-    ran = subprocess.run([program], input=text, capture_output=True, text=True, timeout=120)
+    # (which counts the bytes that are held)
+    env = {"LD_PRELOAD": cases.shim("held.c")}
+    ran = subprocess.run([program], input=text, capture_output=True, text=True, timeout=120, env=env)
     assert (ran.returncode, ran.stderr) == (0, ""), f"status {ran.returncode}: {ran.stderr[-300:]}"
     if ran.stdout != model:
         told, model = ran.stdout.split("\n"), model.split("\n")
@@ -204,16 +220,17 @@ def long_scripts(word):
 
 def main():
     if sys.argv[1:2] == ["--show"]:
-        print(wanted(sys.argv[2].split(".")[-2], open(sys.argv[2]).read().splitlines()), end="")
+        told = wanted(sys.argv[2].split(".")[-2], open(sys.argv[2]).read().splitlines())
+        print(told[sizes(os.path.basename(sys.argv[2]))[0]], end="")
         return
     word, counts, played = sys.argv[1] if len(sys.argv) > 1 else "", {True: 0, False: 0}, 0
     program = players.program(PLAYER)
     for name, kind, lines in itertools.chain(scripts(word), long_scripts(word)):
         model = wanted(kind, lines)
-        for prefix_len in PREFIX_LENS:
+        for prefix_len in sizes(name):
             ended = "ok"
             try:
-                play(program, prefix_len, kind, lines, model)
+                play(program, prefix_len, kind, lines, model[prefix_len])
             except (AssertionError, OSError, subprocess.TimeoutExpired) as why:
                 ended = f"FAILED: {str(why)[:500]}"
             counts[ended == "ok"] += 1

@@ -32,6 +32,9 @@ CALLS = {
     "free_apart": "", "check": "", "search": "s", "prefix_search": "k", "minimum": "", "maximum": "", "path": "s",
     "start": "b", "end": "b", "range": "bb", "segment": "k",
 }  # fmt: skip
+# Calls that tell how many nodes a look-up reads; so many stand together, each so many lines.
+COUNTS = {"count_start": "b", "count_end": "b", "count_range": "bb", "count_segment": "k"}
+TOGETHER, APART = 4, 25
 OFTEN = {"insert": 10, "insert_placed": 10, "insert_at_point": 8, "command": 4, "put_over": 1.4}
 OFTEN |= {"free": 0.05, "free_apart": 0.05, "run": 0.1, "forget": 0.3, "key": 0.5}
 
@@ -65,9 +68,19 @@ class Writer:
         call = self.of.choice(("insert",) * 6 + ("prefix_insert", "delete", "delete", "clone"))
         return call if call == "clone" else f"{call} {self.word('k')} {self.word('n')}"
 
+    def count(self):
+        """Counts what look-ups read. What is drawn behind these lines is what would be drawn without them."""
+        state = self.of.getstate()
+        for _ in range(TOGETHER):
+            call = self.of.choice(list(COUNTS))
+            self.add(call, *map(self.word, COUNTS[call]))
+        self.of.setstate(state)
+
     def play_tree(self, length):
         weights = [OFTEN.get(it, 1) for it in CALLS]
-        for _ in range(length):
+        for number in range(length):
+            if number % APART == APART - 1:
+                self.count()
             call = self.of.choices(list(CALLS), weights)[0]
             words = list(map(self.word, CALLS[call]))
             if call == "key":
@@ -76,6 +89,49 @@ class Writer:
                 self.add(self.of.choice(PUTS), words[0], self.word("n"))
                 continue
             self.add(call, *words)
+
+    def behind_last(self):
+        """A word for a key that goes behind the last one, or any, if there is none or it has no greater byte."""
+        last = max(self.model.pairs, default=b"")
+        places = [at for at, byte in enumerate(last) if byte < 255]
+        if not places or self.of.random() < 0.2:
+            return self.word("k")
+        at = self.of.choice(places)
+        return (last[:at] + bytes([self.of.randint(last[at] + 1, 255)]) + self.tail()).hex()
+
+    def build_on(self):
+        """The tree is opened at its last leaf, takes pairs behind that, and is closed."""
+        if self.of.random() < 0.5:
+            self.add("room", len(self.model.pairs) + self.of.randint(0, 3))
+        self.add("reopen")
+        for _ in range(self.of.randint(1, 6)):
+            for call in ("reserve_push", "reserve"):
+                if self.of.random() < 0.3:
+                    self.add(call, self.of.randint(1, 3))
+            self.add("push", self.behind_last(), self.word("n"))
+        self.add("finish")
+        self.add("check")
+
+    def list_leaves(self):
+        """The leaves stand in a list, into which pairs are put, or out of which the last ones move; and a tree again."""
+        is_start, pairs = self.of.random() < 0.5, self.model.pairs
+        self.add("list", "start" if is_start else "end")
+        keys = [bytes_in(self.word("s")) for _ in range(8)] if is_start else []
+        for key in sorted(set(keys)):
+            if not any(overlap(key, it) for it in pairs if it != key):
+                self.add("list_put", key.hex() or "-", self.word("n"))
+        for _ in range(self.of.randint(0, 2) * (not is_start)):
+            self.add(self.of.choice(("list_remove", f"list_move {self.of.randint(0, len(pairs))}")))
+        self.add("room", len(pairs) + self.of.randint(0, 2))
+        self.add("rebuild")
+        self.add("check")
+
+    def sites(self):
+        """What is drawn behind these lines is what would be drawn without them."""
+        state = self.of.getstate()
+        for call in (self.build_on, self.list_leaves, self.build_on, self.list_leaves):
+            call()
+        self.of.setstate(state)
 
     # Nodes by hand.
     def pairs(self):
@@ -208,6 +264,7 @@ class Writer:
 def script(seed, prefix_len, length, rounds):
     writer = Writer(seed, prefix_len)
     writer.play_tree(length)
+    writer.sites()
     writer.add("check")
     writer.play_nodes(rounds)
     return writer.lines

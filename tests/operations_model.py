@@ -1,11 +1,12 @@
 """What play_operations has to answer to a line, by a model made from the contracts. It keeps sorted pairs, and makes
 the tree that they should have from its definition; behind the line `by_hand` it keeps nodes as they were made by hand,
 damaged at random or not, and tells by the definition whether they are a tree, and which faults stand."""
-import os
 from collections import Counter
 
-# The fewest and the most children of each kind of inner node.
-KINDS = {4: (2, 4), 16: (5, 16), 32: (17, 32), 48: (33, 48), 256: (49, 256)}
+import operations_tree
+from operations_site import NEEDS, Site, shown
+from operations_tree import Bound, Inner, KINDS, Leaf, common, tree_of, way
+
 # What takes a node out of the room of its kind asks for a smaller one.
 SHRINKING = {5, 17, 33, 49}
 # What changes a node that has a number.
@@ -18,57 +19,13 @@ def bytes_in(word):
     return b"".join(bytes.fromhex(digits) * int(times or 1) for digits, _, times in parts)
 
 
-def shown(key):
-    return str(list(key))
+def bound_of(word):
+    """The bound that a word tells."""
+    return None if word[0] == "*" else Bound(word[0] == "[", bytes_in(word))
 
 
 def overlap(one, other):
     return one.startswith(other) or other.startswith(one)
-
-
-def common(one, other):
-    return os.path.commonprefix([one, other])
-
-
-class Leaf:
-    def __init__(self, key, value):
-        self.key, self.value, self.name = key, value, "Leaf"
-
-
-class Inner:
-    def __init__(self, prefix, children):
-        self.prefix, self.children = prefix, children
-        self.kind = next(it for it, (least, most) in KINDS.items() if least <= len(children) <= most)
-        self.name = f"Node{self.kind}"
-
-
-def tree_of(pairs, depth=0):
-    """The canonical tree of ascending pairs none of whose keys is a front of another, behind so many bytes."""
-    if len(pairs) == 1:
-        return Leaf(*pairs[0])
-    front = len(common(pairs[0][0], pairs[-1][0]))
-    parts = {}
-    for key, value in pairs:
-        parts.setdefault(key[front], []).append((key, value))
-    return Inner(pairs[0][0][depth:front], {byte: tree_of(part, front + 1) for byte, part in parts.items()})
-
-
-def way(tree, key):
-    """The nodes to which a key leads, whatever the bytes of the prefixes are, and the steps between them."""
-    nodes, steps, depth = [tree], [], 0
-    while isinstance(tree, Inner):
-        depth += len(tree.prefix)
-        if depth >= len(key) or key[depth] not in tree.children:
-            break
-        steps.append((tree.name, key[depth]))
-        tree = tree.children[key[depth]]
-        depth += 1
-        nodes.append(tree)
-    return nodes, steps
-
-
-def inner_nodes(tree):
-    return 1 + sum(map(inner_nodes, tree.children.values())) if isinstance(tree, Inner) else 0
 
 
 def told_stats(leaves, kinds):
@@ -156,30 +113,40 @@ def verdict(nodes, root, prefix_len):
     return {told_stats(len(leaves), Counter(nodes[at].kind for at in met))}
 
 
-class Model:
+class Model(Site):
     """Pairs in the order of their keys' bytes, and behind `by_hand` nodes by hand. `answers` gives all that a line may
     answer. In a list of commands those whose numbers stand in `refused` find no memory."""
 
     def __init__(self, prefix_len):
         self.prefix_len, self.pairs, self.commands, self.refused = prefix_len, {}, [], ()
         self.nodes, self.root, self.is_by_hand = [], None, False
+        # The front of the part that was left: so there is room for its cut.
+        self.ready = None
 
     def again(self):
         it = Model(self.prefix_len)
         it.pairs, it.commands = dict(self.pairs), list(self.commands)
         it.nodes, it.root, it.is_by_hand = [node.again() for node in self.nodes], self.root, self.is_by_hand
+        it.__dict__.update(self.rooms())
         return it
+
+    bytes_in = staticmethod(bytes_in)
+    tree_of = staticmethod(lambda pairs: tree_of(sorted(pairs.items())))
 
     def answers(self, line):
         call, *words = line.split(" ")
         words += [""] * (4 - len(words))
         if self.is_by_hand and call in CHANGES and int(words[0]) >= len(self.nodes):
             return {"not understood"}
+        if not self.is_by_hand and NEEDS.get(call, self.site) != self.site:
+            return {"not understood"}
         told = getattr(self, ("hand_" if self.is_by_hand else "call_") + call)(*words)
+        if call != "check":
+            self.ready = bytes_in(words[0]) if told == "left" else None
         return told if isinstance(told, set) else {told}
 
     def tree(self):
-        return tree_of(sorted(self.pairs.items())) if self.pairs else None
+        return self.tree_of(self.pairs) if self.pairs else None
 
     def item(self, key):
         return "None" if key is None else f"{shown(key)} {self.pairs[key]}"
@@ -259,15 +226,13 @@ class Model:
 
     def call_cut(self, word, *_):
         part, others = self.parted(bytes_in(word))
-        told = f"{len(part)} leaves, {len(part) + inner_nodes(tree_of(part))} nodes" if part else "None"
+        told = f"{len(part)} leaves, {operations_tree.count_nodes(tree_of(part))} nodes" if part else "None"
         self.pairs = dict(others)
         return f"{told}, root {self.tree().name}" if others else f"{told}, no root"
 
     # The tree as a whole.
-    def call_reserve(self, *_):
+    def call_clone(self, *_):
         return "done"
-
-    call_clone = call_reserve
 
     def call_key(self, *_):
         return "kept"
@@ -313,6 +278,8 @@ class Model:
         return "0"
 
     def call_check(self, *_):
+        if self.site:
+            return f"{len(self.pairs)} leaves in the making"
         kinds, leaves, waiting = Counter(), 0, [self.tree()] if self.pairs else []
         for it in waiting:
             if isinstance(it, Leaf):
@@ -371,6 +338,23 @@ class Model:
 
     def call_segment(self, word, *_):
         return self.ends([it for it in sorted(self.pairs) if it.startswith(bytes_in(word))])
+
+    # How many nodes those look-ups read.
+    def counted(self, count):
+        return f"{count(self.tree())} read" if self.pairs else "no tree"
+
+    def call_count_start(self, bound, *_):
+        return self.counted(lambda tree: operations_tree.bound_reads(tree, bound_of(bound), True, self.prefix_len))
+
+    def call_count_end(self, bound, *_):
+        return self.counted(lambda tree: operations_tree.bound_reads(tree, bound_of(bound), False, self.prefix_len))
+
+    def call_count_range(self, start, end, *_):
+        bounds, keys = (bound_of(start), bound_of(end)), sorted(self.pairs)
+        return self.counted(lambda tree: operations_tree.range_reads(tree, keys, *bounds, self.prefix_len))
+
+    def call_count_segment(self, word, *_):
+        return self.counted(lambda tree: operations_tree.part_of(tree, bytes_in(word), self.prefix_len)[0])
 
     # Nodes by hand.
     def call_by_hand(self, *_):

@@ -69,11 +69,14 @@ def refusals(model, line):
         return {"no key"}
     if model.is_by_hand:
         return {"memory"} if call in ("leaf", "node", "copy", "grow", "shrink", "check", "clone") else set()
+    of_site = model.refusals_of_site(call, *words[:2])
+    if of_site is not None:
+        return of_site
     if call in TAKING:
         key = end_of(call, keys, word)
         return {"memory"} if key in keys and shrinks(keys, key) else set()
     if call in PARTS:
-        return {"memory"} if model.shrinks_without(word) else set()
+        return {"memory"} if model.shrinks_without(word) and model.ready != word else set()
     back = f"memory {shown(word)} {int(words[1] or 0)}"
     if call == "insert_at_point" and model.pairs and model.blocked(word):
         return {"no key", back}  # (a copy of the bytes is made)
@@ -93,6 +96,11 @@ def case(model, line, has_room):
     if call in operations.PUTS:
         told = "stored key" if word in keys else "key in conflict" if model.blocked(word) else "new key"
         return f"{told} that was kept, behind `reserve`" if has_room else told
+    of_site = model.refusals_of_site(call, *words[:2])
+    if of_site is not None:
+        return "may be out of memory" if any(it.startswith("memory") for it in of_site) else "has what it needs"
+    if call in PARTS and model.ready == word:
+        return "behind `leave`"
     if call in PARTS:
         told = "a node gets smaller" if model.shrinks_without(word) else "no node gets smaller"
         return told if model.parted(word)[0] else "no key with the prefix"

@@ -10,6 +10,7 @@ program, however the lines are cut, and the model of tests/reference.py answers 
 """
 import os
 import re
+import resource
 import select
 import subprocess
 import tempfile
@@ -288,6 +289,27 @@ def replies_before_it_waits(program):
                 it.gives(next(replies))
 
 
+def seconds(program, lines):
+    """How many seconds of processor time the program takes for some lines, none of which finds no memory."""
+    before = resource.getrusage(resource.RUSAGE_CHILDREN).ru_utime
+    out, err, status = ended([program], input="".join(f"{it}\n" for it in lines).encode())
+    wants((err, status, b"memory\n" in out), (b"", 0, False))
+    return resource.getrusage(resource.RUSAGE_CHILDREN).ru_utime - before
+
+
+def no_line_walks_a_map(program):
+    """9,000 lines of all kinds that give one pair or none take little longer over 16,000 records than over 160. To go
+    along the records at each line of one kind would take 16 million steps."""
+    keys = [f"{it * 40503 % 65536:04x}" for it in range(16000)]
+    kinds = ["put 1 {} 62", "over 1 {} 63", "get 1 {}", "find 1 {}00", "list 1 {}", "span 1 {0} {0}", "del 1 {}"]
+    kinds += ["nget 1 5", "drop 2"]
+    puts = [f"put 1 {it} 61" for it in keys]
+    lines = [kind.format(it) for kind in kinds for it in keys[:1000]]
+    few = seconds(program, puts[:160] + lines)
+    many = seconds(program, puts + lines) - seconds(program, puts)
+    assert many < 3 * few + 0.06, f"the lines take {few:.3f} s over 160 records, and {many:.3f} s over 16,000"
+
+
 def few_system_calls(program):
     """Plentiful input is read and answered in large pieces: at most one call for 4,000 bytes, beside a few."""
     with tempfile.TemporaryFile() as file:
@@ -322,6 +344,7 @@ TESTS = [
     a_closed_output_is_told,
     replies_before_it_waits,
     few_system_calls,
+    no_line_walks_a_map,
     reads_as_long_as_there_is_more,
 ]
 

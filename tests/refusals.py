@@ -41,12 +41,12 @@ SEVERAL = {"retain", "extract_if", "extraction", "extend", "from_vec", "from_ite
 # succeed. One of them has to: it puts in no more pairs than there is room for.
 BUILDING = {"extend", "extend_from_refs", "from_vec", "from_iter", "and", "or", "xor", "minus"}
 WITH_ROOM = "extend with room"
-# Calls that put in one pair, and need no memory where there is room for it.
-SINGLE = {"insert", "try_insert", "replace_entry"}
+# Calls that do without what they are refused: those, and one that gives memory back.
+SPARING = BUILDING | {"shrink"}
 # Calls that are given a key, and calls that take out one pair.
 REMOVALS = {"remove", "remove_entry", "pop_first", "pop_last", "take", "entry_remove", "entry_remove_entry"}
 # Calls that take out all keys behind a prefix, or make ready for it.
-CUTS = {"remove_prefix", "apply_prefix", "prepare_prefix", "remove_from_both"}
+CUTS = {"remove_prefix", "apply_prefix", "prepare_prefix", "remove_from_both", "count_cut"}
 GIVEN_KEY = {"try_insert", "put_at", "prefix_insert", "replace", *maps.ENDED, *maps.FREE} - REMOVALS
 # Of these the first are given a key, and ask for no memory else.
 KEY_ALONE = {"prefix_entry", "prefix_keys", "and_modify", "into_mut", "into_key", *(it for it in maps.INNER[4:])}
@@ -56,15 +56,16 @@ PLAYERS_OWN = {"drain"}
 # many runs at least; any other call that may ask for memory in one.
 RARE = {"append", "split_off", "clone", "retain", "extend", "from_vec", "from_iter", "and", "or", "xor", "minus"}
 MOST, LEAST = 60, {**{it: 2 if it == "retain" else 20 for it in RARE}, WITH_ROOM: 0}
-# Each call that builds does without what it is refused in so many runs at least. (Of pairs that are lent the player
-# puts in the last first, so that few are built.)
-WITHOUT = {it: 2 if it == "extend_from_refs" else 40 for it in BUILDING | {WITH_ROOM}}
+# Each such call does without what it is refused in so many runs at least. (Of pairs that are lent the player puts in the
+# last first, so that few are built.)
+WITHOUT = {it: 2 if it in ("extend_from_refs", "shrink") else 40 for it in SPARING | {WITH_ROOM}}
 TAKE_NONE = {"len", "is_empty", "get", "get_key_value", "contains_key", "index", "prefix_get", "prefix_get_key_value"}
 TAKE_NONE |= {"first_key_value", "last_key_value", "get_mut", "prefix_get_mut", "prefix_get_key_value_mut", "clear"}
 TAKE_NONE |= {"iter", "keys", "values", "range", "prefix", "range_mut", "prefix_mut", "iter_mut", "values_mut", "swap"}
 TAKE_NONE |= {"compare", "into_iter", "into_keys", "into_values", "contains", "first", "last", "difference", "union"}
 TAKE_NONE |= {"symmetric_difference", "intersection", "is_disjoint", "is_subset", "is_superset", "hash", "debug"}
-TAKE_NONE |= {"read_get", "read_prefix_get", "read_prefix", "read_range"}
+TAKE_NONE |= {"read_get", "read_prefix_get", "read_prefix", "read_range", "count_prefix", "count_range"}
+TAKE_NONE |= {"shrink", "held", "less", "more"}
 # First words of replies that list nothing.
 REPLIES = {"new", "old", "conflict", "over", "is", "none", "at", "gone", "bounds", "bytes", "dropped", "bad"}
 SHIM = os.path.abspath("out/refuse.so")
@@ -236,7 +237,7 @@ def takes_none(line, model, kind):
     if call in CUTS:
         other = map_model.Model(True, model.other)
         return not (one.cut_shrinks(word) or call == "remove_from_both" and other.cut_shrinks(word))
-    if call in SINGLE and one.room:
+    if call in map_words.SINGLE and model.room:
         return True
     return call in TAKE_NONE | KEY_ALONE or call in GIVEN_KEY and one.key(word) in one.pairs
 
@@ -259,7 +260,7 @@ def one_call(kind, lines, at, model, before):
     title = WITH_ROOM if has_room else call, "set" if kind == "set" else "map"
     twice = "".join(f"{it}\n" for it in [f"map 4 {kind}", *lines[: at + 1], *behind]).encode()
     free, refused = played(model.again(), behind), 0
-    whole = played(model.again(), [lines[at], *behind]) if call in BUILDING else None
+    whole = played(model.again(), [lines[at], *behind]) if call in SPARING else None
     for label, out, *_ in each_refusal([players.program(maps.PLAYER)], line=at + 2, given=twice):
         assert out.startswith(before), f"{label}: it answers {out[-300:]}"
         rest = out[len(before) :]
@@ -299,6 +300,8 @@ def of_players():
         first = f"map {size} {kind}"
         count(maps.PLAYER, f"new, {first}", made_new, first)
     for name, kind, lines in maps.scripts():
+        if 4 not in maps.sizes(name):
+            continue
         at_random = name.startswith("random")
         first = len(lines) if not at_random else 60 if int(name.split()[1]) <= 5 else 0
         model, before = maps.model_of(kind), b""

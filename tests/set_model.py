@@ -1,26 +1,27 @@
 """The same over a set: two sets of keys with a zero at the end, of which the first is asked."""
 from map_model import Model
-from map_words import Refused, bytes_in, hashed, number, shown, text, with_tag
+from map_words import Refused, bytes_in, hashed, number, room_behind, shown, text, with_tag
 
 
 class SetModel:
-    """Two sets of keys with a zero at the end, of which the first is asked; `refuse` as in the model of a map. There
-    never is room that was made."""
+    """Two sets of keys with a zero at the end, of which the first is asked; `refuse` and `room` as in the model of a
+    map."""
 
-    room = 0
-
-    def __init__(self, keys=(), other=(), bag=(), refuse=None):
+    def __init__(self, keys=(), other=(), bag=(), refuse=None, room=0):
         self.keys, self.other, self.bag, self.refuse, self.changes = set(keys), set(other), list(bag), refuse, 0
+        self.room = room
 
     def again(self):
-        return SetModel(self.keys, self.other, self.bag)
+        return SetModel(self.keys, self.other, self.bag, room=self.room)
 
     def size(self):
         return len(self.keys) + len(self.other) + len(self.bag)
 
     def answer(self, line):
         call, *words = line.split(" ")
-        return getattr(self, "call_" + call)(*words, *[""] * (4 - len(words)))
+        told = getattr(self, "call_" + call)(*words, *[""] * (4 - len(words)))
+        self.room = room_behind(self.room, call, words[0] if words else "")
+        return told
 
     def call_len(self, *_):
         return f"{len(self.keys)} {str(not self.keys).lower()}"
@@ -97,6 +98,12 @@ class SetModel:
     def call_clear(self, *_):
         self.keys = set()
         return "done"
+
+    def call_reserve(self, *_):
+        return "done"
+
+    call_shrink = call_reserve
+    call_held, call_less, call_more = Model.call_held, Model.call_less, Model.call_more
 
     def call_take(self, word, *_):
         key = bytes_in(word)
@@ -205,10 +212,10 @@ class SetModel:
         self.bag += sorted(self.other, reverse=end == "b")
         return self.made(self.keys, set())
 
-    def put_bag(self, keys):
+    def put_bag(self, keys, room=0):
         given, self.bag = self.bag, []
-        for key in given:
-            may_ask = key not in keys
+        for at, key in enumerate(given):
+            may_ask = at >= room and key not in keys
             self.changes += may_ask
             if may_ask and self.changes == self.refuse:
                 return f"memory {shown(key)}"
@@ -216,7 +223,7 @@ class SetModel:
         return "done"
 
     def call_extend(self, *_):
-        return self.put_bag(self.keys)
+        return self.put_bag(self.keys, self.room)
 
     def call_from_vec(self, *_):
         made = set()

@@ -134,7 +134,7 @@ def built(room, program, chosen):
     kept = f"{TOP}/out/wrong/{program}-{quick.digest(switched.top, quick.BUILT_OF)[:16]}"
     if not os.path.exists(kept):
         # (compiled so that no call is folded)
-        said = quick.build(switched.top, program, f"{room}/{program}.made", quick.CLANG.replace("-O3", "-O0"))
+        said = quick.build(switched.top, program, f"{room}/{program}.made", quick.UNEDITED)
         if said:
             raise ValueError(f"{program} was not built: {said}")
         for it in glob(f"{TOP}/out/wrong/{program}-*"):
