@@ -3,7 +3,9 @@
 
     ./bench [--sizes 10000,100000] [--sets dense,rand8,rand16,url] [--repeats 5] [--instr] [--walks SIZE]
         [--ranges SIZE] [--entries SIZE] [--program SIZES] [--nothing LINES] [--quick] [--perf FOLDER]
-It proves and builds the libraries where they are not built, and needs nothing but rt and cc. --walks SIZE times walks
+It proves and builds the libraries where they are not built, and needs nothing but rt and cc. --sets takes shapes that
+nothing was made for, too: hosts, dna, hashes, series, shared (perf/drive.c). Keys are looked up in another order than
+they go in; misses are told by their kind. --sizes 10000000 goes as far as 10^7. --walks SIZE times walks
 over so many pairs, from the front and from both ends, the check of a tree, its clone and its free. --ranges SIZE times
 ranges of 100 pairs and of one, and walks of the pairs behind a prefix, in maps of so many pairs. --entries SIZE times
 `entry(..).and_modify(..).or_insert(..)` of so many keys, new ones and then stored ones, beside an insertion, and beside
@@ -14,8 +16,8 @@ libabsl-dev): its table follows, with unproved peers, and three of them stand in
 needs it, times lines of the program beside its peers (those of the yardsticks, and the unproved tree with a `Vec` for
 each key and value, without and with linked leaves): loads, `get` lines, misses and dumps. --nothing LINES, which needs
 it too, times so many lines on an empty index, that is, how they are read and answered (and with --instr counts the
-instructions of 3,000). With --quick both take the program that is built at once, without proofs and with run-time checks
-(tools/quick.py), in place of the proved one. --sizes '' leaves look-ups and insertions out.
+instructions of 3,000). With --quick both take the program as it stands, built without proofs and without checks at run
+time (tools/quick.py), in place of the proved one. --sizes '' leaves look-ups and insertions out.
 Standard error tells how far it is. Times are processor time, the least of the repeats, one competitor after the other in
 each; take ratios from one run alone. Of look-ups, insertions and lines two are told: by the least, and by the median of
 the ratios round by round.
@@ -37,7 +39,7 @@ import quick
 
 MAPS = {"tree": "bench_tree", "map": "bench_map", "BTreeMap": "bench_btree"}
 PEERS = {"art-vec": [], "art-list": ["--features", "list"], "btree": ["--features", "btree"]}
-OPERATIONS = ("insertion, ns", "look-up, ns", "miss, ns", "bytes")
+OPERATIONS = ("insertion, ns", "look-up, ns", "miss at a leaf, ns", "early miss, ns", "bytes")
 # Steps of perf/drive.c: what is timed of each map that has it, and what of the map here alone.
 WALKS = {"from the front": 4, "from both ends": 8, "clone": 7, "let go": 11}
 NODES = {"check_tree": 9, "clone_unchecked": 7, "deallocate_tree": 10}
@@ -343,8 +345,8 @@ def line_costs(folder, programs, key_set, size, repeats):
 def here(asked):
     """The path of art_index, proved and built; or built without proofs, which the output then says."""
     if asked.quick:
-        print("\n`here` is built without proofs and has run-time checks.", flush=True)
-        return os.path.abspath(quick.kept(".", tell))
+        print("\n`here` is built without proofs and without checks: near the proved program, and not to be told as its own.")
+        return os.path.abspath(quick.kept(".", tell, quick.BARE))
     tell("proving and building art_index, where it is not built")
     called([os.environ.get("RT", "rt"), "run"], cwd="crates/art_index", stdin=subprocess.DEVNULL)
     return os.path.abspath("crates/art_index/out/art_index")
@@ -500,6 +502,14 @@ def main():
     parser.add_argument("--instr-size", type=int, default=10000)
     parser.add_argument("--perf")
     asked = parser.parse_args()
+    lacks = [it for it in ("rt", "cc", *(["cargo"] if asked.perf else []), *(["valgrind"] if asked.instr else []))
+             if not shutil.which(it)]  # fmt: skip
+    if lacks:
+        parser.error(f"{lacks[0]} is not on the PATH")
+    if asked.perf and not os.access(f"{asked.perf}/build.sh", os.X_OK):
+        parser.error(f"{asked.perf} is no folder of yardsticks: it has no build.sh")
+    if (asked.program or asked.nothing) and not asked.perf:
+        parser.error("--program and --nothing need --perf, a folder of yardsticks")
     sizes = [int(it) for it in asked.sizes.split(",") if it]
     with tempfile.TemporaryDirectory() as folder:
         counts_maps = asked.instr and not asked.nothing

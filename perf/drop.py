@@ -74,7 +74,11 @@ def main():
     reader.add_argument("--perf", default="../shared/perf")
     reader.add_argument("program", nargs="?", default=f"{TOP}/{PROGRAM}")
     given = reader.parse_args()
+    if not os.access(given.program, os.X_OK):
+        reader.error(f"there is no program {given.program}: rt run art_index makes it")
     if not os.path.exists(os.path.expanduser("~/.cache/art-perf/bin/meas")):
+        if not os.access(f"{given.perf}/build.sh", os.X_OK):
+            reader.error(f"{given.perf} is no folder of yardsticks: it has no build.sh")
         subprocess.run([f"{given.perf}/build.sh"], check=True, stdout=sys.stderr)
     least = {}
     with tempfile.TemporaryDirectory() as room:

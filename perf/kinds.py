@@ -47,6 +47,9 @@ def main():
     words.add_argument("--repeats", type=int, default=5)
     words.add_argument("programs", nargs=2)
     given = words.parse_args()
+    for it in given.programs:
+        if not os.access(it, os.X_OK):
+            words.error(f"there is no program {it}")
     print("| Children | Records | What | Before | After | Ratio |\n|---:|---:|---|---:|---:|---:|")
     for children in CHILDREN:
         with tempfile.TemporaryDirectory() as room:

@@ -1,14 +1,24 @@
 #!/usr/bin/env python3
-"""perf/lines.py --perf PERF [--sizes N,N] [--repeats N] [--seed N] [--only REGEX] [PROGRAM]: keys as users have them.
+"""perf/lines.py --perf PERF [--quick] [--sizes N,N] [--repeats N] [--seed N] [--only REGEX] [--growth N] [PROGRAM]: keys
+as users have them, and shapes that nothing was made for.
 
 Prints a table: nanoseconds of processor time for each line, or for each record that a listing replies. It has the
 program and two peers of PERF, a folder of yardsticks: Rust's B-tree, and libjudy where it is installed. Programs take
-turns, and the least of the rounds counts. All must reply the same, byte by byte.
+turns, and the least of the rounds counts. All must reply the same, byte by byte. It needs cargo and a C compiler.
 
 Keys: routes (of a web server), mail (addresses), paths (of some 110 bytes, with deep shared fronts), zipf (eight random
-bytes, tenants by Zipf's law); and numbers: nums_dense, nums_random, nums_time (milliseconds, uneven steps).
+bytes, tenants by Zipf's law); hosts (names, the last part first), dna (64 bases of a text that has repeats, two bits
+each), hashes (43 digits of base64), series (four bytes of a name, eight of a time, few times for each), shared (one of
+eight beginnings of 200 bytes); and numbers: nums_dense, nums_random, nums_time (milliseconds, uneven steps).
+
+Lines: `get` looks all up in another order than they went in, `again` in the same. Misses are of two kinds: of `early` a
+byte differs as near to the beginning as can be, so that the way ends above any leaf; of `leaf` the last one does, so that
+the way ends at a leaf. Where too few keys can be missed so, there is no row. `span` has ten records, `long` a thousand.
+--quick takes the program as it stands, built without proofs and checks (tools/quick.py). --growth N prints another table:
+load, `get` and bytes of peak memory a record from 10^4 to N, for keys that --only names (of hashes and nums_random).
 """
 import argparse
+import base64
 import bisect
 import hashlib
 import itertools
@@ -19,13 +29,21 @@ import subprocess
 import sys
 import tempfile
 
-PROGRAM = "crates/art_index/out/art_index"
+sys.path.insert(0, os.path.join(os.path.dirname(os.path.dirname(os.path.abspath(__file__))), "tools"))
+import quick
+
+PROGRAM = f"{quick.TOP}/crates/art_index/out/art_index"
 PEERS = ("btree", "judy")
 # Milliseconds of the first of January 2026, where numbers by time begin.
 BEGIN = 1_767_225_600_000
-KEYS = ("routes", "mail", "paths", "zipf", "nums_dense", "nums_random", "nums_time")
-# What is asked of keys and of numbers: 'span' has ten records, 'long' a thousand.
-ASKED = {"keys": ("get", "miss", "list", "span", "long"), "nums": ("get", "miss", "span", "long")}
+KEYS = ("routes", "mail", "paths", "zipf", "hosts", "dna", "hashes", "series", "shared")
+NUMBERS = ("nums_dense", "nums_random", "nums_time")
+GROWING = ("hashes", "nums_random")
+# What is asked of keys and of numbers.
+ASKED = ("get", "again", "early", "leaf", "list", "span", "long")
+# Of so many keys in a hundred at least a miss of a kind must be made.
+FEW = 10
+BASES = 64
 NAMES = "ada ben cleo dina emil fritz gwen hana ivo jana karl lena mara nils olga paul rosa sven tine ugo".split()
 
 
@@ -41,6 +59,43 @@ def mail(at, of):
 def path(at, of):
     front = f"/srv/data/archive/projects/project-{at % 40:02}/sources/module-{at // 40 % 25:02}/internal/generated"
     return f"{front}/unit-{at // 1000:06}/part-{of.randrange(10)}/file-{at % 7}.rs\0".encode()
+
+
+def host(at, of):
+    domain = of.randrange(2000)
+    return f"{('com', 'org', 'net', 'example')[domain % 4]}.site{domain:x}.{NAMES[of.randrange(20)]}.h{at}\0".encode()
+
+
+def hashed(at, of):
+    return base64.urlsafe_b64encode(hashlib.sha256(b"%d %d" % (at, of.randrange(1 << 30))).digest()).rstrip(b"=")
+
+
+def shared(at, of):
+    return hashlib.sha256(b"%d" % (at % 8)).hexdigest().encode() * 3 + b"/part/%08x" % at
+
+
+def windows(size, of):
+    """So many different windows of a sequence of bases, a third of which repeats what came before."""
+    bases = [of.randrange(4) for _ in range(1000)]
+    while len(bases) < size + size // 2 + 1000:
+        if of.random() < 0.01:
+            at = of.randrange(len(bases) - 500)
+            bases += bases[at : at + 500]
+        else:
+            bases += [of.randrange(4) for _ in range(100)]
+    kept, number, mask = set(), 0, (1 << 2 * BASES) - 1
+    for at, base in enumerate(bases):
+        number = (number << 2 | base) & mask
+        if at >= BASES and len(kept) < size:
+            kept.add(number)
+    return [it.to_bytes(BASES // 4) for it in sorted(kept)]
+
+
+def points(size, of):
+    """Keys of series with some twenty points of time each."""
+    names = [of.getrandbits(32).to_bytes(4) for _ in range(size // 20 + 1)]
+    steps = (1000 * (1 + of.randrange(100_000)) for _ in range(size - 1))
+    return [of.choice(names) + at.to_bytes(8) for at in itertools.accumulate(steps, initial=BEGIN)]
 
 
 def tenants_by_zipf(size, of):
@@ -61,18 +116,43 @@ def records(keys, size, of):
     if keys == "nums_time":
         steps = (1 + of.randrange(40) for _ in range(size - 1))
         return [(1, number) for number in itertools.accumulate(steps, initial=BEGIN)]
-    made = {"routes": route, "mail": mail, "paths": path}[keys]
-    found = [(1, made(at, of)) for at in range(size)]
+    if keys in ("dna", "series"):
+        found = [(1, it) for it in (windows if keys == "dna" else points)(size, of)]
+    else:
+        made = {"routes": route, "mail": mail, "paths": path, "hosts": host, "hashes": hashed, "shared": shared}[keys]
+        found = [(1, made(at, of)) for at in range(size)]
     of.shuffle(found)
     return found
 
 
-def missing(tenant, key, of):
-    """A key or a number near the one that is stored, which is not."""
-    if isinstance(key, int):
-        return key + (1 << 62) + of.randrange(1000) if key < 0 else -key - 1 - of.randrange(1000)
-    at = len(key) - 2
-    return key[:at] + bytes([key[at] ^ 0x80]) + key[at + 1:]
+def bytes_of(key):
+    """A key, or the bytes by which a number is ordered."""
+    return (key + (1 << 63)).to_bytes(8) if isinstance(key, int) else key
+
+
+def common(one, other):
+    return next((at for at, (a, b) in enumerate(zip(one, other)) if a != b), min(len(one), len(other)))
+
+
+def misses(asked, held, of):
+    """For records in turn, a record beside each that is not stored, of either kind; fewer where there is none."""
+    ordered, found = sorted((tenant.to_bytes(4) + bytes_of(key)) for tenant, key in held), []
+    for tenant, key in held:
+        full = tenant.to_bytes(4) + bytes_of(key)
+        at = bisect.bisect_left(ordered, full)
+        near = max((common(full, ordered[it]) for it in (at - 1, at + 1) if 0 <= it < len(ordered)), default=0)
+        made = None
+        if asked == "leaf" and near + 1 < len(full):
+            made = full[:-1] + bytes([full[-1] ^ 0x15])
+        for depth in range(4, near + 1) if asked == "early" else ():
+            front = full[:depth] + bytes([of.randrange(256)])
+            after = bisect.bisect_left(ordered, front)
+            if after == len(ordered) or not ordered[after].startswith(front):
+                made = front + full[depth + 1 :]
+                break
+        if made:
+            found.append((tenant, int.from_bytes(made[4:]) - (1 << 63) if isinstance(key, int) else made[4:]))
+    return found
 
 
 def lines_of(asked, held, of):
@@ -80,13 +160,18 @@ def lines_of(asked, held, of):
     is_number = isinstance(held[0][1], int)
     spelled = str if is_number else bytes.hex
     word = "n" if is_number else ""
-    picked = held[:]
-    of.shuffle(picked)
-    if asked == "get":
+    if asked in ("get", "again", "early", "leaf"):
+        picked = held[:]
+        if asked != "again":
+            of.shuffle(picked)
+        if asked in ("early", "leaf"):
+            picked = misses(asked, picked, of)
+        if len(picked) * 100 < len(held) * FEW:
+            return [], 0
         return [f"{word}get {tenant} {spelled(key)}" for tenant, key in picked], len(picked)
-    if asked == "miss":
-        return [f"{word}get {tenant} {spelled(missing(tenant, key, of))}" for tenant, key in picked], len(picked)
     if asked == "list":
+        if is_number:
+            return [], 0
         tenants = sorted({tenant for tenant, _ in held})[:8]
         counted = sum(tenant in tenants for tenant, _ in held)
         return [f"list {tenant} -" for tenant in tenants] * 2, 2 * counted
@@ -132,39 +217,83 @@ def row(bin_, programs, load, lines, count, repeats):
     return [f"{cost:.0f}" for cost in (here, *peers)] + [f"{here / min(peers):.2f}"]
 
 
+def loading(keys, held):
+    """A file of the lines that load records."""
+    word, spelled = ("nput", str) if keys in NUMBERS else ("put", bytes.hex)
+    return written(f"{word} {tenant} {spelled(key)} {at:016x}" for at, (tenant, key) in enumerate(held))
+
+
+def drawn(given, keys, size):
+    of = random.Random(f"{given.seed} {keys} {size}")
+    return records(keys, size, of), of
+
+
+def tables(given, bin_, programs):
+    print(f"| Keys, lines | Records | {' | '.join(programs)} | to the best peer |")
+    print("|---|" + "---:|" * (len(programs) + 2))
+    for size in map(int, given.sizes.split(",")):
+        for keys in KEYS + NUMBERS:
+            works = [it for it in ASKED if re.search(given.only, f"{keys} {it}")]
+            held, of = drawn(given, keys, size) if works else ([], None)
+            with loading(keys, held) as load:
+                for work in works:
+                    lines, count = lines_of(work, held, of)
+                    if not lines:
+                        continue
+                    with written(lines) as file:
+                        cells = row(bin_, programs, load, file, count, given.repeats)
+                    print(f"| {keys}, {work} | {size} | {' | '.join(cells)} |", flush=True)
+
+
+def growth(given, bin_, programs):
+    """How load, `get` and memory go with the number of records, from 10^4 on."""
+    print(f"\n| Keys | Records | Of a record | {' | '.join(programs)} | to the best peer |")
+    print("|---|---:|---|" + "---:|" * (len(programs) + 1))
+    sizes = [10**it for it in range(4, len(str(given.growth)) + 1) if 10**it <= given.growth]
+    for keys in KEYS + NUMBERS:
+        if not (re.search(given.only, keys) if given.only else keys in GROWING):
+            continue
+        for size in sizes:
+            held, of = drawn(given, keys, size)
+            with loading(keys, held) as load, written(lines_of("get", held, of)[0]) as file:
+                del held
+                seen = {name: [] for name in programs}
+                for _ in range(given.repeats):
+                    for name, program in programs.items():
+                        words = [f"{bin_}/meas", load.name, file.name, "/dev/null", program]
+                        told = subprocess.run(words, capture_output=True, text=True, check=True).stdout.split()
+                        seen[name].append((float(told[0]) * 1e9, float(told[2]) * 1e9, float(told[5]) * 1024))
+            for at, what in enumerate(("load, ns", "`get`, ns", "bytes")):
+                here, *peers = (min(it[at] for it in rounds) / size for rounds in seen.values())
+                cells = " | ".join(f"{it:.0f}" for it in (here, *peers))
+                print(f"| {keys} | {size} | {what} | {cells} | {here / min(peers):.2f} |", flush=True)
+
+
 def main():
-    parser = argparse.ArgumentParser()
+    parser = argparse.ArgumentParser(description=__doc__, formatter_class=argparse.RawDescriptionHelpFormatter)
     parser.add_argument("--perf", required=True)
     parser.add_argument("--sizes", default="100000,1000000")
     parser.add_argument("--repeats", type=int, default=3)
     parser.add_argument("--seed", type=int, default=7)
     parser.add_argument("--only", default="")
+    parser.add_argument("--growth", type=int, default=0)
+    parser.add_argument("--quick", action="store_true")
     parser.add_argument("program", nargs="?", default=PROGRAM)
-    asked = parser.parse_args()
-    if not os.access(asked.program, os.X_OK):
-        sys.exit(f"there is no program {asked.program}: rt run art_index makes it")
+    given = parser.parse_args()
+    if not os.access(f"{given.perf}/build.sh", os.X_OK):
+        sys.exit(f"{given.perf} is no folder of yardsticks: it has no build.sh")
+    if given.quick:
+        given.program = f"{quick.TOP}/{quick.kept(quick.TOP, compiler=quick.BARE)}"
+    if not os.access(given.program, os.X_OK):
+        sys.exit(f"there is no program {given.program}: rt run art_index makes it, and --quick takes one without proofs")
     bin_ = os.environ.get("PERF_BIN") or tempfile.mkdtemp(prefix="art-perf.")
-    subprocess.run(["./build.sh"], cwd=asked.perf, env={**os.environ, "PERF_BIN": bin_}, check=True)
-    programs = {"here": asked.program}
+    subprocess.run(["./build.sh"], cwd=given.perf, env={**os.environ, "PERF_BIN": bin_}, check=True)
+    programs = {"here": given.program}
     programs |= {name: f"{bin_}/peer_{name}" for name in PEERS if os.path.exists(f"{bin_}/peer_{name}")}
-    print(f"| Keys, lines | Records | {' | '.join(programs)} | to the best peer |")
-    print("|---|" + "---:|" * (len(programs) + 2))
-    for size in map(int, asked.sizes.split(",")):
-        for keys in KEYS:
-            of = random.Random(f"{asked.seed} {keys} {size}")
-            held = records(keys, size, of)
-            word = "nput" if keys.startswith("nums") else "put"
-            spelled = str if word == "nput" else bytes.hex
-            with written(f"{word} {tenant} {spelled(key)} {at:016x}" for at, (tenant, key) in enumerate(held)) as load:
-                for work in ASKED[keys[:4] if keys.startswith("nums") else "keys"]:
-                    if not re.search(asked.only, f"{keys} {work}"):
-                        continue
-                    lines, count = lines_of(work, held, of)
-                    if not lines:
-                        continue
-                    with written(lines) as file:
-                        cells = row(bin_, programs, load, file, count, asked.repeats)
-                    print(f"| {keys}, {work} | {size} | {' | '.join(cells)} |", flush=True)
+    if given.sizes:
+        tables(given, bin_, programs)
+    if given.growth:
+        growth(given, bin_, programs)
 
 
 if __name__ == "__main__":

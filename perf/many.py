@@ -128,6 +128,9 @@ def main():
     words.add_argument("--no-audit", action="store_true")
     words.add_argument("program", nargs="?", default=PROGRAM)
     given = words.parse_args()
+    for it in filter(None, (given.program, given.beside)):
+        if not os.access(it, os.X_OK):
+            words.error(f"there is no program {it}")
     lines = Lines(given)
     fed = [Fed(it) for it in (given.program, given.beside) if it]
     loaded = b"".join(lines.load())

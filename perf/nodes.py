@@ -7,7 +7,9 @@ Instructions are counted by callgrind: of a long run less those of a short one. 
 many short runs, the programs in turn, with the ratio of the second to the first. Both programs must answer the same.
 """
 import argparse
+import os
 import re
+import shutil
 import subprocess
 
 COUNTS = (17, 32, 48)
@@ -82,6 +84,11 @@ def main():
     parser.add_argument("after")
     given = parser.parse_args()
     programs = [given.before, given.after]
+    if not shutil.which("valgrind"):
+        parser.error("valgrind is not on the PATH")
+    for it in programs:
+        if not os.access(it, os.X_OK):
+            parser.error(f"there is no program {it}")
 
     def costs(of, step, count):
         found = of(step, count)

@@ -1,4 +1,4 @@
-//! For ./bench --perf alone, built beside the yardsticks: unproved maps behind the call that perf/drive.c makes. The tree
+//! Needs a folder of yardsticks (../Cargo.toml), for ./bench --perf alone: unproved maps behind the call that perf/drive.c makes. The tree
 //! with a `Vec` for each key (`art-vec`), with linked leaves too (`art-list`, feature `list`), or Rust's own `BTreeMap`
 //! (`btree`, feature `btree`). Only the latter two can be walked from both ends.
 use std::slice::from_raw_parts;
