@@ -206,7 +206,7 @@ typedef struct artmap_words_pair {
 } artmap_words_pair;
 
 /* Copies out the pairs of a span in order, as many as go in: the keys into `room` end to end, their lengths and words into
- * `pairs`, which has so many places. What is behind them in both is left alone. `count` tells how many they are.
+ * `pairs`, which has so many places. What stands after them in both is left alone. `count` tells how many they are.
  * ARTMAP_DONE: the span has no other pair; ARTMAP_MORE: other pairs are left; ARTMAP_NOT_FOUND: it has none;
  * ARTMAP_NO_ROOM: the first one does not go in; its length and its word are in pairs[0], if there is a place. `count` is
  * 0 in the last two. */
@@ -228,7 +228,7 @@ artmap_code artmap_words_load(artmap_words *map, const void *keys, size_t keys_l
 
 /* Looks `count` keys up, which stand in `keys` end to end, as a get would: pairs[i] has the length of a key, and gets its
  * word; found[i] is then 1. Where no pair has the key found[i] is 0, and pairs[i] keeps its word. `told` tells how many
- * were looked up; what is behind them in both is left alone. The keys need not ascend.
+ * were looked up; what stands after them in both is left alone. The keys need not ascend.
  * ARTMAP_DONE: all were; ARTMAP_CUT_OFF: those before the first that the bytes end in. */
 artmap_code artmap_words_get_many(artmap_words *map, const void *keys, size_t keys_len, artmap_words_pair *pairs,
                                   uint8_t *found, size_t count, size_t *told);
@@ -237,7 +237,7 @@ artmap_code artmap_words_get_many(artmap_words *map, const void *keys, size_t ke
  * is no such pair or no place. All other pairs stay. `count` tells how many went. So words that point to something can be
  * freed: free what the `count` words of a call point to, and call again as long as it answers ARTMAP_MORE.
  * ARTMAP_DONE: no other key begins with it; ARTMAP_MORE: others are left; ARTMAP_NOT_FOUND: none began with it;
- * ARTMAP_NO_ROOM: some do, and there is no place; ARTMAP_NO_MEMORY: the next pair stays, and those behind it, since a node
+ * ARTMAP_NO_ROOM: some do, and there is no place; ARTMAP_NO_MEMORY: the next pair stays, and those after it, since a node
  * was to become a smaller one; `count` is told as ever. */
 artmap_code artmap_words_take_prefix(artmap_words *map, const void *prefix, size_t prefix_len, uint64_t *words,
                                      size_t places, size_t *count);
@@ -252,7 +252,7 @@ artmap_code artmap_words_split_off(artmap_words *map, const void *key, size_t ke
 
 /* Moves all pairs of another map into this one, in ascending order: each as a put would, so a stored key gets the moved
  * word. It stops at the first that is refused: the pairs before it have moved, and it is still in the other map with those
- * behind it. So a second call goes on from there. The words that are replaced are not told.
+ * after it. So a second call goes on from there. The words that are replaced are not told.
  * ARTMAP_DONE: the other map is empty; ARTMAP_CONFLICT: of the other map's least key; ARTMAP_NO_MEMORY; ARTMAP_NO_MAP,
  * ARTMAP_FROZEN: of either map. Where this map is empty it is ARTMAP_DONE, and no memory is asked for. */
 artmap_code artmap_words_append(artmap_words *map, artmap_words *other);
@@ -262,7 +262,7 @@ artmap_code artmap_words_append(artmap_words *map, artmap_words *other);
  * ARTMAP_DONE: there is room for so many; always where there was; ARTMAP_NO_MEMORY. */
 artmap_code artmap_words_reserve(artmap_words *map, size_t additional);
 
-/* Gives memory back: of each kind of node, what lies behind the last one that is used. No node moves, so no map with these
+/* Gives memory back: of each kind of node, what lies after the last one that is used. No node moves, so no map with these
  * nodes in their places has less memory for them.
  * ARTMAP_DONE. */
 artmap_code artmap_words_shrink(artmap_words *map);
