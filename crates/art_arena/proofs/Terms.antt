@@ -1,6 +1,7 @@
 -- The words of this crate that its proofs and those above name, from one place.
 pub use Rattle.art_arena.specs.Laws.{AllIsMeant, Deletion, EditKeepsOthers, FrontIsBlock, Insertion, InsertionIsFree, LimitsAreKinds, OneMeaning, OrderIsLexicographic, ShapeMeansTree, ShrinksIsKindChange}
-pub use Rattle.art_arena.specs.arena.Arena.{Allocates, Arena, HasRoom, HasRoomOf, Held, IsTrimmed, KeepsNodes, KeepsRoom, KeepsRoomOf, SameCells, SameNodes, WritesLinks, as_inner, as_leaf, cell_of, held_as, held_at, inner_held, leaf_held, leaves_held, links_at, links_of, node_at, slots_of, with_leaf}
+pub use Rattle.art_arena.specs.arena.Arena.{Allocates, Arena, HasRoom, HasRoomOf, Held, IsTrimmed, KeepsNodes, KeepsRoom, KeepsRoomOf, SameCells, SameNodes, WritesLinks, as_inner, as_leaf, cell_of, held_as, held_at, inner_held, leaf_held, leaf_capacity, leaves_held, links_at, links_of}
+pub use Rattle.art_arena.specs.arena.Arena.{node_at, slots_of, with_leaf}
 pub use Rattle.art_arena.specs.arena.ArenaClones.{IsArenaClone, IsHeldClone}
 pub use Rattle.art_arena.specs.arena.Cells.{AreHeld, Cell, Holds, HoldsOnly, UpdatesAt, branches, copies, leaf_name, pair, same_kind, same_name}
 pub use Rattle.art_arena.specs.arena.Context.{AreAround, AreBelow, Frame, cells_after, cells_before, fill, frame_cell, leaves_after, leaves_before, path_to, plug, root_of}

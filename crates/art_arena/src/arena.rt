@@ -2,7 +2,7 @@
 ghost use Rattle.std.specs.Prelude.{◌≡◌, ◌≢◌, ℕ, ◌<◌, ◌^◌, ◌↔◌, List, length};
 ghost use Rattle.std.specs.Prelude.{Some, None, IfOk, OnErr, IfErr, OnOk, IsSome, IsTrue, IsOk};
 
-use crate::nodes::{NO_MEMORY_HOLDS, Nodes};
+use crate::nodes::{Nodes, PREFIX_LEN_LIMIT};
 use crate::stored::Stored;
 use art_nodes::{
     InnerNode4, InnerNode16, InnerNode32, InnerNode48, InnerNode256, KindLeaf, LeafNode, NodePtr,
@@ -68,6 +68,7 @@ impl<K, V, const PREFIX_LEN: usize> NodeArena<K, V, PREFIX_LEN> {
     ghost use Rattle.art_arena.specs.arena.Shapes.{Shape, leaves};
     ghost use Rattle.art_arena.specs.arena.Stores.{StoresOnly};
     ghost use Rattle.art_arena.specs.arena.Arena.{HasRoomOf, IsTrimmed, KeepsRoom, KeepsRoomOf, UsesRoom};
+    ghost use Rattle.art_arena.specs.arena.Arena.{leaf_capacity};
     ghost use Rattle.art_arena.specs.arena.Rooms.{FreesRoomOf, UsesRoomOf, SameLeaves};
     ghost use Rattle.art_arena.specs.arena.ArenaClones.{IsArenaClone};
 
@@ -134,7 +135,7 @@ impl<K, V, const PREFIX_LEN: usize> NodeArena<K, V, PREFIX_LEN> {
         ensures room { KeepsRoom self.old self.new }
         ensures room_of { KeepsRoomOf self.old self.new }
     {
-        if PREFIX_LEN >= NO_MEMORY_HOLDS {
+        if PREFIX_LEN >= PREFIX_LEN_LIMIT {
             self.nodes4.none_fits();
             self.nodes16.none_fits();
             self.nodes32.none_fits();
@@ -160,7 +161,7 @@ impl<K, V, const PREFIX_LEN: usize> NodeArena<K, V, PREFIX_LEN> {
         ensures { IfOk result (λ copy. IsArenaClone K.is_clone V.is_clone self.now copy) }
     {
         let leaves = self.leaves.try_clone()?;
-        if PREFIX_LEN >= NO_MEMORY_HOLDS {
+        if PREFIX_LEN >= PREFIX_LEN_LIMIT {
             self.nodes4.none_fits();
             self.nodes16.none_fits();
             self.nodes32.none_fits();
@@ -225,7 +226,7 @@ impl<K, V, const PREFIX_LEN: usize> NodeArena<K, V, PREFIX_LEN> {
         }
     }
 
-    /// Gives memory back: of each kind, what lies behind its last node. No node moves, and no name changes. So little
+    /// Gives memory back: of each kind, what lies after its last node. No node moves, and no name changes. So little
     /// goes back while the last nodes stay.
     pub fn shrink_to_fit(&mut self)
     where
@@ -274,6 +275,7 @@ impl<K, V, const PREFIX_LEN: usize> NodeArena<K, V, PREFIX_LEN> {
         ensures room_of { KeepsRoomOf self.old self.new }
         ensures frees { FreesRoomOf N.Kind.TYPE self.old self.new }
         ensures room_for_it { HasRoomOf self.new N.Kind.TYPE 1 }
+        ensures capacity { leaf_capacity self.new ≡ leaf_capacity self.old }
     {
         N::remove(self, ptr.slot())
     }

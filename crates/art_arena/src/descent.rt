@@ -103,7 +103,7 @@ fn passes_prefix<'a, K: AsBytes, V, const PREFIX_LEN: usize>(
     begins_with(&key[depth..], prefix)
 }
 
-// The child to which a key goes on from an inner node, which stands behind so many of its bytes. Nothing is read for a
+// The child to which a key goes on from an inner node, which stands after so many of its bytes. Nothing is read for a
 // step, but where a step by bytes needs a guide and there is none yet, one way down to a leaf.
 #[inline(always)]
 fn step_at<'a, K: AsBytes, V, const PREFIX_LEN: usize>(
@@ -160,7 +160,7 @@ fn step_at<'a, K: AsBytes, V, const PREFIX_LEN: usize>(
 /// key ends or has no child, or at one whose prefix it doesn't pass.
 ///
 /// Each node of the way is read once. By bytes, so are the nodes from the first whose prefix isn't wholly stored down
-/// to a leaf, from which this prefix and all others behind it are read. So at most two ways down are read. Nothing is
+/// to a leaf, from which this prefix and all others after it are read. So at most two ways down are read. Nothing is
 /// copied or allocated. The last steps of the way are left in `search`.
 #[inline(always)]
 pub fn descend<'a, K: AsBytes, V, const PREFIX_LEN: usize>(

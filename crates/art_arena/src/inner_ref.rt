@@ -211,7 +211,7 @@ pub struct NextStep {
     pub depth: usize,
 }
 
-// The child to which a key goes on from an inner node of one kind that stands behind so many of its bytes.
+// The child to which a key goes on from an inner node of one kind that stands after so many of its bytes.
 #[inline(always)]
 fn step_from<N: InnerNodeCommon<PREFIX_LEN>, const PREFIX_LEN: usize>(
     inner: &N,

@@ -1,10 +1,10 @@
 //! Edits of the inner node under a name, whatever its kind.
 ghost use Rattle.std.specs.Prelude.{◌≡◌, ◌≢◌, ◌+◌, ◌<◌, ◌^◌, length, Some, IsSome, IsOk, IfOk, OnErr, refl};
 ghost use Rattle.art_nodes.specs.InnerNode as node;
-ghost use Rattle.art_nodes.specs.Kind.{row_of, shrunk_kind, CanShrink};
+ghost use Rattle.art_nodes.specs.Kind.{row_of, grown_kind, shrunk_kind, CanShrink};
 ghost use Rattle.art_arena.specs.arena.Cells.{UpdatesAt};
 ghost use Rattle.art_arena.specs.arena.Arena.{held_at, as_inner, inner_held, Allocates, SameNodes, HasRoom, KeepsRoom};
-ghost use Rattle.art_arena.specs.arena.Arena.{HasRoomOf, KeepsRoomOf, UsesRoom};
+ghost use Rattle.art_arena.specs.arena.Arena.{HasRoomOf, KeepsRoomOf, UsesRoom, leaf_capacity};
 ghost use Rattle.art_arena.specs.arena.Rooms.{FreesRoomOf, UsesRoomOf};
 ghost use Rattle.art_arena.specs.arena.NodeEdits.{edited, MayEdit};
 
@@ -12,7 +12,7 @@ use crate::arena::NodeArena;
 use crate::stored::{NodeStore, Stored};
 use art_nodes::{
     ConcreteNodePtr, Header, InnerNode, InnerNode4, InnerNode16, InnerNode32, InnerNode48,
-    InnerNode256, InnerNodeCommon, NodePtr, NodeType, OpaqueNodePtr, known,
+    InnerNode256, InnerNodeCommon, NodePtr, NodeType, OpaqueNodePtr, assume_proved,
 };
 use std::alloc::AllocError;
 
@@ -102,7 +102,7 @@ fn apply<N: InnerNodeCommon<PREFIX_LEN>, const PREFIX_LEN: usize>(
         }
         NodeEdit::CopyPrefix { header } => node.copy_prefix(header),
         NodeEdit::Free => {
-            known(false);
+            assume_proved(false);
             unreachable!()
         }
     }
@@ -126,6 +126,7 @@ where
     ensures room { KeepsRoom arena.old arena.new }
     ensures room_of { KeepsRoomOf arena.old arena.new }
     ensures frees { edit.now ≡ NodeEdit.Free → FreesRoomOf N.Kind.TYPE arena.old arena.new }
+    ensures capacity { leaf_capacity arena.new ≡ leaf_capacity arena.old }
 {
     if let NodeEdit::Free = *edit {
         arena.deallocate_node_ptr::<N>(ptr);
@@ -134,12 +135,59 @@ where
     apply(arena.as_mut::<N>(ptr), edit);
 }
 
-// Stores a copy of the node of one kind that is made so.
-macro_rules! store_copy {
-    ($arena:ident, $ptr:ident, $node:ty, $made:ident) => {{
-        let copy = $arena.as_ref::<$node>($ptr).$made();
-        Ok($arena.allocate_node_ptr(copy)?.to_opaque())
-    }};
+// Stores a copy of the full node of one kind in the next larger kind. It stands out of line, so that a call has room on
+// its frame for the copies of one kind alone.
+#[inline(never)]
+fn grow_at<K, V, N, const PREFIX_LEN: usize>(
+    arena: &mut NodeArena<K, V, PREFIX_LEN>,
+    ptr: NodePtr<N::Kind>,
+) -> Result<OpaqueNodePtr, AllocError>
+where
+    N: StoredInner<K, V, NodeArena<K, V, PREFIX_LEN>, PREFIX_LEN> + InnerNode<PREFIX_LEN>,
+    N::GrownNode: StoredInner<K, V, NodeArena<K, V, PREFIX_LEN>, PREFIX_LEN>,
+    requires full { (n : node.InnerNode)
+        × (held_at arena.old (record { kind = N.Kind.TYPE; slot = ptr }) ≡ Some (inner_held n))
+        × (length n.children ≡ (row_of N.Kind.TYPE).most) }
+    requires larger { IsSome (row_of N.Kind.TYPE).larger }
+    ensures kind { IfOk result (λ grown. grown.kind ≡ grown_kind N.Kind.TYPE) }
+    ensures ok { IfOk result (λ grown. (n : node.InnerNode)
+        → held_at arena.old (record { kind = N.Kind.TYPE; slot = ptr }) ≡ Some (inner_held n)
+        → Allocates arena.old arena.new grown (inner_held n)) }
+    ensures err { OnErr result (SameNodes arena.old arena.new) }
+    ensures succeeds { HasRoom arena.old 1 → IsOk result }
+    ensures room { UsesRoom 1 arena.old arena.new }
+    ensures room_of { IfOk result (λ grown. UsesRoomOf grown.kind arena.old arena.new) }
+    ensures kept_room { OnErr result (KeepsRoomOf arena.old arena.new) }
+{
+    let copy = arena.as_ref::<N>(ptr).grow();
+    Ok(arena.allocate_node_ptr(copy)?.to_opaque())
+}
+
+// Stores a copy of the node of one kind in the next smaller kind. It stands out of line, as `grow_at`.
+#[inline(never)]
+fn shrink_at<K, V, N, const PREFIX_LEN: usize>(
+    arena: &mut NodeArena<K, V, PREFIX_LEN>,
+    ptr: NodePtr<N::Kind>,
+) -> Result<OpaqueNodePtr, AllocError>
+where
+    N: StoredInner<K, V, NodeArena<K, V, PREFIX_LEN>, PREFIX_LEN> + InnerNode<PREFIX_LEN>,
+    N::ShrunkNode: StoredInner<K, V, NodeArena<K, V, PREFIX_LEN>, PREFIX_LEN>,
+    requires can { (n : node.InnerNode)
+        × (held_at arena.old (record { kind = N.Kind.TYPE; slot = ptr }) ≡ Some (inner_held n))
+        × CanShrink N.Kind.TYPE (length n.children) }
+    ensures kind { IfOk result (λ smaller. smaller.kind ≡ shrunk_kind N.Kind.TYPE) }
+    ensures ok { IfOk result (λ smaller. (n : node.InnerNode)
+        → held_at arena.old (record { kind = N.Kind.TYPE; slot = ptr }) ≡ Some (inner_held n)
+        → Allocates arena.old arena.new smaller (inner_held n)) }
+    ensures err { OnErr result (SameNodes arena.old arena.new) }
+    ensures succeeds { HasRoom arena.old 1 → IsOk result }
+    ensures succeeds_of { HasRoomOf arena.old (shrunk_kind N.Kind.TYPE) 1 → IsOk result }
+    ensures room { UsesRoom 1 arena.old arena.new }
+    ensures room_of { IfOk result (λ smaller. UsesRoomOf smaller.kind arena.old arena.new) }
+    ensures kept_room { OnErr result (KeepsRoomOf arena.old arena.new) }
+{
+    let copy = arena.as_ref::<N>(ptr).shrink();
+    Ok(arena.allocate_node_ptr(copy)?.to_opaque())
 }
 
 impl<K, V, const PREFIX_LEN: usize> NodeArena<K, V, PREFIX_LEN> {
@@ -154,6 +202,7 @@ impl<K, V, const PREFIX_LEN: usize> NodeArena<K, V, PREFIX_LEN> {
         ensures room { KeepsRoom self.old self.new }
         ensures room_of { KeepsRoomOf self.old self.new }
         ensures frees { edit.now ≡ NodeEdit.Free → FreesRoomOf name.kind self.old self.new }
+        ensures capacity { leaf_capacity self.new ≡ leaf_capacity self.old }
     {
         self.prefix_fits(name);
         match name.to_node_ptr() {
@@ -173,7 +222,7 @@ impl<K, V, const PREFIX_LEN: usize> NodeArena<K, V, PREFIX_LEN> {
                 edit_at::<K, V, InnerNode256<K, V, PREFIX_LEN>, PREFIX_LEN>(self, ptr, edit)
             }
             ConcreteNodePtr::LeafNode(_) => {
-                known(false);
+                assume_proved(false);
                 unreachable!()
             }
         }
@@ -197,16 +246,16 @@ impl<K, V, const PREFIX_LEN: usize> NodeArena<K, V, PREFIX_LEN> {
         self.prefix_fits(name);
         match name.to_node_ptr() {
             ConcreteNodePtr::Node4(ptr) => {
-                store_copy!(self, ptr, InnerNode4<K, V, PREFIX_LEN>, grow)
+                grow_at::<K, V, InnerNode4<K, V, PREFIX_LEN>, PREFIX_LEN>(self, ptr)
             }
             ConcreteNodePtr::Node16(ptr) => {
-                store_copy!(self, ptr, InnerNode16<K, V, PREFIX_LEN>, grow)
+                grow_at::<K, V, InnerNode16<K, V, PREFIX_LEN>, PREFIX_LEN>(self, ptr)
             }
             ConcreteNodePtr::Node32(ptr) => {
-                store_copy!(self, ptr, InnerNode32<K, V, PREFIX_LEN>, grow)
+                grow_at::<K, V, InnerNode32<K, V, PREFIX_LEN>, PREFIX_LEN>(self, ptr)
             }
             ConcreteNodePtr::Node48(ptr) => {
-                store_copy!(self, ptr, InnerNode48<K, V, PREFIX_LEN>, grow)
+                grow_at::<K, V, InnerNode48<K, V, PREFIX_LEN>, PREFIX_LEN>(self, ptr)
             }
             ConcreteNodePtr::Node256(_) => unreachable!(),
             ConcreteNodePtr::LeafNode(_) => unreachable!(),
@@ -231,19 +280,19 @@ impl<K, V, const PREFIX_LEN: usize> NodeArena<K, V, PREFIX_LEN> {
         match name.to_node_ptr() {
             ConcreteNodePtr::Node16(ptr) => {
                 self.prefix_fits(name);
-                store_copy!(self, ptr, InnerNode16<K, V, PREFIX_LEN>, shrink)
+                shrink_at::<K, V, InnerNode16<K, V, PREFIX_LEN>, PREFIX_LEN>(self, ptr)
             }
             ConcreteNodePtr::Node32(ptr) => {
                 self.prefix_fits(name);
-                store_copy!(self, ptr, InnerNode32<K, V, PREFIX_LEN>, shrink)
+                shrink_at::<K, V, InnerNode32<K, V, PREFIX_LEN>, PREFIX_LEN>(self, ptr)
             }
             ConcreteNodePtr::Node48(ptr) => {
                 self.prefix_fits(name);
-                store_copy!(self, ptr, InnerNode48<K, V, PREFIX_LEN>, shrink)
+                shrink_at::<K, V, InnerNode48<K, V, PREFIX_LEN>, PREFIX_LEN>(self, ptr)
             }
             ConcreteNodePtr::Node256(ptr) => {
                 self.prefix_fits(name);
-                store_copy!(self, ptr, InnerNode256<K, V, PREFIX_LEN>, shrink)
+                shrink_at::<K, V, InnerNode256<K, V, PREFIX_LEN>, PREFIX_LEN>(self, ptr)
             }
             ConcreteNodePtr::Node4(_) => unreachable!(),
             ConcreteNodePtr::LeafNode(_) => unreachable!(),

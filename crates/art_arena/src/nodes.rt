@@ -5,13 +5,13 @@ ghost use Rattle.std.specs.Borrow.{sem};
 ghost use Rattle.slab.specs.Slab.{get, slab_len, EndsWithValue, HasRoomFor, SameValues, Updates, IsSlotClone};
 ghost use Rattle.art_arena.specs.inner.NodesLends.{lends_in};
 
-use art_nodes::known;
+use art_nodes::assume_proved;
 use slab::Slab;
 use std::alloc::{AllocError, AllocFailed, Global};
 use std::marker::Model;
 
 // No memory holds a node whose stored prefix has so many bytes.
-pub(crate) const NO_MEMORY_HOLDS: usize = 1 << 62;
+pub(crate) const PREFIX_LEN_LIMIT: usize = 1 << 62;
 
 /// The nodes of one kind, each under its slab key. If there is one, or room for one, a prefix of `PREFIX_LEN` stored
 /// bytes is so short that a node fits in memory.
@@ -29,6 +29,40 @@ impl<N, const PREFIX_LEN: usize> Model for Nodes<N, PREFIX_LEN> {
     ghost view = { λ a. a.slab };
 
     ghost invariant = { λ a. FitsWhereUsed PREFIX_LEN a.slab };
+}
+
+// Makes room for so many more values where the memory that `Slab::reserve` asks for is refused: for half as many as
+// there is room for, and so on, down to no more than these. With no room yet it asked for a few only.
+#[cold]
+fn reserve_fewer<T>(slab: &mut Slab<T>, additional: usize) -> Result<(), AllocError>
+    ensures room { OnOk result (HasRoomFor slab.new additional) }
+    ensures capacity { slab.old.capacity ≤ slab.new.capacity }
+    ensures kept { slab.new ≡ record slab.old { capacity = slab.new.capacity } }
+{
+    if slab.capacity() == 0 {
+        return Err(AllocError);
+    }
+    let mut more = slab.capacity() / 2;
+    'halves: while more > additional {
+        if slab.reserve_exact(more).is_ok() {
+            return Ok(());
+        }
+        more /= 2;
+    }
+    slab.reserve_exact(additional)
+}
+
+// Makes room for so many more values: for as many as there are, if so much memory is had, or else for fewer.
+fn reserve_in<T>(slab: &mut Slab<T>, additional: usize) -> Result<(), AllocError>
+    ensures room { OnOk result (HasRoomFor slab.new additional) }
+    ensures succeeds { HasRoomFor slab.old additional → IsOk result }
+    ensures capacity { slab.old.capacity ≤ slab.new.capacity }
+    ensures kept { slab.new ≡ record slab.old { capacity = slab.new.capacity } }
+{
+    match slab.reserve(additional) {
+        Ok(()) => Ok(()),
+        Err(_) => reserve_fewer(slab, additional),
+    }
 }
 
 impl<N, const PREFIX_LEN: usize> Nodes<N, PREFIX_LEN> {
@@ -97,10 +131,10 @@ impl<N, const PREFIX_LEN: usize> Nodes<N, PREFIX_LEN> {
         if slab.capacity() - slab.len() >= additional {
             return Ok(());
         }
-        if PREFIX_LEN >= NO_MEMORY_HOLDS {
+        if PREFIX_LEN >= PREFIX_LEN_LIMIT {
             return Err(AllocError);
         }
-        slab.reserve(additional)
+        reserve_in(slab, additional)
     }
 
     // There is no room for 2^64 nodes or more. Nothing is done.
@@ -110,7 +144,7 @@ impl<N, const PREFIX_LEN: usize> Nodes<N, PREFIX_LEN> {
         let _capacity = self.slab.capacity();
     }
 
-    // Gives back the memory behind the last node. No key changes.
+    // Gives back the memory after the last node. No key changes.
     pub(crate) fn shrink_to_fit(&mut self)
     where
         N: Drop,
@@ -118,7 +152,7 @@ impl<N, const PREFIX_LEN: usize> Nodes<N, PREFIX_LEN> {
         ensures capacity { (n : ℕ) → HasRoomFor self.new n → HasRoomFor self.old n }
         ensures trimmed { PREFIX_LEN < 2 ^ 62 → EndsWithValue self.new }
     {
-        if PREFIX_LEN >= NO_MEMORY_HOLDS {
+        if PREFIX_LEN >= PREFIX_LEN_LIMIT {
             return;
         }
         self.slab.shrink_to_fit();
@@ -135,10 +169,13 @@ impl<N, const PREFIX_LEN: usize> Nodes<N, PREFIX_LEN> {
         ensures capacity { self.old.capacity ≤ self.new.capacity }
     {
         let slab = &mut self.slab;
-        if PREFIX_LEN >= NO_MEMORY_HOLDS {
+        if PREFIX_LEN >= PREFIX_LEN_LIMIT {
             return Err(AllocFailed { value: node });
         }
-        slab.insert(node)
+        if reserve_in(slab, 1).is_err() {
+            return Err(AllocFailed { value: node });
+        }
+        Ok(slab.insert_reserved(node))
     }
 
     // Whether a node fits in memory, as it does where there is room for one.
@@ -148,7 +185,7 @@ impl<N, const PREFIX_LEN: usize> Nodes<N, PREFIX_LEN> {
         ensures room { HasRoomFor self.now 1 → IsTrue result }
     {
         let _slab = &self.slab;
-        PREFIX_LEN < NO_MEMORY_HOLDS
+        PREFIX_LEN < PREFIX_LEN_LIMIT
     }
 
     // The node under this key. Where there is one, it fits in memory.
@@ -161,7 +198,7 @@ impl<N, const PREFIX_LEN: usize> Nodes<N, PREFIX_LEN> {
         match self.slab.get(slot) {
             Some(node) => node,
             None => {
-                known(false);
+                assume_proved(false);
                 unreachable!()
             }
         }
@@ -176,7 +213,7 @@ impl<N, const PREFIX_LEN: usize> Nodes<N, PREFIX_LEN> {
         match self.slab.get_mut(slot) {
             Some(node) => node,
             None => {
-                known(false);
+                assume_proved(false);
                 unreachable!()
             }
         }
@@ -194,7 +231,7 @@ impl<N, const PREFIX_LEN: usize> Nodes<N, PREFIX_LEN> {
         match self.slab.try_remove(slot) {
             Some(node) => node,
             None => {
-                known(false);
+                assume_proved(false);
                 unreachable!()
             }
         }

@@ -21,7 +21,7 @@ use crate::prefix::walk_below;
 use art_bytes::AsBytes;
 use art_nodes::{
     InnerNode4, InnerNode16, InnerNode32, InnerNode48, InnerNode256, LeafNode, NodeType,
-    OpaqueNodePtr, known,
+    OpaqueNodePtr, assume_proved,
 };
 
 /// A node that was read, lent as long as the arena is.
@@ -96,7 +96,7 @@ impl<'a, K, V, const PREFIX_LEN: usize> VisitedNode<'a, K, V, PREFIX_LEN> {
                 arm: InnerArm::Node256(node),
             },
             VisitedNode::Leaf(_) => {
-                known(false);
+                assume_proved(false);
                 unreachable!()
             }
         }
@@ -168,7 +168,7 @@ impl<'a, K, V, const PREFIX_LEN: usize> Reader<'a, NodeArena<K, V, PREFIX_LEN>> 
         match self.visit(name).leaf() {
             Err(inner) => inner,
             Ok(_) => {
-                known(false);
+                assume_proved(false);
                 unreachable!()
             }
         }
@@ -185,7 +185,7 @@ impl<'a, K, V, const PREFIX_LEN: usize> Reader<'a, NodeArena<K, V, PREFIX_LEN>> 
         match self.visit(name.to_opaque()).leaf() {
             Ok(leaf) => leaf,
             Err(_) => {
-                known(false);
+                assume_proved(false);
                 unreachable!()
             }
         }
@@ -291,7 +291,7 @@ impl<K, V, const PREFIX_LEN: usize> NodeArena<K, V, PREFIX_LEN> {
         match node_in(self, name).leaf() {
             Err(inner) => inner,
             Ok(_) => {
-                known(false);
+                assume_proved(false);
                 unreachable!()
             }
         }

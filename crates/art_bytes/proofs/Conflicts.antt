@@ -16,11 +16,11 @@ front_told k l (b, r, e) =
 told_front : (k l : List ℕ) → is_proper_front k l ≡ true → IsProperFront k l
 told_front k l h =
     let both = and_parts _ _ h in
-    behind (drop (length k) l) ((starts_is Decides-eqb l k _ refl).0 both.1) (ltb-true _ _ both.0)
+    following (drop (length k) l) ((starts_is Decides-eqb l k _ refl).0 both.1) (ltb-true _ _ both.0)
   where
-    behind : (rest : List ℕ) → l ≡ k ++ rest → length k < length l → IsProperFront k l
-    behind [] e longer = let len = ap length (e ∙ append-nil k) in absurd (omega (arith, len))
-    behind (b ∷ r) e longer = (b, r, e)
+    following : (rest : List ℕ) → l ≡ k ++ rest → length k < length l → IsProperFront k l
+    following [] e longer = let len = ap length (e ∙ append-nil k) in absurd (omega (arith, len))
+    following (b ∷ r) e longer = (b, r, e)
 
 pub conflict_told : (k l : List ℕ) → Conflict k l → conflicts k l ≡ true
 conflict_told k l (n, inl ([], e)) = absurd (n (sym (e ∙ append-nil k)))

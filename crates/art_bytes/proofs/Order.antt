@@ -41,7 +41,7 @@ front_not_after (a ∷ k) [] h j = j
 front_not_after (a ∷ k) (b ∷ l) (r, e) (inl j) = let f : b ≡ a = cc in omega arith
 front_not_after (a ∷ k) (b ∷ l) (r, e) (inr j) = let f : l ≡ k ++ r = cc in front_not_after k l (r, f) j.1
 
--- a conflict, as one key going on behind the other
+-- a conflict, as one key going on after the other
 
 pub conflict_first : (k l : List ℕ) → IsProperFront k l → Conflict k l
 conflict_first k l (b, r, e) =

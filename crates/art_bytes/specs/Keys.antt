@@ -26,6 +26,10 @@ is_below k l = is_lt (bytes_cmp k l)
 abbrev pub BeginsWith : List ℕ → List ℕ → Type 0
 BeginsWith front k = (rest : List ℕ) × (k ≡ front ++ rest)
 
+-- new is old, and then a front of these bytes
+abbrev pub AppendsFrontOf : List ℕ → List ℕ → List ℕ → Type 0
+AppendsFrontOf bytes old new = (front : List ℕ) × BeginsWith front bytes × (new ≡ old ++ front)
+
 -- l is k, and then one byte or more
 abbrev pub IsProperFront : List ℕ → List ℕ → Type 0
 IsProperFront k l = (byte : ℕ) × (rest : List ℕ) × (l ≡ k ++ byte ∷ rest)
@@ -41,7 +45,7 @@ is_proper_front k l = nat_lt (length k) (length l) && starts_with nat_eq l k
 abbrev pub conflicts : List ℕ → List ℕ → Bool
 conflicts k l = is_proper_front k l || is_proper_front l k
 
--- k and l diverge, and k goes on by the smaller byte: behind a front that both have, both have a byte
+-- k and l diverge, and k goes on by the smaller byte: after a front that both have, both have a byte
 abbrev pub IsBefore : List ℕ → List ℕ → Type 0
 IsBefore [] l = ⊥
 IsBefore (a ∷ k) [] = ⊥

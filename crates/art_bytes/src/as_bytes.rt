@@ -45,7 +45,7 @@ pub trait CloneBytes: AsBytes + Clone {
 }
 
 // The bytes themselves, of which the caller then knows that each is less than 256.
-pub(crate) fn known_bytes(bytes: &[u8]) -> &[u8]
+pub(crate) fn bytes_in_range(bytes: &[u8]) -> &[u8]
     ensures value { result.now ≡ bytes.now }
     ensures fit { AreBytes bytes.now }
 {

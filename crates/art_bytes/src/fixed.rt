@@ -30,7 +30,7 @@ pub trait FixedBytes: Ord + Copy {
     ghost fixed_bytes: { Self → List ℕ };
 
     /// Some value of the type.
-    fn some() -> Self;
+    fn placeholder() -> Self;
 
     /// Returns the value's bytes. It allocates nothing.
     fn to_array(self) -> Self::Array

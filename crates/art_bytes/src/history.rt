@@ -14,14 +14,14 @@ impl Model for History {
     ghost also_owns = { λ _. ftrue };
 }
 
-/// Bytes that come behind those of a history.
+/// Bytes that come after those of a history.
 #[derive(Clone, Copy)]
 pub struct Piece<'a> {
     /// The bytes.
     pub bytes: &'a [u8],
 }
 
-/// A number that comes behind those of a history.
+/// A number that comes after those of a history.
 #[derive(Clone, Copy)]
 pub struct Count {
     /// The number.
@@ -41,7 +41,7 @@ impl History {
         History {}
     }
 
-    /// Makes the history that has a piece behind the items of this one.
+    /// Makes the history that has a piece after the items of this one.
     ///
     /// ```
     /// let given = History::new().then(&Piece { bytes: b"ab" });
@@ -53,7 +53,7 @@ impl History {
         History {}
     }
 
-    /// Makes the history that has a number behind the items of this one.
+    /// Makes the history that has a number after the items of this one.
     ///
     /// ```
     /// let counts = History::new().then_count(&Count { number: 3 });

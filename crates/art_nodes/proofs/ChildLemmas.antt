@@ -156,14 +156,14 @@ module _ {N : Type 0} where
     | inr other ↦ rw other.0 (ap (λ ds. c ∷ ds) (without_child-none cs byte (rw other.0 at none)))
   ]
 
-  -- a child behind all others
+  -- a child after all others
   low-le : (low : ℕ) (ys rest : List (ℕ × N)) (byte : ℕ) (name : N) → IsAscendingFrom low (ys ++ (byte, name) ∷ rest) → low ≤ byte
   low-le low [] rest byte name rises = rises.0
   low-le low (c ∷ ys) rest byte name rises = omega (arith, rises.0, low-le (c.0 + 1) ys rest byte name rises.2)
 
-  pub with_child-behind : (low : ℕ) (ys rest : List (ℕ × N)) (byte : ℕ) (name : N) → IsAscendingFrom low (ys ++ (byte, name) ∷ rest) → with_child ys byte name ≡ ys ++ (byte, name) ∷ []
-  with_child-behind low [] rest byte name rises = refl
-  with_child-behind low (c ∷ ys) rest byte name rises = elim (leb_tells (suc c.0) byte) [
-    | inl below ↦ rw below.0 (ap (λ cs. c ∷ cs) (with_child-behind (c.0 + 1) ys rest byte name rises.2))
+  pub with_child-after : (low : ℕ) (ys rest : List (ℕ × N)) (byte : ℕ) (name : N) → IsAscendingFrom low (ys ++ (byte, name) ∷ rest) → with_child ys byte name ≡ ys ++ (byte, name) ∷ []
+  with_child-after low [] rest byte name rises = refl
+  with_child-after low (c ∷ ys) rest byte name rises = elim (leb_tells (suc c.0) byte) [
+    | inl below ↦ rw below.0 (ap (λ cs. c ∷ cs) (with_child-after (c.0 + 1) ys rest byte name rises.2))
     | inr above ↦ absurd (omega (arith, above.1, low-le (c.0 + 1) ys rest byte name rises.2))
   ]

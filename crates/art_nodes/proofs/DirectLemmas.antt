@@ -110,7 +110,8 @@ pub record Becomes (header : Header) (marks : List ℕ) (slots : List (Option Na
   pub counted : IsCountedTable header marks slots
   pub view : table_node header slots ≡ with_children node children
 
-edited : (old : Header) (count : ℕ) (marks : List ℕ) (slots edit : List (Option Name)) (children : List (ℕ × Name)) → length edit ≡ 256 → children_from 0 edit ≡ children → marks ≡ bytes_of children → count ≡ length marks → Becomes (record old { num_children = count }) marks edit (table_node old slots) children
+edited : (old : Header) (count : ℕ) (marks : List ℕ) (slots edit : List (Option Name)) (children : List (ℕ × Name)) → length edit ≡ 256 → children_from 0 edit
+    ≡ children → marks ≡ bytes_of children → count ≡ length marks → Becomes (record old { num_children = count }) marks edit (table_node old slots) children
 edited old count marks slots edit children whole same marked counts =
     let all : count ≡ length children = counts ∙ ap (λ (ks : List ℕ). length ks) marked ∙ length-bytes_of children in
     record { counted = record { table = record { whole = whole; marked = rw same marked }; counts = counts }; view = rw (all, same) refl }

@@ -1,5 +1,6 @@
 -- Lemmas on bytes marked by bits: an edit of a bit is an edit of the ascending bytes.
-use Rattle.std.proofs.Common.{◌≡◌, ℕ, zero, suc, ◌+◌, ◌-◌, ◌*◌, ◌/◌, ◌%◌, ◌^◌, ◌<◌, ◌≤◌, ◌≢◌, ◌==◌, ◌&&◌, nat_lt, nat_le, Bool, true, false, cond, List, [], ◌∷◌, ◌++◌, length, drop, slice_index, slice_set, bit_and, bit_or, w64, refl, sym, ap, ap₂, ◌∙◌, inl, inr, arith, length-append, get_or-set_same, get_or-set_other}
+use Rattle.std.proofs.Common.{◌≡◌, ℕ, zero, suc, ◌+◌, ◌-◌, ◌*◌, ◌/◌, ◌%◌, ◌^◌, ◌<◌, ◌≤◌, ◌≢◌, ◌==◌, ◌&&◌, nat_lt, nat_le, Bool, true, false, cond, List, [], ◌∷◌, ◌++◌, length, drop, slice_index, slice_set, bit_and, bit_or, w64, refl, sym, ap, ap₂, ◌∙◌, inl, inr, arith, length-append}
+use Rattle.std.proofs.Common.{get_or-set_same, get_or-set_other}
 use Rattle.std.specs.Int.{bit_at, bit_not}
 use Rattle.std.specs.List.{insert, remove}
 use Rattle.std.proofs.lemmas.Bool.{and_parts}
@@ -94,12 +95,12 @@ module _ (p : ℕ → Bool) (byte : ℕ) (fits : byte < 256) where
     pub removed : p byte ≡ true → q byte ≡ false → those_passing q 0 256 ≡ remove all (place all byte)
     removed yes_it no_it =
         let parts = with_it p byte fits yes_it in
-        let edit : remove all (length front) ≡ front ++ back = ap (λ (ks : List ℕ). remove ks (length front)) parts ∙ ap₂ (λ f b. f ++ b) (take_at front (byte ∷ back) (length front) refl) (behind front) in
+        let edit : remove all (length front) ≡ front ++ back = ap (λ (ks : List ℕ). remove ks (length front)) parts ∙ ap₂ (λ f b. f ++ b) (take_at front (byte ∷ back) (length front) refl) (following front) in
         without_it q byte fits no_it ∙ ap₂ (λ f b. f ++ b) fronts backs ∙ sym edit ∙ ap (λ i. remove all i) (sym (place_of_bound p byte (omega arith)))
       where
-        behind : (xs : List ℕ) → drop (suc (length xs)) (xs ++ byte ∷ back) ≡ back
-        behind [] = refl
-        behind (x ∷ xs) = behind xs
+        following : (xs : List ℕ) → drop (suc (length xs)) (xs ++ byte ∷ back) ≡ back
+        following [] = refl
+        following (x ∷ xs) = following xs
 
 -- a byte is a bit of a word
 pub bit_of_word : (words : List ℕ) (k j : ℕ) → j < 64 → is_marked words (64 * k + j) ≡ is_set (slice_index words k) j

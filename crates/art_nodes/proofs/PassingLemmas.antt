@@ -80,7 +80,9 @@ unfolding those_passing
 stands-passes p first zero i less = absurd (omega (arith, less))
 stands-passes p first (suc n) i less = go (λ j l. stands-passes p (suc first) n j l) (p first) refl i less
   where
-    go : ((j : ℕ) → j < length (those_passing p (suc first) n) → p (slice_index (those_passing p (suc first) n) j) ≡ true) → (t : Bool) → p first ≡ t → (j : ℕ) → j < length (cond t (first ∷ those_passing p (suc first) n) (those_passing p (suc first) n)) → p (slice_index (cond t (first ∷ those_passing p (suc first) n) (those_passing p (suc first) n)) j) ≡ true
+    go : ((j : ℕ) → j < length (those_passing p (suc first) n) → p (slice_index (those_passing p (suc first) n) j) ≡ true) → (t : Bool) → p first ≡ t → (j : ℕ)
+        → j < length (cond t (first ∷ those_passing p (suc first) n) (those_passing p (suc first) n))
+        → p (slice_index (cond t (first ∷ those_passing p (suc first) n) (those_passing p (suc first) n)) j) ≡ true
     go rest true e zero l = e
     go rest true e (suc j) l = rest j (omega (arith, l))
     go rest false e j l = rest j l

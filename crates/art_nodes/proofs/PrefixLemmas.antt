@@ -23,8 +23,10 @@ take-copy_within n len xs below within =
     let P : ℕ → Type 0 = λ l. take (len - n) (copy_within xs n l 0) ≡ drop n (take l xs) in
     subst P (sym split) (take-moved n (len - n) xs (omega arith))
 
--- bytes written behind a front of `len` bytes, where at most `room` are stored
-pub take-pushed : (room len more : ℕ) (xs bytes : List ℕ) → length xs ≡ room → min (len + more) room ≤ min len room + length bytes → take (len + more) (take (min len room) xs ++ take (min more (room - min len room)) bytes ++ drop (min len room + length (take (min more (room - min len room)) bytes)) xs) ≡ take room (take len xs ++ take more bytes)
+-- bytes written after a front of `len` bytes, where at most `room` are stored
+pub take-pushed : (room len more : ℕ) (xs bytes : List ℕ) → length xs ≡ room → min (len + more) room ≤ min len room + length bytes
+    → take (len + more) (take (min len room) xs ++ take (min more (room - min len room)) bytes
+    ++ drop (min len room + length (take (min more (room - min len room)) bytes)) xs) ≡ take room (take len xs ++ take more bytes)
 take-pushed room len more xs bytes whole covers = grind (arith, elements)
 
 -- what a header stores of a prefix that it stores already

@@ -44,14 +44,19 @@ pub after_one_more : (children : List (ℕ × Name)) (commands : List ChildComma
 after_one_more children [] command = refl
 after_one_more children (c ∷ commands) command = after_one_more (children_after children c) commands command
 
-pub answers_one_more : (children : List (ℕ × Name)) (commands : List ChildCommand) (answers : List ChildAnswer) (command : ChildCommand) (answer : ChildAnswer) → AreChildAnswers children commands answers → IsChildAnswer (children_after_all children commands) command answer → AreChildAnswers children (commands ++ command ∷ []) (answers ++ answer ∷ [])
+pub answers_one_more : (children : List (ℕ × Name)) (commands : List ChildCommand) (answers : List ChildAnswer) (command : ChildCommand) (answer : ChildAnswer)
+    → AreChildAnswers children commands answers → IsChildAnswer (children_after_all children commands) command answer
+    → AreChildAnswers children (commands ++ command ∷ []) (answers ++ answer ∷ [])
 answers_one_more children [] [] command answer so_far next = (next, tt)
 answers_one_more children [] (a ∷ answers) command answer so_far next = absurd so_far
 answers_one_more children (c ∷ commands) [] command answer so_far next = absurd so_far
 answers_one_more children (c ∷ commands) (a ∷ answers) command answer so_far next = (so_far.0, answers_one_more (children_after children c) commands answers command answer so_far.1 next)
 
 -- one command more of a list, in the form of a loop's invariant
-pub replayed_one_more : (commands : List ChildCommand) (i : ℕ) (answers : List ChildAnswer) (children : List (ℕ × Name)) (command : ChildCommand) (answer : ChildAnswer) → take (i + 1) commands ≡ take i commands ++ command ∷ [] → AreChildAnswers [] (take i commands) answers × (children ≡ children_after_all [] (take i commands)) → IsChildAnswer children command answer → AreChildAnswers [] (take (i + 1) commands) (answers ++ answer ∷ []) × (children_after children command ≡ children_after_all [] (take (i + 1) commands))
+pub replayed_one_more : (commands : List ChildCommand) (i : ℕ) (answers : List ChildAnswer) (children : List (ℕ × Name)) (command : ChildCommand)
+    (answer : ChildAnswer) → take (i + 1) commands ≡ take i commands ++ command ∷ [] → AreChildAnswers [] (take i commands) answers
+    × (children ≡ children_after_all [] (take i commands)) → IsChildAnswer children command answer
+    → AreChildAnswers [] (take (i + 1) commands) (answers ++ answer ∷ []) × (children_after children command ≡ children_after_all [] (take (i + 1) commands))
 replayed_one_more commands i answers children command answer more so_far next =
     let here : IsChildAnswer (children_after_all [] (take i commands)) command answer = subst (λ (cs : List (ℕ × Name)). IsChildAnswer cs command answer) so_far.1 next in (
       subst (λ (done : List ChildCommand). AreChildAnswers [] done (answers ++ answer ∷ [])) (sym more) (answers_one_more [] (take i commands) answers command answer so_far.0 here),

@@ -75,7 +75,7 @@ module _ {X : Type 0} (xs : List X) (at used : ℕ) where
   till : at ≤ used → used ≡ at + (used - at)
   till le = omega (arith, le)
 
-  -- an item put in, those behind its place moved up by one
+  -- an item put in, those after its place moved up by one
   pub put_in : (x : X) → at ≤ used → used < length xs → take (used + 1) (slice_set (copy_within xs at used (at + 1)) at x) ≡ insert (take used xs) at x
   put_in x le less =
       let n = used - at in
@@ -91,7 +91,7 @@ module _ {X : Type 0} (xs : List X) (at used : ℕ) where
       let both : insert (front ++ back) at x ≡ front ++ x ∷ back = ap₂ (λ p q. p ++ x ∷ q) (take_at front back at long) (drop_at front back at long) in
       take-set-lt (used + 1) (copy_within xs at used (at + 1)) at x (omega (arith, le)) ∙ ap (λ (l : List X). slice_set l at x) parts ∙ set_at front y back x at long ∙ sym (ap (λ (l : List X). insert l at x) whole ∙ both)
 
-  -- an item taken out, those behind it moved down by one
+  -- an item taken out, those after it moved down by one
   pub take_out : at < used → used ≤ length xs → take (used - 1) (copy_within xs (at + 1) used at) ≡ remove (take used xs) at
   take_out less le =
       let n = used - (at + 1) in
@@ -114,12 +114,12 @@ read_in_use used row at x less is =
 pub refilled : {X : Type 0} (xs ws : List X) → length ws ≡ length xs → refill (length xs) xs ws ≡ ws
 refilled xs ws same = take_at ws (drop (length ws) xs) (length xs) same
 
--- a list after an item was put behind it and moved to its place
+-- a list after an item was put after it and moved to its place
 pub pushed_in : {X : Type 0} (xs row : List X) (x : X) (at : ℕ) → take (length xs + 1) row ≡ insert (take (length xs) (xs ++ x ∷ [])) at x → length row ≡ length (xs ++ x ∷ []) → refill (length (xs ++ x ∷ [])) (xs ++ x ∷ []) row ≡ insert xs at x
 pushed_in {X = X} xs row x at is same =
     refilled (xs ++ x ∷ []) row same ∙ sym (take_all (length xs + 1) row (omega (arith, same, length-append xs (x ∷ [])))) ∙ is ∙ ap (λ (l : List X). insert l at x) (take_at xs (x ∷ []) (length xs) refl)
 
--- a list after those behind an item were moved over it, and the last cut off
+-- a list after those after an item were moved over it, and the last cut off
 pub taken_out : {X : Type 0} (xs row : List X) (at : ℕ) → take (length xs - 1) row ≡ remove (take (length xs) xs) at → length row ≡ length xs → take (length xs - 1) (refill (length xs) xs row) ≡ remove xs at
 taken_out {X = X} xs row at is same =
     ap (λ (l : List X). take (length xs - 1) l) (refilled xs row same) ∙ is ∙ ap (λ (l : List X). remove l at) (take_all (length xs) xs (omega arith))

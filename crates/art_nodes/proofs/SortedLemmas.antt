@@ -30,7 +30,8 @@ bound low (k ∷ keys) [] same rises at within here = absurd (omega arith)
 bound low (k ∷ keys) (n ∷ names) same rises zero within here = rw (← here) rises.1
 bound low (k ∷ keys) (n ∷ names) same rises (suc at) within here = bound (k + 1) keys names (omega arith) rises.2 at (omega (arith, within)) here
 
-counted : (room : ℕ) (header : Header) (keys : List ℕ) (names : List Name) (node : InnerNode) (children : List (ℕ × Name)) → IsSideBySide room header keys names → zip keys names ≡ children → header ≡ record node.header { num_children = header.num_children } → Becomes room header keys names node children
+counted : (room : ℕ) (header : Header) (keys : List ℕ) (names : List Name) (node : InnerNode) (children : List (ℕ × Name)) → IsSideBySide room header keys names
+    → zip keys names ≡ children → header ≡ record node.header { num_children = header.num_children } → Becomes room header keys names node children
 counted room header keys names node children side same rest =
     let long = length-zip_same keys names side.same_length in
     let count : header.num_children ≡ length children = side.counts ∙ sym long ∙ ap (λ (cs : List (ℕ × Name)). length cs) same in
@@ -145,7 +146,9 @@ pub record BecomesRows (room : ℕ) (header : Header) (keys : List ℕ) (names :
   pub view : sorted_node header (in_use header keys) (in_use header names) ≡ with_children node children
 
 -- rows whose items in use are those of an edited node
-pub rows_of : (room : ℕ) (header : Header) (keys : List ℕ) (names : List Name) (node : InnerNode) (children : List (ℕ × Name)) {front : List ℕ} {fronts : List Name} → in_use header keys ≡ front → in_use header names ≡ fronts → length keys ≡ room → length names ≡ room → Becomes room header front fronts node children → BecomesRows room header keys names node children
+pub rows_of : (room : ℕ) (header : Header) (keys : List ℕ) (names : List Name) (node : InnerNode) (children : List (ℕ × Name)) {front : List ℕ}
+    {fronts : List Name} → in_use header keys ≡ front → in_use header names ≡ fronts → length keys ≡ room → length names ≡ room
+    → Becomes room header front fronts node children → BecomesRows room header keys names node children
 rows_of room header keys names node children e f keys_fill names_fill new =
     record {
       held = record { keys_fill = keys_fill; names_fill = names_fill; within = omega (arith, new.side.counts, new.side.fits); side = rw (e, f) new.side };

@@ -20,7 +20,7 @@ module _ {N : Type 0} where
   pub length-bytes_of : (cs : List (ℕ × N)) → length (bytes_of cs) ≡ length cs
   length-bytes_of cs = length-map cs (λ c. c.0)
 
-  -- where a child stands under a byte of ascending children, it is the first, or stands among those behind
+  -- where a child stands under a byte of ascending children, it is the first, or stands among those after
   which : (low : ℕ) (c : ℕ × N) (cs : List (ℕ × N)) (byte : ℕ) {old : N} → IsAscendingFrom low (c ∷ cs) → child_at (c ∷ cs) byte ≡ Some old
       → ((eqb c.0 byte ≡ true) × (leb (suc c.0) byte ≡ false) × (c.0 ≡ byte) × (c.1 ≡ old)) ⊎ ((eqb c.0 byte ≡ false) × (leb (suc c.0) byte ≡ true) × (child_at cs byte ≡ Some old))
   which low c cs byte rises some = elim (eqb_tells c.0 byte) [
@@ -65,8 +65,8 @@ module _ {N : Type 0} where
   byte-stands low (c ∷ cs) byte name rises some = elim (which low c cs byte rises some) [
     | inl here ↦ record { is_place = refl; within = rw here.1 (omega arith); here = rw here.1 here.2 }
     | inr later ↦
-        let behind = byte-stands (c.0 + 1) cs byte name rises.2 later.2 in
-        record { is_place = refl; within = rw later.1 (omega (arith, behind.within)); here = rw later.1 behind.here }
+        let following = byte-stands (c.0 + 1) cs byte name rises.2 later.2 in
+        record { is_place = refl; within = rw later.1 (omega (arith, following.within)); here = rw later.1 following.here }
   ]
 
   pub byte-apart : (cs : List (ℕ × N)) (byte : ℕ) → child_at cs byte ≡ None → (at : ℕ) → at < length (bytes_of cs) → slice_index (bytes_of cs) at ≢ byte

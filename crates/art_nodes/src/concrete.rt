@@ -1,7 +1,7 @@
 //! Names whose kind is seen by a match.
 ghost use Rattle.std.specs.Prelude.{◌≡◌, ◌≢◌};
 
-use crate::hint::known;
+use crate::hint::assume_proved;
 use crate::kind::{
     InnerKind, Kind4, Kind16, Kind32, Kind48, Kind256, KindLeaf, NodeKind, NodeType,
 };
@@ -104,7 +104,7 @@ impl OpaqueNodePtr {
             ConcreteNodePtr::Node48(name) => ConcreteInnerNodePtr::Node48(name),
             ConcreteNodePtr::Node256(name) => ConcreteInnerNodePtr::Node256(name),
             ConcreteNodePtr::LeafNode(_) => {
-                known(false);
+                assume_proved(false);
                 unreachable!()
             }
         }

@@ -8,7 +8,7 @@ ghost use Rattle.std.specs.Prelude.{IsTrue};
 /// If this is false, the body writes through a reference out of an empty slice. No call gets there, and LLVM, which
 /// sees that nothing can come of such a write, takes this for true from here on.
 #[inline(always)]
-pub fn known(holds: bool)
+pub fn assume_proved(holds: bool)
     requires { IsTrue holds }
     ensures { IsTrue holds }
 {

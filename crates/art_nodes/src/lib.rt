@@ -30,7 +30,7 @@ pub use concrete::{ConcreteInnerNodePtr, ConcreteNodePtr};
 pub use conversions::{InnerNode4, InnerNode16, InnerNode32, InnerNode48, InnerNode256};
 pub use direct::InnerNodeDirect;
 pub use header::Header;
-pub use hint::known;
+pub use hint::assume_proved;
 pub use indirect::InnerNodeIndirect;
 pub use inner_node::{InnerNode, InnerNodeCommon, InnerNodeInit, Node};
 pub use kind::{

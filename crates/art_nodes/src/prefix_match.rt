@@ -68,7 +68,7 @@ impl From<OptimisticMismatch> for PessimisticMismatch {
 // So many bytes are compared at once, as long as so many agree.
 const PAGE: usize = 256;
 
-// So many are, behind those.
+// So many are, after those.
 const WORD: usize = 8;
 
 /// Returns how many bytes agree from the first on: the length of the longest common prefix.

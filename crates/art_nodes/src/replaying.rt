@@ -147,7 +147,7 @@ fn listed(alloc: Global, children: ChildIter<'_>) -> Result<Vec<(u8, OpaqueNodeP
 }
 
 // What the command answers on this node.
-fn answer<N: InnerNodeCommon<0>>(
+fn answer_to<N: InnerNodeCommon<0>>(
     node: &N,
     alloc: Global,
     command: &ChildCommand,
@@ -171,7 +171,7 @@ fn answer<N: InnerNodeCommon<0>>(
 }
 
 // The node after the command.
-fn after<N: Replayed>(node: N, command: &ChildCommand) -> ReplayedNode
+fn node_after<N: Replayed>(node: N, command: &ChildCommand) -> ReplayedNode
 where
     N::GrownNode: Replayed,
     N::ShrunkNode: Replayed,
@@ -196,7 +196,7 @@ struct Reply {
 }
 
 // What the command answers on this node, and the node after it.
-fn replied<N: Replayed>(node: N, alloc: Global, command: &ChildCommand) -> Result<Reply, AllocError>
+fn execute<N: Replayed>(node: N, alloc: Global, command: &ChildCommand) -> Result<Reply, AllocError>
 where
     N::GrownNode: Replayed,
     N::ShrunkNode: Replayed,
@@ -205,8 +205,8 @@ where
     ensures after { IfOk result
         (λ it. replayed_children it.node ≡ children_after (N.inner node).children command.now) }
 {
-    let answer = answer(&node, alloc, command)?;
-    let node = after(node, command);
+    let answer = answer_to(&node, alloc, command)?;
+    let node = node_after(node, command);
     Ok(Reply { answer, node })
 }
 
@@ -219,17 +219,17 @@ impl ReplayedNode {
     }
 
     // What the command answers, and the node after it.
-    fn replied(self, alloc: Global, command: &ChildCommand) -> Result<Reply, AllocError>
+    fn execute(self, alloc: Global, command: &ChildCommand) -> Result<Reply, AllocError>
         ensures answer { IfOk result (λ it. IsChildAnswer (replayed_children self) command.now it.answer) }
         ensures after { IfOk result
             (λ it. replayed_children it.node ≡ children_after (replayed_children self) command.now) }
     {
         match self {
-            ReplayedNode::Node4(node) => replied(node, alloc, command),
-            ReplayedNode::Node16(node) => replied(node, alloc, command),
-            ReplayedNode::Node32(node) => replied(node, alloc, command),
-            ReplayedNode::Node48(node) => replied(node, alloc, command),
-            ReplayedNode::Node256(node) => replied(node, alloc, command),
+            ReplayedNode::Node4(node) => execute(node, alloc, command),
+            ReplayedNode::Node16(node) => execute(node, alloc, command),
+            ReplayedNode::Node32(node) => execute(node, alloc, command),
+            ReplayedNode::Node48(node) => execute(node, alloc, command),
+            ReplayedNode::Node256(node) => execute(node, alloc, command),
         }
     }
 }
@@ -246,7 +246,7 @@ pub fn replay(alloc: Global, commands: &[ChildCommand]) -> Result<Vec<ChildAnswe
     let mut node = ReplayedNode::empty();
     let mut answers = Vec::new(alloc);
     for command in commands {
-        let reply = node.replied(alloc, command)?;
+        let reply = node.execute(alloc, command)?;
         answers.push(reply.answer)?;
         node = reply.node;
     }

@@ -1,7 +1,8 @@
 -- A part's cells set apart from those of its tree, and what becomes of the node above it.
 use Rattle.std.proofs.Common.{◌≡◌, ◌≢◌, ℕ, ◌+◌, ◌≤◌, cond, List, ◌∷◌, ◌++◌, Option, Some, None, inl, inr, refl, sym, ap, subst, ◌∙◌, arith, append_assoc}
 use Rattle.art_nodes.proofs.Common.{Name, InnerNode, without_child, with_children}
-use Rattle.art_arena.proofs.Common.{Arena, inner_held, held_at, cell_of, node_at, Cell, branches, same_name, Holds, UpdatesAt, Frame, plug, path_to, frame_cell, cells_before, cells_after, AreBelow, IsKindOf, Shape, Branches, inner_at, no_branch, branch, name_of, children_at, join, width, cells, cells_in, AreUnder, all_right, same_name_tells, same_name-self, Holds-add, Holds-write, Holds-remove, Holds-turn, children_at-join, leaves_in-join, cells_in-join, width-join, without_child-frame, frame_node, unplugged}
+use Rattle.art_arena.proofs.Common.{Arena, inner_held, held_at, cell_of, node_at, Cell, branches, same_name, Holds, UpdatesAt, Frame, plug, path_to, frame_cell, cells_before, cells_after, AreBelow, IsKindOf, Shape, Branches, inner_at, no_branch, branch, name_of, children_at, join, width}
+use Rattle.art_arena.proofs.Common.{cells, cells_in, AreUnder, all_right, same_name_tells, same_name-self, Holds-add, Holds-write, Holds-remove, Holds-turn, children_at-join, leaves_in-join, cells_in-join, width-join, without_child-frame, frame_node, unplugged}
 use Rattle.art_operations.proofs.Terms.{IsHeldAt, StandsFor, Moves}
 
 module _ {K V : Type 0} where
@@ -40,7 +41,7 @@ module _ {K V : Type 0} where
           let free : mid other ≡ None = elim (same_name_tells other place) [ inl same ↦ absurd (apart same.1) | inr no_more ↦ rw no_more.0 nothing ] in
           Holds-add mid (node_at new) other (branches node) xs ys in_again free (Holds-remove (node_at old) mid place was xs ys out holds)
 
-  -- the part's cells stand behind those of the tree without it, but for the node above it
+  -- the part's cells stand after those of the tree without it, but for the node above it
   pub set_apart : (P : ℕ) (at : Name → Option (Cell K V)) (rest : List (Name × Cell K V)) (f : Frame K V) (outer : List (Frame K V)) (part : Shape K V)
       → Holds at (rest ++ cells P (plug (f ∷ outer) part))
       → Holds at (cells_before P outer f.name ++ (frame_cell P f (name_of part) ∷ (cells_in P (join f.before f.after) ++ (cells_after P outer ++ (cells P part ++ rest)))))
@@ -57,7 +58,7 @@ module _ {K V : Type 0} (bytes : K → List ℕ) where
   lower path low high no_branch less under = tt
   lower path low high (branch c s rest) less under = (omega (arith, less, under.0), under.1, under.2)
 
-  -- what stands before a byte and what stands behind it, in one
+  -- what stands before a byte and what stands after it, in one
   pub AreUnder-closed : (path : List ℕ) (low byte : ℕ) (f g : Branches K V) → AreUnder bytes path low f → AreBelow byte f → low ≤ byte + 1 → AreUnder bytes path (byte + 1) g → AreUnder bytes path low (join f g)
   AreUnder-closed path low byte no_branch g before below less after = lower path low (byte + 1) g less after
   AreUnder-closed path low byte (branch c s f) g before below less after = (before.0, before.1, AreUnder-closed path (c + 1) byte f g before.2 below.1 (omega (arith, below.0)) after)

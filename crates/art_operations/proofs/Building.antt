@@ -8,8 +8,11 @@ use Rattle.std.proofs.Math.Seq.{take-suc, get_or-append_seam}
 use Rattle.art_bytes.proofs.Common.{IsBefore, IsProperFront, Conflict, before_at, before_trans, before_not_self, conflict_not_before, conflict_turned}
 use Rattle.art_nodes.proofs.Common.{IsAscending, Name}
 use Rattle.art_nodes.specs.declared.leaf.LeafNode.{LeafNode}
-use Rattle.art_arena.proofs.Common.{Arena, leaf_held, cell_of, links_of, held_at, node_at, links_at, Allocates, SameCells, SameLeaves, Cell, leaf_name, copies, Holds, AreBelow, AreLinked, times, IsBeside, Shape, Branches, LeafAt, no_branch, branch, name_of, children_at, join, leaves, leaves_in, cells, cells_in, pairs_of, key_of, IsUnder, AreUnder, AscendsByKey, Holds-add, Holds-same, copies-append, copies-vacant, AreUnder-join, times-append, AreLinked-frame, AreLinked-same, times-leaves_in, HoldsPair, nodes-update, links-update, all_append, all_right, all_weaker, ascending_append}
-use Rattle.art_operations.proofs.Terms.{Builds, BuildsTo, BuildsUpTo, GoesBehind, PartAt, HasPairs, Open, Spine, TreeBuilder, Parted, Meets, lone_leaf, RebuildsUpTo, Level, begin, begin_of, opened, open_children, open_leaves, open_cells, open_at, AddsChild, IsOpen, AreOpen, IsSpine, HasSpine, IsEmptySpine}
+use Rattle.art_arena.proofs.Common.{Arena, leaf_held, cell_of, links_of, held_at, node_at, links_at, Allocates, SameCells, SameLeaves, Cell, leaf_name, copies, Holds, AreBelow, AreLinked, times, IsBeside, Shape, Branches, LeafAt, no_branch, branch, name_of, children_at, join, leaves}
+use Rattle.art_arena.proofs.Common.{leaves_in, cells, cells_in, pairs_of, key_of, IsUnder, AreUnder, AscendsByKey, Holds-add, Holds-same, copies-append, copies-vacant, AreUnder-join, times-append, AreLinked-frame, AreLinked-same, times-leaves_in, HoldsPair, nodes-update, links-update}
+use Rattle.art_arena.proofs.Common.{all_append, all_right, all_weaker, ascending_append}
+use Rattle.art_operations.proofs.Terms.{Builds, BuildsTo, BuildsUpTo, IsAfterAll, PartAt, HasPairs, Open, Spine, TreeBuilder, Parted, Meets, lone_leaf, RebuildsUpTo, Level, begin, begin_of, opened, open_children, open_leaves, open_cells, open_at, AddsChild, IsOpen, AreOpen, IsSpine}
+use Rattle.art_operations.proofs.Terms.{HasSpine, IsEmptySpine}
 use Rattle.art_operations.specs.declared.meeting.Meeting.{Meeting}
 use Rattle.art_operations.specs.declared.meeting.Meeting.TheVariants as meeting
 use Rattle.art_operations.proofs.InnerRooms.{no-room}
@@ -17,7 +20,7 @@ use Rattle.art_operations.proofs.HeldPairs.{first-leaf}
 use Rattle.art_operations.proofs.KeyedLists.{before}
 use Rattle.art_operations.proofs.LeafPairs.{pairs-parts}
 use Rattle.art_operations.proofs.Rebuilding.{last-there, last-is-held, last-read, last-stands, whole}
-use Rattle.art_operations.proofs.Spines.{begin-opened, ascending-behind, below-behind, children-behind, width-behind, leaves-behind, cells-behind}
+use Rattle.art_operations.proofs.Spines.{begin-opened, ascending-after, below-after, children-after, width-after, leaves-after, cells-after}
 
 -- two keys that part agree on each front up to there
 module _ (old new : List ℕ) (p : Parted) (part : PartAt old new p) where
@@ -53,12 +56,12 @@ module _ (old new : List ℕ) (p : Parted) (part : PartAt old new p) where
 proper-conflict : (k l : List ℕ) → IsProperFront k l → Conflict k l
 proper-conflict k l (b, rest, e) = (λ same. let s = ap length e ∙ length-append k (b ∷ rest) in let t = ap length same in absurd (omega (arith, s, t)), inl (b ∷ rest, e))
 
--- a key that meets the last one otherwise doesn't go behind it
-pub not-behind : (k key : List ℕ) (m : Meeting) → Meets k key m → ((p : Parted) → m ≡ meeting.Parts p → p.new_byte < p.old_byte) → IsBefore k key → ⊥
-not-behind k key meeting.Same same above less = before_not_self key (subst (λ l. IsBefore l key) same less)
-not-behind k key meeting.OldEnds (b, rest, e) above less = conflict_not_before k key (proper-conflict k key (b, rest, e)) less
-not-behind k key meeting.NewEnds (b, rest, e) above less = conflict_not_before k key (conflict_turned key k (proper-conflict key k (b, rest, e))) less
-not-behind k key (meeting.Parts p) part above less =
+-- a key that meets the last one otherwise doesn't go after it
+pub not-after : (k key : List ℕ) (m : Meeting) → Meets k key m → ((p : Parted) → m ≡ meeting.Parts p → p.new_byte < p.old_byte) → IsBefore k key → ⊥
+not-after k key meeting.Same same above less = before_not_self key (subst (λ l. IsBefore l key) same less)
+not-after k key meeting.OldEnds (b, rest, e) above less = conflict_not_before k key (proper-conflict k key (b, rest, e)) less
+not-after k key meeting.NewEnds (b, rest, e) above less = conflict_not_before k key (conflict_turned key k (proper-conflict key k (b, rest, e))) less
+not-after k key (meeting.Parts p) part above less =
     let after : IsBefore key k = subst (λ l. IsBefore l k) (sym part.new_is) (subst (IsBefore (part.front ++ p.new_byte ∷ part.new_rest)) (sym part.old_is) (before_at part.front p.new_byte p.old_byte part.new_rest part.old_rest (above p refl))) in
     before_not_self key (before_trans key k key after less)
 
@@ -83,7 +86,7 @@ module _ {K V : Type 0} (bytes : K → List ℕ) (P : ℕ) where
         let o = ways.0 in (
           record {
             inside = (let there = new-inside old new p part_at in omega (arith, there, before));
-            some = o.some;
+            has_kids = o.has_kids;
             under = subst (λ q. AreUnder bytes q 0 l.kids) (sym (same-front old new p part_at l.depth (omega (arith, before)))) o.under;
             below = subst (λ b. AreBelow b l.kids) (sym (same-byte old new p part_at l.depth before)) o.below;
             ascending = o.ascending;
@@ -98,32 +101,32 @@ module _ {K V : Type 0} (bytes : K → List ℕ) (P : ℕ) where
       grown kids kids_under below rises =
           let path : take (suc p.matched) old ≡ take p.matched old ++ p.old_byte ∷ [] =
           take-suc old p.matched 0 (old-inside old new p part_at) ∙ ap (λ b. take p.matched old ++ b ∷ []) (old-byte old new p part_at) in
-          let wide = width-behind p.old_byte part kids in
+          let wide = width-after p.old_byte part kids in
           record {
             inside = new-inside old new p part_at;
-            some = omega (arith, wide);
+            has_kids = omega (arith, wide);
             under = subst (λ q. AreUnder bytes q 0 (join kids (branch p.old_byte part no_branch))) (sym (same-front old new p part_at p.matched (omega arith)))
                 (AreUnder-join bytes (take p.matched old) 0 p.old_byte kids part no_branch kids_under below zero-le (subst (λ q. IsUnder bytes q part) path under) tt);
-            below = subst (λ b. AreBelow b (join kids (branch p.old_byte part no_branch))) (sym (new-byte old new p part_at)) (below-behind p.old_byte p.new_byte part kids below less);
-            ascending = subst IsAscending (sym (children-behind p.old_byte part kids)) (ascending-behind 0 p.old_byte (name_of part) kids rises below zero-le fits);
+            below = subst (λ b. AreBelow b (join kids (branch p.old_byte part no_branch))) (sym (new-byte old new p part_at)) (below-after p.old_byte p.new_byte part kids below less);
+            ascending = subst IsAscending (sym (children-after p.old_byte part kids)) (ascending-after 0 p.old_byte (name_of part) kids rises below zero-le fits);
           }
 
-      add_to : (outer : List (Level K V)) (kids : Branches K V) → now.stack.items ≡ opened outer ++ record { behind = suc p.matched; first = length (open_children outer) } ∷ [] → now.children.items ≡ (open_children outer ++ children_at kids) ++ (p.old_byte, root) ∷ []
+      add_to : (outer : List (Level K V)) (kids : Branches K V) → now.stack.items ≡ opened outer ++ record { child_depth = suc p.matched; first = length (open_children outer) } ∷ [] → now.children.items ≡ (open_children outer ++ children_at kids) ++ (p.old_byte, root) ∷ []
           → Holds (node_at arena) (open_cells P outer ++ (cells_in P kids ++ (cells P part ++ rest))) → AreOpen bytes old outer → begin 0 outer ≤ p.matched
           → AreUnder bytes (take p.matched old) 0 kids → AreBelow p.old_byte kids → IsAscending (children_at kids) → open_leaves outer ++ (leaves_in kids ++ leaves part) ≡ ls → Added arena now rest new ls
       add_to outer kids stack_is children_are holds ways above kids_under below rises leaves_are = record {
         levels = record { depth = p.matched; kids = join kids (branch p.old_byte part no_branch) } ∷ outer;
         stack_is = stack_is;
         children_are = children_are ∙ append_assoc (open_children outer) (children_at kids) ((p.old_byte, root) ∷ [])
-            ∙ ap (λ n. open_children outer ++ (children_at kids ++ (p.old_byte, n) ∷ [])) (sym named) ∙ ap (λ cs. open_children outer ++ cs) (sym (children-behind p.old_byte part kids));
-        holds = subst (Holds (node_at arena)) (ap (λ cs. open_cells P outer ++ cs) (sym (append_assoc (cells_in P kids) (cells P part) rest) ∙ ap (λ cs. cs ++ rest) (sym (cells-behind P p.old_byte part kids)))
+            ∙ ap (λ n. open_children outer ++ (children_at kids ++ (p.old_byte, n) ∷ [])) (sym named) ∙ ap (λ cs. open_children outer ++ cs) (sym (children-after p.old_byte part kids));
+        holds = subst (Holds (node_at arena)) (ap (λ cs. open_cells P outer ++ cs) (sym (append_assoc (cells_in P kids) (cells P part) rest) ∙ ap (λ cs. cs ++ rest) (sym (cells-after P p.old_byte part kids)))
             ∙ sym (append_assoc (open_cells P outer) (cells_in P (join kids (branch p.old_byte part no_branch))) rest)) holds;
         ways = (grown kids kids_under below rises, above, shift outer ways above);
-        leaves_are = ap (λ xs. open_leaves outer ++ xs) (leaves-behind p.old_byte part kids) ∙ leaves_are;
+        leaves_are = ap (λ xs. open_leaves outer ++ xs) (leaves-after p.old_byte part kids) ∙ leaves_are;
       }
 
       -- a node is opened for it
-      add_new : (levels : List (Level K V)) → now.stack.items ≡ opened levels ++ record { behind = suc p.matched; first = length (open_children levels) } ∷ [] → now.children.items ≡ open_children levels ++ (p.old_byte, root) ∷ []
+      add_new : (levels : List (Level K V)) → now.stack.items ≡ opened levels ++ record { child_depth = suc p.matched; first = length (open_children levels) } ∷ [] → now.children.items ≡ open_children levels ++ (p.old_byte, root) ∷ []
           → Holds (node_at arena) (open_cells P levels ++ (cells P part ++ rest)) → AreOpen bytes old levels → begin 0 levels ≤ p.matched → open_leaves levels ++ leaves part ≡ ls → Added arena now rest new ls
       add_new levels stack_is children_are holds ways above leaves_are =
           add_to levels no_branch stack_is (children_are ∙ ap (λ cs. cs ++ (p.old_byte, root) ∷ []) (sym (append-nil (open_children levels)))) holds ways above tt tt tt leaves_are
@@ -142,19 +145,21 @@ module _ {K V : Type 0} (bytes : K → List ℕ) (P : ℕ) where
               let depth : l.depth ≡ p.matched = omega (arith, closed, there) in
               let o = ways.0 in
               let above = ways.1 in
-              add_to outer l.kids (stack_is ∙ ap (λ d. opened outer ++ record { behind = suc d; first = length (open_children outer) } ∷ []) depth) children_are
+              add_to outer l.kids (stack_is ∙ ap (λ d. opened outer ++ record { child_depth = suc d; first = length (open_children outer) } ∷ []) depth) children_are
               (subst (Holds (node_at arena)) (append_assoc (open_cells P outer) (cells_in P l.kids) (cells P part ++ rest)) holds) ways.2 (omega (arith, above, depth))
               (subst (λ d. AreUnder bytes (take d old) 0 l.kids) depth o.under) (subst (λ b. AreBelow b l.kids) (ap (slice_index old) depth ∙ old-byte old new p part_at) o.below) o.ascending
               (sym (append_assoc (open_leaves outer) (leaves_in l.kids) (leaves part)) ∙ leaves_are)
 
     -- the closed part becomes a child of the node at the parting
-    pub added : (arena : Arena K V) (was now : Spine) (rest : List (Name × Cell K V)) (behind : ℕ) (root : Name) (ls : List (LeafAt K V)) → behind ≡ suc p.matched → IsSpine bytes P arena was rest behind root old ls → begin_of behind was.stack.items ≡ behind → AddsChild behind (p.old_byte, root) was now → Added arena now rest new ls
-    added arena was now rest behind root ls behind_is spine closed adds =
+    pub added : (arena : Arena K V) (was now : Spine) (rest : List (Name × Cell K V)) (following : ℕ) (root : Name) (ls : List (LeafAt K V)) → following
+        ≡ suc p.matched → IsSpine bytes P arena was rest following root old ls → begin_of following was.stack.items ≡ following
+        → AddsChild following (p.old_byte, root) was now → Added arena now rest new ls
+    added arena was now rest following root ls child_depth_is spine closed adds =
         let at : begin (suc p.matched) spine.levels ≡ suc p.matched =
-        ap (λ b. begin b spine.levels) (sym behind_is) ∙ sym (begin-opened behind spine.levels) ∙ ap (begin_of behind) (sym spine.stack_is) ∙ closed ∙ behind_is in
-        let under : IsUnder bytes (take (suc p.matched) old) spine.part = subst (λ n. IsUnder bytes (take n old) spine.part) (ap (λ b. begin b spine.levels) behind_is ∙ at) spine.under in
+        ap (λ b. begin b spine.levels) (sym child_depth_is) ∙ sym (begin-opened following spine.levels) ∙ ap (begin_of following) (sym spine.stack_is) ∙ closed ∙ child_depth_is in
+        let under : IsUnder bytes (take (suc p.matched) old) spine.part = subst (λ n. IsUnder bytes (take n old) spine.part) (ap (λ b. begin b spine.levels) child_depth_is ∙ at) spine.under in
         add arena was now rest root spine.part ls spine.named under spine.levels
-        (adds.stack ∙ ap₂ (λ b (o : List Open). open_at b (length was.children.items) o) behind_is spine.stack_is ∙ ap (λ (cs : List (ℕ × Name)). open_at (suc p.matched) (length cs) (opened spine.levels)) spine.children_are)
+        (adds.stack ∙ ap₂ (λ b (o : List Open). open_at b (length was.children.items) o) child_depth_is spine.stack_is ∙ ap (λ (cs : List (ℕ × Name)). open_at (suc p.matched) (length cs) (opened spine.levels)) spine.children_are)
         (adds.children ∙ ap (λ cs. cs ++ (p.old_byte, root) ∷ []) spine.children_are) spine.holds spine.ways at spine.leaves_are
 
   -- what a builder has, by its last leaf
@@ -185,19 +190,19 @@ module _ {K V : Type 0} (bytes : K → List ℕ) (P : ℕ) where
     pairs-end : pairs ≡ pairs_of (open_leaves is.levels) ++ (is.key, is.value) ∷ []
     pairs-end = sym is.pairs_are ∙ pairs-parts bytes (open_leaves is.levels) last_leaf []
 
-    -- a key that goes behind the last goes behind all
-    pub behind-all : (key : List ℕ) → IsBefore (bytes is.key) key → GoesBehind bytes key pairs
-    behind-all key less =
+    -- a key that goes after the last goes after all
+    pub after-all : (key : List ℕ) → IsBefore (bytes is.key) key → IsAfterAll bytes key pairs
+    after-all key less =
         let q : K × V = (is.key, is.value) in
         let front = pairs_of (open_leaves is.levels) in
         let firsts = before (key_of bytes) q front [] (subst (AscendsByKey (key_of bytes)) pairs-end is.ascends) in
-        subst (GoesBehind bytes key) (sym pairs-end)
+        subst (IsAfterAll bytes key) (sym pairs-end)
         (all_append (λ (p : K × V). IsBefore (bytes p.0) key) front (q ∷ []) (all_weaker (λ (p : K × V). IsBefore (bytes p.0) (bytes is.key)) (λ (p : K × V). IsBefore (bytes p.0) key) (λ p first. before_trans (bytes p.0) (bytes is.key) key first less) front firsts) (less, tt))
 
-    -- so one that goes behind all goes behind the last
-    pub behind-last : (key : List ℕ) → GoesBehind bytes key pairs → IsBefore (bytes is.key) key
-    behind-last key behind =
-        (all_right (λ (p : K × V). IsBefore (bytes p.0) key) (pairs_of (open_leaves is.levels)) ((is.key, is.value) ∷ []) (subst (GoesBehind bytes key) pairs-end behind)).0
+    -- so one that goes after all goes after the last
+    pub after-last : (key : List ℕ) → IsAfterAll bytes key pairs → IsBefore (bytes is.key) key
+    after-last key following =
+        (all_right (λ (p : K × V). IsBefore (bytes p.0) key) (pairs_of (open_leaves is.levels)) ((is.key, is.value) ∷ []) (subst (IsAfterAll bytes key) pairs-end following)).0
 
     -- where all nodes are made, the arena has the tree
     pub finished : (new : Arena K V) (now : Spine) (root : Name) → HasSpine bytes P new now [] last 0 root (bytes is.key) all_leaves → begin_of 0 now.stack.items ≡ 0 → SameLeaves arena new → HasPairs bytes P new (Some root) pairs

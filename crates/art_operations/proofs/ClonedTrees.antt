@@ -2,7 +2,8 @@
 use Rattle.std.proofs.Common.{◌≡◌, ℕ, ◌+◌, cond, List, [], ◌∷◌, ◌++◌, length, take, Option, Some, None, is_some, refl, sym, ap, ap₂, subst, ◌∙◌, arith}
 use Rattle.art_bytes.proofs.Common.{BeginsWith}
 use Rattle.art_nodes.proofs.Common.{Name, InnerNode}
-use Rattle.art_arena.proofs.Common.{IsKindOf, Arena, Held, leaf_held, inner_held, held_at, cell_of, links_of, node_at, links_at, IsHeldClone, IsArenaClone, Cell, leaf_name, copies, AreHeld, Links, AreLinked, first_slot, Shape, Branches, leaf_at, inner_at, no_branch, branch, LeafAt, name_of, width, children_at, node_of, leaves, leaves_in, cells, cells_in, IsUnder, AreUnder, StoresOnly, all_append, all_left, all_right, copies-append, inner_of, holds_pair, HoldsPair, slot_list}
+use Rattle.art_arena.proofs.Common.{IsKindOf, Arena, Held, leaf_held, inner_held, held_at, cell_of, links_of, node_at, links_at, IsHeldClone, IsArenaClone, Cell, leaf_name, copies, AreHeld, Links, AreLinked, first_slot, Shape, Branches, leaf_at, inner_at, no_branch, branch, LeafAt}
+use Rattle.art_arena.proofs.Common.{name_of, width, children_at, node_of, leaves, leaves_in, cells, cells_in, IsUnder, AreUnder, StoresOnly, all_append, all_left, all_right, copies-append, inner_of, holds_pair, HoldsPair, slot_list}
 use Rattle.art_operations.specs.Clones.{IsShapeClone, AreBranchClones}
 use Rattle.std.proofs.lemmas.List.{map-append}
 

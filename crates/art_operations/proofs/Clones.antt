@@ -4,7 +4,7 @@ use Rattle.std.specs.List.{AllZip}
 use Rattle.std.proofs.lemmas.List.Elements.{length_all_zip}
 use Rattle.art_nodes.proofs.Common.{Name}
 use Rattle.art_arena.proofs.Common.{Arena, IsIn, is_before, put_in_order, key_of, Shrinks, in_map, in_unmap}
-use Rattle.art_operations.proofs.Terms.{IsAnswered, after, without_key, overlaps, without_overlapping, HasKey, IsBlocked, HasPairs, AreClones, HasClones, IsCarriedOut, IsDone, Answer, Done, Prefix, Insert, PrefixInsert, Delete}
+use Rattle.art_operations.proofs.Terms.{IsAnswered, after, without_key, overlaps, without_overlapping, HasKey, IsBlocked, HasPairs, AreClones, HasClones, IsExecuted, IsDone, Answer, Done, Prefix, Insert, PrefixInsert, Delete}
 use Rattle.art_operations.specs.declared.running.Answer.TheVariants.{Memory}
 use Rattle.art_operations.specs.declared.running.Change.{Change}
 use Rattle.art_operations.proofs.LeafPairs.{shrinks-map, shrinks-unmap}
@@ -108,14 +108,14 @@ module _ {K V : Type 0} (bytes : K → List ℕ) (KeyClone : K → K → Type 0)
   -- an insertion that is refused before it clones leaves the clones that there were
   pub insert-stays : (P : ℕ) (arena : Arena K V) (root : Option Name) (pairs : List (K × V)) (k : K) (v : V) (answer : Answer) → ((ps : List (K × V)) → after bytes (Insert k v) answer ps ≡ ps)
       → ((stored : List (K × V)) → HasPairs bytes P arena root stored → IsAnswered bytes stored (Insert k v) answer)
-      → HasClones bytes P arena KeyClone ValueClone root pairs → IsCarriedOut bytes P arena KeyClone ValueClone pairs (Insert k v) (record { root = root; answer = answer })
+      → HasClones bytes P arena KeyClone ValueClone root pairs → IsExecuted bytes P arena KeyClone ValueClone pairs (Insert k v) (record { root = root; answer = answer })
   insert-stays P arena root pairs k v answer stays answered (clones, are, has) =
       (answered-insert pairs clones are k k v v refl answer (answered clones has), rw (stays pairs) (clones, are, has))
 
   -- an insertion of clones is one of the pair
   pub insert-clones : (P : ℕ) (old new : Arena K V) (root : Option Name) (pairs : List (K × V)) (k c : K) (v d : V) (change : Change) → KeyClone k c → ValueClone v d
       → ((stored : List (K × V)) → HasPairs bytes P old root stored → IsDone bytes P new stored (Insert c d) change)
-      → HasClones bytes P old KeyClone ValueClone root pairs → IsCarriedOut bytes P new KeyClone ValueClone pairs (Insert k v) change
+      → HasClones bytes P old KeyClone ValueClone root pairs → IsExecuted bytes P new KeyClone ValueClone pairs (Insert k v) change
   insert-clones P old new root pairs k c v d change kc vd done (clones, are, has) =
       let result = done clones has in
       (answered-insert pairs clones are k c v d (same k c kc) change.answer result.0, (_, after-insert pairs clones are k c v d kc vd change.answer, result.1))
@@ -123,7 +123,7 @@ module _ {K V : Type 0} (bytes : K → List ℕ) (KeyClone : K → K → Type 0)
   -- a prefix insertion of clones is one of the pair
   pub over-clones : (P : ℕ) (old new : Arena K V) (root : Option Name) (pairs : List (K × V)) (k c : K) (v d : V) (change : Change) → KeyClone k c → ValueClone v d
       → ((stored : List (K × V)) → HasPairs bytes P old root stored → IsDone bytes P new stored (PrefixInsert c d) change)
-      → HasClones bytes P old KeyClone ValueClone root pairs → IsCarriedOut bytes P new KeyClone ValueClone pairs (PrefixInsert k v) change
+      → HasClones bytes P old KeyClone ValueClone root pairs → IsExecuted bytes P new KeyClone ValueClone pairs (PrefixInsert k v) change
   over-clones P old new root pairs k c v d change kc vd done (clones, are, has) =
       let result = done clones has in
       (answered-over pairs clones are k c v d (same k c kc) change.answer result.0, (_, after-over pairs clones are k c v d kc vd change.answer, result.1))
@@ -131,7 +131,7 @@ module _ {K V : Type 0} (bytes : K → List ℕ) (KeyClone : K → K → Type 0)
   -- a deletion from clones is one from the pairs
   pub delete-clones : (P : ℕ) (old new : Arena K V) (root : Option Name) (pairs : List (K × V)) (k : K) (change : Change)
       → ((stored : List (K × V)) → HasPairs bytes P old root stored → IsDone bytes P new stored (Delete k) change)
-      → HasClones bytes P old KeyClone ValueClone root pairs → IsCarriedOut bytes P new KeyClone ValueClone pairs (Delete k) change
+      → HasClones bytes P old KeyClone ValueClone root pairs → IsExecuted bytes P new KeyClone ValueClone pairs (Delete k) change
   delete-clones P old new root pairs k change done (clones, are, has) =
       let result = done clones has in
       (answered-delete pairs clones are k change.answer result.0, (_, after-delete pairs clones are k change.answer, result.1))

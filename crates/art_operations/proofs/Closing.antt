@@ -4,7 +4,7 @@ use Rattle.art_nodes.proofs.Common.{IsAscending, Name}
 use Rattle.art_arena.proofs.Common.{Arena, node_at, inner_held, Allocates, SameLeaves, Cell, Holds, AreBelow, LeafAt, children_at, leaves, cells, IsUnder, IsKindOf, length-children}
 use Rattle.std.proofs.Math.Seq.{drop-append_seam, take-append_seam}
 use Rattle.art_operations.proofs.Terms.{Open, Spine, Level, begin, begin_of, open_children, open_leaves, open_cells, inner_over, AreOpen, HasSpine}
-use Rattle.art_operations.proofs.Spines.{IsTop, top-level, begin-behind, begin-opened, begin-least, ascending-behind, made, made-under, made-holds, made-leaves}
+use Rattle.art_operations.proofs.Spines.{IsTop, top-level, begin-after, begin-opened, begin-least, ascending-after, made, made-under, made-holds, made-leaves}
 
 module _ {K V : Type 0} (bytes : K → List ℕ) (P : ℕ) (arena : Arena K V) (spine : Spine) (rest : List (Name × Cell K V)) (last low : ℕ) (root : Name) (key : List ℕ) (ls : List (LeafAt K V)) (has : HasSpine bytes P arena spine rest last low root key ls)
     (outer : List Open) (top : Open) (stack : spine.stack.items ≡ outer ++ top ∷ []) (deep : low < begin_of low spine.stack.items) where
@@ -16,28 +16,28 @@ module _ {K V : Type 0} (bytes : K → List ℕ) (P : ℕ) (arena : Arena K V) (
 
   pub low-within : low ≤ top-is.level.depth
   low-within =
-      let reached : low < max low top.behind = subst (λ n. low < n) (ap (begin_of low) stack ∙ begin-behind low outer top) deep in
-      let behind = top-is.behind_is in
-      omega (arith, reached, behind)
+      let reached : low < max low top.child_depth = subst (λ n. low < n) (ap (begin_of low) stack ∙ begin-after low outer top) deep in
+      let following = top-is.child_depth_is in
+      omega (arith, reached, following)
 
-  pub depth-is : top.behind - 1 ≡ top-is.level.depth
-  depth-is = let behind = top-is.behind_is in omega (arith, behind)
+  pub depth-is : top.child_depth - 1 ≡ top-is.level.depth
+  depth-is = let following = top-is.child_depth_is in omega (arith, following)
 
-  pub some-behind : 1 ≤ top.behind
-  some-behind = let behind = top-is.behind_is in omega (arith, behind)
+  pub some-after : 1 ≤ top.child_depth
+  some-after = let following = top-is.child_depth_is in omega (arith, following)
 
-  pub inside : top.behind - 1 < length key
+  pub inside : top.child_depth - 1 < length key
   inside = subst (λ n. n < length key) (sym depth-is) ways.0.inside
 
   pub from-is : begin_of low outer ≡ begin low top-is.above
   from-is = ap (begin_of low) top-is.outer_is ∙ begin-opened low top-is.above
 
-  pub from-before : begin_of low outer ≤ top.behind - 1
+  pub from-before : begin_of low outer ≤ top.child_depth - 1
   from-before =
       let least = begin-least low top-is.level.depth top-is.above low-within ways.1 in
-      subst (λ n. n ≤ top.behind - 1) (sym from-is) (subst (λ n. begin low top-is.above ≤ n) (sym depth-is) least)
+      subst (λ n. n ≤ top.child_depth - 1) (sym from-is) (subst (λ n. begin low top-is.above ≤ n) (sym depth-is) least)
 
-  module _ (byte : ℕ) (byte_is : byte ≡ slice_index key (top.behind - 1)) (fits : byte < 256) where
+  module _ (byte : ℕ) (byte_is : byte ≡ slice_index key (top.child_depth - 1)) (fits : byte < 256) where
     -- its children are the last ones
     abbrev pub own : List (ℕ × Name)
     own = children_at top-is.level.kids ++ (byte, root) ∷ []
@@ -68,16 +68,16 @@ module _ {K V : Type 0} (bytes : K → List ℕ) (P : ℕ) (arena : Arena K V) (
     at_depth = byte_is ∙ ap (slice_index key) depth-is
 
     pub own-ascending : IsAscending own
-    own-ascending = ascending-behind 0 byte root top-is.level.kids ways.0.ascending (subst (λ b. AreBelow b top-is.level.kids) (sym at_depth) ways.0.below) zero-le fits
+    own-ascending = ascending-after 0 byte root top-is.level.kids ways.0.ascending (subst (λ b. AreBelow b top-is.level.kids) (sym at_depth) ways.0.below) zero-le fits
 
     pub own-two : 2 ≤ length own
     own-two =
-        let some = ways.0.some in
+        let some = ways.0.has_kids in
         omega (arith, some, length-append (children_at top-is.level.kids) ((byte, root) ∷ []), length-children top-is.level.kids)
 
     -- the spine without it, whose part the new node is
     pub closed : (new : Arena K V) (now : Spine) (node : Name) → now.stack.items ≡ outer → now.children.items ≡ open_children top-is.above → IsKindOf node.kind (length own)
-        → Allocates arena new node (inner_held (inner_over P (take (top.behind - 1 - begin_of low outer) (drop (begin_of low outer) key)) own)) → SameLeaves arena new → HasSpine bytes P new now rest last low node key ls
+        → Allocates arena new node (inner_held (inner_over P (take (top.child_depth - 1 - begin_of low outer) (drop (begin_of low outer) key)) own)) → SameLeaves arena new → HasSpine bytes P new now rest last low node key ls
     closed new now node stack_now children_now kind allocates same =
         let level = top-is.level in
         let above = top-is.above in
@@ -86,7 +86,7 @@ module _ {K V : Type 0} (bytes : K → List ℕ) (P : ℕ) (arena : Arena K V) (
         let under : IsUnder bytes (take (begin low (level ∷ above)) key) part = subst (λ (ws : List (Level K V)). IsUnder bytes (take (begin low ws) key) part) top-is.is has.stands.under in
         let holds = subst (λ (ws : List (Level K V)). Holds (node_at arena) (open_cells P ws ++ (cells P part ++ rest))) top-is.is has.stands.holds in
         let leaves_are = ap (λ (ws : List (Level K V)). open_leaves ws ++ leaves part) (sym top-is.is) ∙ has.stands.leaves_are in
-        let prefix_is : take (top.behind - 1 - begin_of low outer) (drop (begin_of low outer) key) ≡ take (level.depth - begin low above) (drop (begin low above) key) = ap₂ (λ d f. take (d - f) (drop f key)) depth-is from-is in
+        let prefix_is : take (top.child_depth - 1 - begin_of low outer) (drop (begin_of low outer) key) ≡ take (level.depth - begin low above) (drop (begin low above) key) = ap₂ (λ d f. take (d - f) (drop f key)) depth-is from-is in
         let put = subst (λ cs. Allocates arena new node (inner_held (inner_over P (take (level.depth - begin low above) (drop (begin low above) key)) cs))) own_is
         (subst (λ q. Allocates arena new node (inner_held (inner_over P q own))) prefix_is allocates) in
         record {

@@ -3,7 +3,8 @@ use Rattle.std.proofs.Common.{◌≡◌, ℕ, suc, ◌+◌, ◌≤◌, ◌⊎◌
 use Rattle.std.specs.List.{AllByRecursion}
 use Rattle.std.proofs.lemmas.Bool.Decides.{leb_tells}
 use Rattle.art_bytes.proofs.Common.{BeginsWith, common_prefix, begins_append, common_begins, front_not_after, front_not_before}
-use Rattle.art_arena.proofs.Common.{IsIn, Frame, fill, plug, path_to, leaves_before, leaves_after, AreAround, width_of, IsLimit, IsCrossing, items, count, Shape, Branches, no_branch, branch, join, LeafAt, leaves, leaves_in, width, erase, erase_in, key_of, IsUnder, AreUnder, leaves-plug, width-join, items-erase, count-erase, canonical-erase, leaves_in-begin, some_leaf, ctx-after, ctx-before, Widths, WidthsIn, begins_trans, common_left, widths, all_at, in_left, in_right, all_append, all_weaker, in_cases, common_right}
+use Rattle.art_arena.proofs.Common.{IsIn, Frame, fill, plug, path_to, leaves_before, leaves_after, AreAround, width_of, IsLimit, IsCrossing, items, count, Shape, Branches, no_branch, branch, join, LeafAt, leaves, leaves_in, width, erase, erase_in, key_of, IsUnder, AreUnder, leaves-plug}
+use Rattle.art_arena.proofs.Common.{width-join, items-erase, count-erase, canonical-erase, leaves_in-begin, some_leaf, ctx-after, ctx-before, Widths, WidthsIn, begins_trans, common_left, widths, all_at, in_left, in_right, all_append, all_weaker, in_cases, common_right}
 use Rattle.art_arena.proofs.tree.FrontShrinks.{front_le}
 use Rattle.art_arena.proofs.tree.Limits.{limits_are_kinds}
 use Rattle.art_arena.proofs.tree.Shrinks.{same_front}

@@ -1,4 +1,4 @@
--- Whether a part is the one behind a prefix can be decided. So where it is known that there is a proof, one is had.
+-- Whether a part is the one with a prefix can be decided. So where it is known that there is a proof, one is had.
 use Rattle.std.proofs.Common.{◌≡◌, ℕ, List, [], ◌∷◌, take, Option, Some, None, refl, sym, ap, subst}
 use Rattle.std.proofs.Math.Decide.{ℕ_discrete, map_dec}
 use Rattle.std.specs.List.{AllByRecursion}

@@ -2,7 +2,9 @@
 use Rattle.std.proofs.Common.{◌≡◌, ℕ, cond, List, [], ◌∷◌, ◌++◌, Option, Some, None, refl, sym, ap, ap₂, subst, ◌∙◌, arith}
 use Rattle.art_nodes.proofs.Common.{Name}
 use Rattle.art_nodes.specs.declared.leaf.LeafNode.{LeafNode}
-use Rattle.art_arena.proofs.Common.{Arena, leaf_held, cell_of, links_of, held_at, node_at, links_at, KeepsNodes, SameCells, Cell, pair, leaf_name, copies, AreHeld, Holds, UpdatesAt, Frame, leaves_before, leaves_after, AreLinked, times, IsList, KeepsLinksOutside, IsTreeBeside, IsPlace, Shape, leaf_at, LeafAt, name_of, leaves, cells, Step, keeps-beside, Holds-remove, Holds-same, Holds-swap, Holds-turn, holds-only, same_name-self, leaves-plug, times-append, AreLinked-kept, AreLinked-same, all_left, all_right, HoldsPair, holds_pair, tree-list, times-leaves, nodes-update}
+use Rattle.art_arena.proofs.Common.{Arena, leaf_held, cell_of, links_of, held_at, node_at, links_at, KeepsNodes, SameCells, Cell, pair, leaf_name, copies, AreHeld, Holds, UpdatesAt, Frame, leaves_before, leaves_after, AreLinked, times, IsList, KeepsLinksOutside, IsTreeBeside, IsPlace}
+use Rattle.art_arena.proofs.Common.{Shape, leaf_at, LeafAt, name_of, leaves, cells, Step, keeps-beside, Holds-remove, Holds-same, Holds-swap, Holds-turn, holds-only, same_name-self, leaves-plug, times-append, AreLinked-kept, AreLinked-same, all_left, all_right, HoldsPair, holds_pair}
+use Rattle.art_arena.proofs.Common.{tree-list, times-leaves, nodes-update}
 use Rattle.art_operations.proofs.Terms.{HasLeavesBeside, IsDeletedBeside, IsLeafPlace, HoldsBeside, KeepsAllBut, IsPartPlace, IsDetached}
 
 module _ {K V : Type 0} (bytes : K → List ℕ) (P : ℕ) (mid : Arena K V) (rest : List (Name × Cell K V)) (ctx : List (Frame K V)) (part : Shape K V) where

@@ -2,7 +2,9 @@
 use Rattle.std.proofs.Common.{◌≡◌, ◌≢◌, ℕ, suc, ◌+◌, List, [], ◌∷◌, ◌++◌, Some, None, IsSome, inl, inr, refl, sym, ap, subst, ◌∙◌, append_assoc}
 use Rattle.art_nodes.proofs.Common.{Name, InnerNode, child_at, with_child, with_children}
 use Rattle.art_nodes.specs.declared.kind.NodeType.TheVariants.{Leaf}
-use Rattle.art_arena.proofs.Common.{Arena, inner_held, held_at, node_at, links_at, SameNodes, Cell, Holds, Frame, plug, path_to, leaves_before, leaves_after, root_of, cells_before, cells_after, AreAround, IsNodesBeside, ChangesKind, Shape, name_of, leaves, leaves_in, width, cells, IsUnder, Step, same_name_tells, Holds-same, Holds-swap, leaves-plug, cells-plug, name_of-plug, IsUnder-plug, frame_node, frame-there, frame-child, frame-inner, repoint, at_root, HasParent, parent-of, HasGrandparent, grandparent-of, no-grandparent, inner_of, nodes-update, nodes-same, links-kept, links-same}
+use Rattle.art_arena.proofs.Common.{Arena, inner_held, held_at, node_at, links_at, SameNodes, Cell, Holds, Frame, plug, path_to, leaves_before, leaves_after, root_of, cells_before, cells_after, AreAround, IsNodesBeside, ChangesKind, Shape, name_of, leaves, leaves_in, width, cells, IsUnder}
+use Rattle.art_arena.proofs.Common.{Step, same_name_tells, Holds-same, Holds-swap, leaves-plug, cells-plug, name_of-plug, IsUnder-plug, frame_node, frame-there, frame-child, frame-inner, repoint, at_root, HasParent, parent-of, HasGrandparent, grandparent-of, no-grandparent, inner_of}
+use Rattle.art_arena.proofs.Common.{nodes-update, nodes-same, links-kept, links-same}
 use Rattle.art_operations.proofs.Terms.{IsPartPlace, IsHeldAt, IsChildPart, StandsFor, IsApart, IsDetached, EditsNode, LosesKind}
 
 module _ {K V : Type 0} (bytes : K → List ℕ) (P : ℕ) where

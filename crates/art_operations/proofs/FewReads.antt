@@ -8,7 +8,8 @@ use Rattle.std.specs.declared.ops.Bound.TheVariants.{Included, Excluded, Unbound
 use Rattle.std.proofs.lemmas.Bool.{cond_both}
 use Rattle.art_bytes.proofs.Common.{BeginsWith, bytes_cmp}
 use Rattle.art_arena.proofs.Common.{all_left, all_right}
-use Rattle.art_arena.proofs.Terms.{Tree, Forest, leaf, inner, no_child, child, items, items_in, count, IsCanonical, AreCanonical, path_of, path_in, end_path, end_path_in, last_path_in, led_on, path_to_guide, way_of, way_in, way_end, last_or, is_cut, prefix_reads, guide_reads, ends, differs, passes, pass, is_before, begins_with}
+use Rattle.art_arena.proofs.Terms.{Tree, Forest, leaf, inner, no_child, child, items, items_in, count, IsCanonical, AreCanonical, path_of, path_in, end_path, end_path_in, last_path_in, led_on, path_to_guide, way_of, way_in, way_end, last_or, is_cut, prefix_reads, guide_reads, ends}
+use Rattle.art_arena.proofs.Terms.{differs, passes, pass, is_before, begins_with}
 use Rattle.art_arena.specs.declared.ends.End.{End}
 use Rattle.art_arena.specs.declared.ends.End.TheVariants.{First, Last}
 use Rattle.art_arena.specs.tree.Landing.{Passing}
@@ -41,7 +42,7 @@ mutual
 one_less : {X : Type 0} (n : ℕ) (cs : Forest X) → AreNoDeeper (suc n - 1) cs → AreNoDeeper n cs
 one_less n cs h = wider_in (suc n - 1) n cs (omega arith) h
 
--- a node stands behind fewer bytes than the keys below it have
+-- a node stands after fewer bytes than the keys below it have
 module _ {X : Type 0} (key : X → List ℕ) (longest : ℕ) where
   abbrev Short : X → Type 0
   Short x = length (key x) ≤ longest
@@ -67,7 +68,7 @@ module _ {X : Type 0} (key : X → List ℕ) (longest : ℕ) where
         let size = length-append q (c ∷ []) in
         (within (q ++ c ∷ []) n t is.0 (all_left Short (items t) (items_in cs) short) (omega (arith, few, size)), within_in q n cs is.2 (all_right Short (items t) (items_in cs) short) few)
 
-    -- some key goes on behind a node that has children
+    -- some key goes on after a node that has children
     above : (q : List ℕ) (cs : Forest X) → 2 ≤ count cs → AreCanonical key q cs → AllByRecursion Short (items_in cs) → length q < longest + 1
     above q no_child two is short = absurd (omega (arith, two))
     above q (child c t cs) two is short = let size = length-append q (c ∷ []) in let front = least (q ++ c ∷ []) t is.0 (all_left Short (items t) (items_in cs) short) in omega (arith, size, front)
@@ -107,7 +108,7 @@ module _ {X : Type 0} where
     guide_few_in n (child c t cs) [] h = omega arith
     guide_few_in n (child c t cs) (b ∷ k) h = cond_both (eqb b c) (path_of t k) (path_in cs (b ∷ k)) (λ l. length (led_on l) ≤ n) (λ _. guide_few n t k h.0) (λ _. guide_few_in n cs (b ∷ k) h.1)
 
-  -- behind a node a way ends, or is that of a child
+  -- after a node a way ends, or is that of a child
   abbrev Onward : ℕ → List (Tree X × List ℕ) → Type 0
   Onward n way = (way ≡ []) ⊎ ((u : Tree X) × (k : List ℕ) × IsNoDeeper n u × (way ≡ way_of u k))
 
@@ -115,10 +116,10 @@ module _ {X : Type 0} where
   onward_in n no_child b k h = inl refl
   onward_in n (child c t cs) b k h = cond_both (eqb b c) (way_of t k) (way_in cs b k) (Onward n) (λ _. inr (t, k, h.0, refl)) (λ _. onward_in n cs b k h.1)
 
-  abbrev behind : Forest X → Passing → List (Tree X × List ℕ)
-  behind cs w = elim w [ ends ↦ [] | differs ↦ [] | passes b rest ↦ way_in cs b rest ]
+  abbrev following : Forest X → Passing → List (Tree X × List ℕ)
+  following cs w = elim w [ ends ↦ [] | differs ↦ [] | passes b rest ↦ way_in cs b rest ]
 
-  onward : (n : ℕ) (cs : Forest X) (w : Passing) → AreNoDeeper n cs → Onward n (behind cs w)
+  onward : (n : ℕ) (cs : Forest X) (w : Passing) → AreNoDeeper n cs → Onward n (following cs w)
   onward n cs ends h = inl refl
   onward n cs differs h = inl refl
   onward n cs (passes b rest) h = onward_in n cs b rest h
@@ -139,7 +140,7 @@ module _ {X : Type 0} where
     guided : (n : ℕ) (t : Tree X) (k : List ℕ) → IsNoDeeper n t → length (way_of t k) + prefix_reads P (way_end t k).0 ≤ n + 1
     guided zero t k h = let one = some 0 t h in absurd (omega (arith, one))
     guided (suc n) (leaf x) k h = omega arith
-    guided (suc n) (inner prefix cs) k h = step (λ u l inside. guided n u l inside) (behind cs (pass prefix k)) (onward n cs (pass prefix k) (one_less n cs h.1))
+    guided (suc n) (inner prefix cs) k h = step (λ u l inside. guided n u l inside) (following cs (pass prefix k)) (onward n cs (pass prefix k) (one_less n cs h.1))
       where
         step : ((u : Tree X) (l : List ℕ) → IsNoDeeper n u → length (way_of u l) + prefix_reads P (way_end u l).0 ≤ n + 1) → (tail : List (Tree X × List ℕ)) → Onward n tail → suc (length tail) + prefix_reads P (last_or (inner prefix cs, k) tail).0 ≤ suc n + 1
         step later tail (inl e) =
@@ -155,10 +156,10 @@ module _ {X : Type 0} where
     place_few zero t k h = let one = some 0 t h in absurd (omega (arith, one))
     place_few (suc n) (leaf x) k h = omega arith
     place_few (suc n) (inner prefix cs) k h =
-        cond_both (is_cut P (inner prefix cs)) (length (path_to_guide (inner prefix cs) k) - 1) (guide_reads P (behind cs (pass prefix k)))
-        (λ g. (suc (length (behind cs (pass prefix k))) + g) + prefix_reads P (last_or (inner prefix cs, k) (behind cs (pass prefix k))).0 ≤ 2 * suc n)
+        cond_both (is_cut P (inner prefix cs)) (length (path_to_guide (inner prefix cs) k) - 1) (guide_reads P (following cs (pass prefix k)))
+        (λ g. (suc (length (following cs (pass prefix k))) + g) + prefix_reads P (last_or (inner prefix cs, k) (following cs (pass prefix k))).0 ≤ 2 * suc n)
         (λ _. let way = guided (suc n) (inner prefix cs) k h in let guide = guide_few (suc n) (inner prefix cs) k h in omega (arith, way, guide))
-        (λ e. step (λ u l inside. place_few n u l inside) (behind cs (pass prefix k)) (onward n cs (pass prefix k) (one_less n cs h.1)) (uncut (inner prefix cs) e))
+        (λ e. step (λ u l inside. place_few n u l inside) (following cs (pass prefix k)) (onward n cs (pass prefix k) (one_less n cs h.1)) (uncut (inner prefix cs) e))
       where
         step : ((u : Tree X) (l : List ℕ) → IsNoDeeper n u → place_reads P u l ≤ 2 * n) → (tail : List (Tree X × List ℕ)) → Onward n tail → prefix_reads P (inner prefix cs) ≡ 1 → (suc (length tail) + guide_reads P tail) + prefix_reads P (last_or (inner prefix cs, k) tail).0 ≤ 2 * suc n
         step later tail (inl e) one = subst (λ (w : List (Tree X × List ℕ)). (suc (length w) + guide_reads P w) + prefix_reads P (last_or (inner prefix cs, k) w).0 ≤ 2 * suc n) (sym e) (omega (arith, one))
@@ -171,7 +172,7 @@ module _ {X : Type 0} where
   pub end_within : (n : ℕ) (t : Tree X) (k : List ℕ) → IsNoDeeper n t → IsNoDeeper n (way_end t k).0
   end_within zero t k h = let one = some 0 t h in absurd (omega (arith, one))
   end_within (suc n) (leaf x) k h = h
-  end_within (suc n) (inner prefix cs) k h = step (λ u l inside. end_within n u l inside) (behind cs (pass prefix k)) (onward n cs (pass prefix k) (one_less n cs h.1))
+  end_within (suc n) (inner prefix cs) k h = step (λ u l inside. end_within n u l inside) (following cs (pass prefix k)) (onward n cs (pass prefix k) (one_less n cs h.1))
     where
       step : ((u : Tree X) (l : List ℕ) → IsNoDeeper n u → IsNoDeeper n (way_end u l).0) → (tail : List (Tree X × List ℕ)) → Onward n tail → IsNoDeeper (suc n) (last_or (inner prefix cs, k) tail).0
       step later tail (inl e) = subst (λ (w : List (Tree X × List ℕ)). IsNoDeeper (suc n) (last_or (inner prefix cs, k) w).0) (sym e) h

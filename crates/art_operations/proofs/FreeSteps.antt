@@ -47,13 +47,17 @@ module _ {K V : Type 0} (P : ℕ) (w : Bool) (arena : Arena K V) where
       → Holds (node_at arena) (cells_with P w part ++ (cells_before P ctx (name_of part) ++ (after_with P w ctx ++ rest)))
   part-there ctx part rest first holds =
       let parts : Holds (node_at arena) (cells_before P ctx (name_of part) ++ (cells_with P w part ++ (after_with P w ctx ++ rest))) =
-      subst (Holds (node_at arena)) (ap (λ xs. xs ++ rest) (with-plug P w ctx part first) ∙ append_assoc (cells_before P ctx (name_of part)) (cells_with P w part ++ after_with P w ctx) rest ∙ ap (λ xs. cells_before P ctx (name_of part) ++ xs) (append_assoc (cells_with P w part) (after_with P w ctx) rest)) holds in
+      subst (Holds (node_at arena)) (ap (λ xs. xs ++ rest) (with-plug P w ctx part first)
+      ∙ append_assoc (cells_before P ctx (name_of part)) (cells_with P w part ++ after_with P w ctx) rest
+      ∙ ap (λ xs. cells_before P ctx (name_of part) ++ xs) (append_assoc (cells_with P w part) (after_with P w ctx) rest)) holds in
       Holds-turn (node_at arena) [] (cells_before P ctx (name_of part)) (cells_with P w part) (after_with P w ctx ++ rest) parts
 
   pub whole-there : (ctx : List (Frame K V)) (part : Shape K V) (rest : List (Name × Cell K V)) → AreFirst ctx
       → Holds (node_at arena) (cells_with P w part ++ (cells_before P ctx (name_of part) ++ (after_with P w ctx ++ rest))) → Holds (node_at arena) (cells_with P w (plug ctx part) ++ rest)
   whole-there ctx part rest first holds =
-      subst (Holds (node_at arena)) (sym (ap (λ xs. xs ++ rest) (with-plug P w ctx part first) ∙ append_assoc (cells_before P ctx (name_of part)) (cells_with P w part ++ after_with P w ctx) rest ∙ ap (λ xs. cells_before P ctx (name_of part) ++ xs) (append_assoc (cells_with P w part) (after_with P w ctx) rest)))
+      subst (Holds (node_at arena)) (sym (ap (λ xs. xs ++ rest) (with-plug P w ctx part first)
+      ∙ append_assoc (cells_before P ctx (name_of part)) (cells_with P w part ++ after_with P w ctx) rest
+      ∙ ap (λ xs. cells_before P ctx (name_of part) ++ xs) (append_assoc (cells_with P w part) (after_with P w ctx) rest)))
       (Holds-turn (node_at arena) [] (cells_with P w part) (cells_before P ctx (name_of part)) (after_with P w ctx ++ rest) holds)
 
   -- from an inner node to its first child

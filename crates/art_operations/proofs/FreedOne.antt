@@ -62,7 +62,9 @@ module _ {K V : Type 0} (P : ℕ) (w : Bool) (old : Arena K V) (n : Name) (s : S
     }
 
   -- else a child is taken out, and stands apart
-  module _ (mid : Arena K V) (inner : HasInnerPart P w old n s) (child : ℕ × Name) (found : IsChildIn (children_at inner.kids) (Some child)) (up : IsAscending (children_at inner.kids)) (removes : (m : InnerNode) → held_at old n ≡ Some (inner_held m) → UpdatesAt (held_at old) (held_at mid) n (Some (inner_held (with_children m (without_child m.children child.0))))) where
+  module _ (mid : Arena K V) (inner : HasInnerPart P w old n s) (child : ℕ × Name) (found : IsChildIn (children_at inner.kids) (Some child))
+      (up : IsAscending (children_at inner.kids)) (removes : (m : InnerNode) → held_at old n ≡ Some (inner_held m)
+      → UpdatesAt (held_at old) (held_at mid) n (Some (inner_held (with_children m (without_child m.children child.0))))) where
     abbrev split : (before : Branches K V) × (t : Shape K V) × (after : Branches K V) × (inner.kids ≡ join before (branch child.0 t after)) × (name_of t ≡ child.1)
     split = branch-among inner.kids found.0 child found.1 found.2
 
@@ -127,13 +129,30 @@ module _ {K V : Type 0} (P : ℕ) (w : Bool) (old : Arena K V) (n : Name) (s : S
 
     same-copies : (k : Name) → copies k (cells_with P w lessened ++ cells_with P w taken) ≡ copies k (cells_with P w s)
     same-copies k =
-        omega (arith, ap (copies k) whole-cells, ap (copies k) beside_parts, copies-append k (cells_with P w lessened) (cells_with P w taken), copies-append k (cells_with_in P w split.0) (cells_with_in P w split.2), copies-append k (cells_with_in P w split.0) (cells_with P w taken ++ cells_with_in P w split.2), copies-append k (cells_with P w taken) (cells_with_in P w split.2))
+        omega (
+          arith,
+          ap (copies k) whole-cells,
+          ap (copies k) beside_parts,
+          copies-append k (cells_with P w lessened) (cells_with P w taken),
+          copies-append k (cells_with_in P w split.0) (cells_with_in P w split.2),
+          copies-append k (cells_with_in P w split.0) (cells_with P w taken ++ cells_with_in P w split.2),
+          copies-append k (cells_with P w taken) (cells_with_in P w split.2),
+        )
 
     same-size : length (cells P lessened ++ cells P taken) ≡ length (cells P s)
     same-size =
         let all : cells_in P inner.kids ≡ cells_in P split.0 ++ (cells P taken ++ cells_in P split.2) = ap (cells_in P) split.3 ∙ cells_in-join P split.0 (branch child.0 taken split.2) in
         let less = cells_in-join P split.0 split.2 in
-        omega (arith, ap (λ x. length (cells P x)) inner.is, ap length all, ap length less, length-append (cells_in P split.0) (cells P taken ++ cells_in P split.2), length-append (cells P taken) (cells_in P split.2), length-append (cells_in P split.0) (cells_in P split.2), length-append (cells P lessened) (cells P taken))
+        omega (
+          arith,
+          ap (λ x. length (cells P x)) inner.is,
+          ap length all,
+          ap length less,
+          length-append (cells_in P split.0) (cells P taken ++ cells_in P split.2),
+          length-append (cells P taken) (cells_in P split.2),
+          length-append (cells_in P split.0) (cells_in P split.2),
+          length-append (cells P lessened) (cells P taken),
+        )
 
     pub freed-child : (new : Arena K V) (root : Name) → HoldsOneLess P w new root (length (cells P lessened ++ cells P taken)) (cells_with P w lessened ++ cells_with P w taken) rest → HoldsOneLess P w new root (length (cells P s)) (cells_with P w s) rest
     freed-child new root less = record {

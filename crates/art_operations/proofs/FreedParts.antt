@@ -20,7 +20,15 @@ module _ {K V : Type 0} (P : ℕ) where
     parts-copies-in : (n : Name) (f : Branches K V) → copies n (cells_in P f) ≡ copies n (leaf_cells (leaves_in f)) + copies n (cells_with_in P false f)
     parts-copies-in n no_branch = omega arith
     parts-copies-in n (branch byte s rest) =
-        omega (arith, parts-copies n s, parts-copies-in n rest, copies-append n (cells P s) (cells_in P rest), copies-append n (inner_cells P s) (cells_with_in P false rest), copies-append n (leaf_cells (leaves s)) (leaf_cells (leaves_in rest)), ap (copies n) (cells-parts (leaves s) (leaves_in rest)))
+        omega (
+          arith,
+          parts-copies n s,
+          parts-copies-in n rest,
+          copies-append n (cells P s) (cells_in P rest),
+          copies-append n (inner_cells P s) (cells_with_in P false rest),
+          copies-append n (leaf_cells (leaves s)) (leaf_cells (leaves_in rest)),
+          ap (copies n) (cells-parts (leaves s) (leaves_in rest)),
+        )
 
   module _ (at : Name → Option (Cell K V)) where
     abbrev IsThere : Name × Cell K V → Type 0

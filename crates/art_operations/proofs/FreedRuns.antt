@@ -3,9 +3,10 @@ use Rattle.std.proofs.Common.{◌≡◌, ◌≢◌, ℕ, ◌+◌, ◌<◌, ◌�
 use Rattle.art_nodes.proofs.Common.{Name}
 use Rattle.art_nodes.specs.declared.kind.NodeType.TheVariants.{Leaf}
 use Rattle.art_nodes.specs.declared.leaf.LeafNode.{LeafNode}
-use Rattle.art_arena.proofs.Common.{Arena, leaf_held, held_at, node_at, links_at, cell_of, leaves_held, Cell, pair, leaf_name, copies, UpdatesAt, Holds, Links, AreLinked, first_slot, last_slot, times, LeafAt, same_name-self, copies-append, copies-vacant, Holds-remove, leaves_counted, AreLinked-frame, slots_as, nodes-update, links-update, cell_held}
+use Rattle.art_arena.proofs.Common.{Arena, leaf_held, held_at, node_at, links_at, cell_of, leaves_held, Cell, pair, leaf_name, copies, UpdatesAt, Holds, Links, AreLinked, first_slot, last_slot, times, LeafAt, same_name-self, copies-append, copies-vacant, Holds-remove, leaves_counted}
+use Rattle.art_arena.proofs.Common.{AreLinked-frame, slots_as, nodes-update, links-update, cell_held}
 use Rattle.art_operations.proofs.Terms.{leaf_cells, HoldsRun, KeepsAllBut}
-use Rattle.art_operations.proofs.Door.{links-are}
+use Rattle.art_operations.proofs.NodesRead.{links-are}
 use Rattle.art_operations.proofs.Freeing.{apart-from}
 
 module _ {K V : Type 0} where
@@ -49,7 +50,9 @@ module _ {K V : Type 0} where
   times-copies n [] = refl
   times-copies n (l ∷ ls) = ap (λ k. (if nat_eq n l.slot then 1 else 0) + k) (times-copies n ls)
 
-  module _ (now new : Arena K V) (first last : ℕ) (ls : List (LeafAt K V)) (rest : List (Name × Cell K V)) (run : HoldsRun now first last ls rest) (leaf : LeafNode K V) (value : held_at now (leaf_name first) ≡ Some (leaf_held leaf)) (updates : UpdatesAt (held_at now) (held_at new) (leaf_name first) None) where
+  module _ (now new : Arena K V) (first last : ℕ) (ls : List (LeafAt K V)) (rest : List (Name × Cell K V)) (run : HoldsRun now first last ls rest)
+      (leaf : LeafNode K V) (value : held_at now (leaf_name first) ≡ Some (leaf_held leaf))
+      (updates : UpdatesAt (held_at now) (held_at new) (leaf_name first) None) where
     abbrev of : IsRunOf now first last ls rest
     of = run-first now first last ls rest run
 

@@ -3,7 +3,8 @@ use Rattle.std.proofs.Common.{◌≡◌, ◌≢◌, ℕ, ◌+◌, ◌≤◌, Boo
 use Rattle.std.proofs.lemmas.Bool.Decides.{eqb_tells}
 use Rattle.std.proofs.lemmas.List.{append-nil}
 use Rattle.art_nodes.proofs.Common.{IsAscendingFrom, last_child, without_child, Name}
-use Rattle.art_arena.proofs.Common.{Arena, node_at, Cell, pair, leaf_name, copies, Holds, Frame, fill, plug, frame_cell, cells_before, Shape, Branches, leaf_at, inner_at, no_branch, branch, name_of, children_at, join, node_of, cells, cells_in, same_name_tells, Holds-remove, Holds-same, nodes-update, nodes-same}
+use Rattle.art_arena.proofs.Common.{Arena, node_at, Cell, pair, leaf_name, copies, Holds, Frame, fill, plug, frame_cell, cells_before, Shape, Branches, leaf_at, inner_at, no_branch, branch, name_of, children_at, join, node_of, cells, cells_in, same_name_tells, Holds-remove, Holds-same}
+use Rattle.art_arena.proofs.Common.{nodes-update, nodes-same}
 use Rattle.art_operations.proofs.Terms.{cells_with, cells_with_in, KeepsAllBut, IsChildIn, IsChildless, AreFirst, FreesRoot}
 
 -- one of the children that pass a test is one of all, and so is the last of all
@@ -62,7 +63,7 @@ module _ {K V : Type 0} (P : ℕ) (w : Bool) where
   with-join no_branch g = refl
   with-join (branch b s f) g = ap (λ xs. cells_with P w s ++ xs) (with-join f g) ∙ sym (append_assoc (cells_with P w s) (cells_with_in P w f) (cells_with_in P w g))
 
-  -- the cells behind a place
+  -- the cells after a place
   abbrev pub after_with : List (Frame K V) → List (Name × Cell K V)
   after_with [] = []
   after_with (f ∷ outer) = cells_with_in P w f.after ++ after_with outer

@@ -3,7 +3,8 @@ use Rattle.std.proofs.Common.{◌≡◌, ℕ, suc, ◌<◌, List, [], ◌∷◌,
 use Rattle.art_nodes.proofs.Common.{row_of, Name}
 use Rattle.art_nodes.specs.declared.kind.NodeType.{NodeType}
 use Rattle.art_nodes.specs.declared.kind.NodeType.TheVariants.{Node4, Node16, Node32, Node48, Node256, Leaf}
-use Rattle.art_arena.proofs.Common.{Arena, inner_held, cell_of, held_at, node_at, links_at, Allocates, Cell, pair, branches, leaf_name, UpdatesAt, Holds, Frame, root_of, leaves_before, leaves_after, cells_before, cells_after, IsKindOf, LeafAt, cells_in, Step, steps_to, all_right, Holds-add, Holds-remove, inner_of, nodes-update, links-kept}
+use Rattle.art_arena.proofs.Common.{Arena, inner_held, cell_of, held_at, node_at, links_at, Allocates, Cell, pair, branches, leaf_name, UpdatesAt, Holds, Frame, root_of, leaves_before, leaves_after, cells_before, cells_after, IsKindOf, LeafAt, cells_in, Step, steps_to, all_right}
+use Rattle.art_arena.proofs.Common.{Holds-add, Holds-remove, inner_of, nodes-update, links-kept}
 use Rattle.art_operations.proofs.Terms.{StandsAround, AwaitsLeaf}
 use Rattle.art_operations.proofs.NewLeaves.{beside-same}
 use Rattle.art_operations.proofs.Waiting.{open_node, inner-kind, node-inner}

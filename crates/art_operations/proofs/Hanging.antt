@@ -2,7 +2,8 @@
 use Rattle.std.proofs.Common.{◌≡◌, ◌≢◌, ℕ, ◌+◌, Bool, List, [], ◌∷◌, ◌++◌, length, Some, None, IsSome, refl, sym, ap, subst, ◌∙◌, arith, append_assoc, length-append}
 use Rattle.art_nodes.proofs.Common.{InnerNode, child_at, with_child, with_children, Name}
 use Rattle.art_nodes.specs.declared.kind.NodeType.TheVariants.{Leaf}
-use Rattle.art_arena.proofs.Common.{Arena, inner_held, held_at, node_at, Cell, branches, copies, UpdatesAt, Holds, Frame, plug, frame_cell, cells_before, cells_after, AreBelow, Shape, name_of, cells, cells_in, copies-append, cells-plug, name_of-plug, no_inner, frame_node, frame-there, frame-child, repoint, HasGrandparent, grandparent-of, no-grandparent, inner_of, nodes-update, Holds-turn}
+use Rattle.art_arena.proofs.Common.{Arena, inner_held, held_at, node_at, Cell, branches, copies, UpdatesAt, Holds, Frame, plug, frame_cell, cells_before, cells_after, AreBelow, Shape, name_of, cells, cells_in, copies-append, cells-plug, name_of-plug, no_inner, frame_node, frame-there}
+use Rattle.art_arena.proofs.Common.{frame-child, repoint, HasGrandparent, grandparent-of, no-grandparent, inner_of, nodes-update, Holds-turn}
 use Rattle.art_operations.proofs.Terms.{cells_with, KeepsAllBut, step_in, AreFirst, IsBottom, FreesRoot, HoldsPart, HoldsBoth, HoldsOneLess}
 use Rattle.art_operations.specs.declared.deallocate.Bottom.{Bottom}
 use Rattle.art_operations.proofs.Freeing.{after_with, with-plug, childless-cells, childless-one, freed_root, apart-from, kept_root}
@@ -72,7 +73,9 @@ module _ {K V : Type 0} (P : ℕ) where
         left = plug b.ctx s;
         part = record {
           named = named;
-          holds = subst (Holds (node_at new)) (sym (ap (λ xs. xs ++ rest) (with-plug P w b.ctx s b.first) ∙ append_assoc (cells_before P b.ctx (name_of s)) (cells_with P w s ++ after_with P w b.ctx) rest ∙ ap (λ xs. cells_before P b.ctx (name_of s) ++ xs) (append_assoc (cells_with P w s) (after_with P w b.ctx) rest))) holds;
+          holds = subst (Holds (node_at new)) (sym (ap (λ xs. xs ++ rest) (with-plug P w b.ctx s b.first)
+              ∙ append_assoc (cells_before P b.ctx (name_of s)) (cells_with P w s ++ after_with P w b.ctx) rest
+              ∙ ap (λ xs. cells_before P b.ctx (name_of s) ++ xs) (append_assoc (cells_with P w s) (after_with P w b.ctx) rest))) holds;
         };
         less = omega (arith, length-append (cells P s) (cells P t), t_size, plug-length b.ctx s, before-length b.ctx (name_of s) (name_of b.end));
         names = λ k. omega (arith, copies-append k (cells_with P w s) (cells_with P w t), t_copies k, plug-copies k b.ctx s b.first, before-copies k b.ctx (name_of s) (name_of b.end));

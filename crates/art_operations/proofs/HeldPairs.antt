@@ -3,7 +3,8 @@ use Rattle.std.proofs.Common.{◌≡◌, ◌≢◌, ℕ, List, [], ◌++◌, Opt
 use Rattle.std.proofs.lemmas.List.{append-nil}
 use Rattle.art_nodes.proofs.Common.{Name}
 use Rattle.art_nodes.specs.declared.leaf.LeafNode.{LeafNode}
-use Rattle.art_arena.proofs.Common.{Arena, leaf_held, cell_of, node_at, links_at, Allocates, KeepsNodes, SameNodes, Cell, leaf_name, Holds, HoldsOnly, IsIn, found_in, IsAtKey, IsTreeBeside, IsSubtree, Shape, leaf_at, LeafAt, leaves, pairs_of, key_of, cells, Shrinks, Step, tree_of, keeps-beside, Holds-add, Holds-same, only-holds, shape_means, nodes-part, nodes-subtree, outside-apart, AreLinked-same, all_left, in_map, in_unmap, in_middle, all_at, nodes-update, links-update, nodes-same, links-same}
+use Rattle.art_arena.proofs.Common.{Arena, leaf_held, cell_of, node_at, links_at, Allocates, KeepsNodes, SameNodes, Cell, leaf_name, Holds, HoldsOnly, IsIn, found_in, IsAtKey, IsTreeBeside, IsSubtree, Shape, leaf_at, LeafAt, leaves, pairs_of, key_of, cells, Shrinks, Step, tree_of}
+use Rattle.art_arena.proofs.Common.{keeps-beside, Holds-add, Holds-same, only-holds, shape_means, nodes-part, nodes-subtree, outside-apart, AreLinked-same, all_left, in_map, in_unmap, in_middle, all_at, nodes-update, links-update, nodes-same, links-same}
 use Rattle.art_operations.proofs.Terms.{IsLeafPlace, HasLeavesBeside, IsDeletedBeside, IsInsertedBeside, IsPoint, HasConflict, NoConflict, DeleteResult, InsertPoint, InsertResult, HasKey, IsBlocked, with_key, HasPairs, HasPairsBeside, CanPut, HasPut, HasTaken, HoldsTreeOf, NoChange}
 use Rattle.art_operations.specs.declared.insert.point.InsertKind.TheVariants as kind
 use Rattle.art_operations.proofs.NotStored.{not-stored, which}

@@ -93,7 +93,7 @@ module _ {K V : Type 0} where
         nodes = fewer-leaves arena (length spine.children.items + m) (length spine.children.items + n) (omega (arith, fewer)) room.nodes;
       }
 
-  -- the last open node is made of so many children, behind those of the others
+  -- the last open node is made of so many children, after those of the others
   pub closed-nodes : (old new : Arena K V) (was now : Spine) (first own more : ℕ) → ((n : ℕ) → HasInnerRoom old (own + n) → HasInnerRoom new (suc n)) → first + own ≡ length was.children.items + 1 → length now.children.items ≡ first
       → HasNodeRoom old was (suc more) → HasNodeRoom new now (suc more)
   closed-nodes old new was now first own more stores all kept room =
@@ -112,13 +112,13 @@ module _ {K V : Type 0} where
       }
 
   -- the part has become a child, and the next leaf is the part
-  pub added-nodes : (arena : Arena K V) (was now : Spine) (behind more : ℕ) (child : ℕ × Name) → AddsChild behind child was now → HasNodeRoom arena was (suc more) → HasNodeRoom arena now more
-  added-nodes arena was now behind more child adds room =
+  pub added-nodes : (arena : Arena K V) (was now : Spine) (following more : ℕ) (child : ℕ × Name) → AddsChild following child was now → HasNodeRoom arena was (suc more) → HasNodeRoom arena now more
+  added-nodes arena was now following more child adds room =
       let count = ap length adds.children ∙ length-append was.children.items (child ∷ []) in
       room-at arena (length was.children.items + suc more) (length now.children.items + more) (omega (arith, count)) room
 
-  pub added-room : (arena : Arena K V) (was now : Spine) (behind more : ℕ) (child : ℕ × Name) → AddsChild behind child was now → HasPlaces now more → HasSpineRoom arena was (suc more) → HasSpineRoom arena now more
-  added-room arena was now behind more child adds places room = record { places = places; nodes = added-nodes arena was now behind more child adds room.nodes }
+  pub added-room : (arena : Arena K V) (was now : Spine) (following more : ℕ) (child : ℕ × Name) → AddsChild following child was now → HasPlaces now more → HasSpineRoom arena was (suc more) → HasSpineRoom arena now more
+  added-room arena was now following more child adds places room = record { places = places; nodes = added-nodes arena was now following more child adds room.nodes }
 
   -- all nodes over so many leaves are made: their tree is one part
   pub made-all : (old now new : Arena K V) (fresh was made : Spine) (leaves : ℕ) → IsEmptySpine fresh → 1 ≤ leaves → ((m : ℕ) → HasNodeRoom old fresh (leaves + m) → HasNodeRoom now was (suc m)) → ((m : ℕ) → HasNodeRoom now was (suc m) → HasNodeRoom new made (suc m))

@@ -4,7 +4,9 @@ use Rattle.art_bytes.proofs.Common.{BeginsWith}
 use Rattle.art_nodes.proofs.Common.{inner_name_of, Name}
 use Rattle.art_nodes.specs.declared.leaf.LeafNode.{LeafNode}
 use Rattle.art_nodes.specs.declared.concrete.ConcreteInnerNodePtr.{ConcreteInnerNodePtr}
-use Rattle.art_arena.proofs.Common.{Arena, leaf_held, held_at, node_at, links_at, links_of, KeepsNodes, Cell, pair, leaf_name, AreHeld, Holds, UpdatesAt, Frame, plug, path_to, root_of, leaves_before, leaves_after, cells_before, cells_after, AreAround, Links, AreLinked, times, KeepsLinksOutside, IsNodesBeside, IsTreeBeside, IsPlace, Shape, leaf_at, LeafAt, name_of, leaves, cells, Step, steps_to, keeps-beside, Holds-write, leaves-plug, name_of-plug, AreLinked-left, AreLinked-right, AreLinked-join, outside-apart, times-append, AreLinked-same, nodes-part, IsNodesBeside-plug, unplugged, nodes-update, links-update, steps_of, held-below, all_left, holds_pair, HoldsPair}
+use Rattle.art_arena.proofs.Common.{Arena, leaf_held, held_at, node_at, links_at, links_of, KeepsNodes, Cell, pair, leaf_name, AreHeld, Holds, UpdatesAt, Frame, plug, path_to, root_of, leaves_before, leaves_after, cells_before, cells_after, AreAround, Links, AreLinked, times}
+use Rattle.art_arena.proofs.Common.{KeepsLinksOutside, IsNodesBeside, IsTreeBeside, IsPlace, Shape, leaf_at, LeafAt, name_of, leaves, cells, Step, steps_to, keeps-beside, Holds-write, leaves-plug, name_of-plug, AreLinked-left, AreLinked-right, AreLinked-join, outside-apart, times-append}
+use Rattle.art_arena.proofs.Common.{AreLinked-same, nodes-part, IsNodesBeside-plug, unplugged, nodes-update, links-update, steps_of, held-below, all_left, holds_pair, HoldsPair}
 use Rattle.std.proofs.lemmas.Bool.Decides.{eqb_tells}
 use Rattle.art_operations.proofs.Terms.{IsInsertedBeside, IsPoint, MeetsAt, InsertPoint, NewParent, NoChange}
 use Rattle.art_operations.specs.declared.insert.point.InsertKind.TheVariants as kind

@@ -3,7 +3,8 @@ use Rattle.std.proofs.Common.{◌≡◌, ℕ, suc, ◌+◌, List, [], ◌∷◌,
 use Rattle.art_bytes.proofs.Common.{BeginsWith}
 use Rattle.art_nodes.proofs.Common.{child_at, Name, inner_name_of}
 use Rattle.art_nodes.specs.declared.concrete.ConcreteInnerNodePtr.{ConcreteInnerNodePtr}
-use Rattle.art_arena.proofs.Common.{Arena, cell_of, node_at, links_at, Allocates, Cell, pair, branches, leaf_name, Holds, Frame, plug, path_to, leaves_before, leaves_after, cells_before, cells_after, IsKindOf, IsBeside, IsTreeBeside, Shape, Branches, inner_at, leaf_at, LeafAt, name_of, children_at, join, width, leaves, leaves_in, cells, cells_in, IsUnder, steps_to, steps_of, Holds-add, Holds-swap, leaves_in-join, cells_in-join, width-join, leaves-plug, cells-plug, name_of-plug, opening, new-beside, nodes-update, links-update}
+use Rattle.art_arena.proofs.Common.{Arena, cell_of, node_at, links_at, Allocates, Cell, pair, branches, leaf_name, Holds, Frame, plug, path_to, leaves_before, leaves_after, cells_before, cells_after, IsKindOf, IsBeside, IsTreeBeside, Shape, Branches, inner_at, leaf_at, LeafAt, name_of}
+use Rattle.art_arena.proofs.Common.{children_at, join, width, leaves, leaves_in, cells, cells_in, IsUnder, steps_to, steps_of, Holds-add, Holds-swap, leaves_in-join, cells_in-join, width-join, leaves-plug, cells-plug, name_of-plug, opening, new-beside, nodes-update, links-update}
 use Rattle.art_operations.proofs.Terms.{lone_leaf, IsInsertedBeside, IsPoint, MeetsAt, InsertPoint, NewParent, AwaitsLeaf}
 use Rattle.art_operations.specs.declared.insert.point.InsertKind.TheVariants.{IntoExisting}
 use Rattle.art_arena.proofs.shapes.LastSteps.{last_two}

@@ -76,14 +76,14 @@ module _ {X : Type 0} (key : X → List ℕ) where
     without_none xs h = all-pass (λ x. not (bytes_eq (key x) k)) xs (all_weaker _ _ (λ x e. ap not e) xs h)
 
     with_one : (front : List X) (x : X) (back : List X) → key x ≡ k → AreOthers front → AreOthers back → with_key key k (front ++ x ∷ back) ≡ x ∷ []
-    with_one front x back same before behind =
+    with_one front x back same before following =
         filter-append (λ y. bytes_eq (key y) k) front (x ∷ back)
-        ∙ ap₂ (λ xs ys. xs ++ ys) (with_none front before) (rw (same_key (key x) k same) (ap (λ ys. x ∷ ys) (with_none back behind)))
+        ∙ ap₂ (λ xs ys. xs ++ ys) (with_none front before) (rw (same_key (key x) k same) (ap (λ ys. x ∷ ys) (with_none back following)))
 
     without_one : (front : List X) (x : X) (back : List X) → key x ≡ k → AreOthers front → AreOthers back → without_key key k (front ++ x ∷ back) ≡ front ++ back
-    without_one front x back same before behind =
+    without_one front x back same before following =
         filter-append (λ y. not (bytes_eq (key y) k)) front (x ∷ back)
-        ∙ ap₂ (λ xs ys. xs ++ ys) (without_none front before) (rw (same_key (key x) k same) (without_none back behind))
+        ∙ ap₂ (λ xs ys. xs ++ ys) (without_none front before) (rw (same_key (key x) k same) (without_none back following))
 
     not_blocked : (xs : List X) → AreFree xs → IsBlocked key k xs → ⊥
     not_blocked xs free (x, i, c) = all_at (λ y. Conflict k (key y) → ⊥) x xs free i c
@@ -93,43 +93,43 @@ module _ {X : Type 0} (key : X → List ℕ) where
     before [] back h = tt
     before (z ∷ front) back h = (all_at (λ y. IsBefore (key z) (key y)) x (front ++ x ∷ back) h.0 (in_middle key front x back), before front back h.1)
 
-    pub behind : (front back : List X) → AscendsByKey key (front ++ x ∷ back) → AllByRecursion (λ y. IsBefore (key x) (key y)) back
-    behind [] back h = h.0
-    behind (z ∷ front) back h = behind front back h.1
+    pub following : (front back : List X) → AscendsByKey key (front ++ x ∷ back) → AllByRecursion (λ y. IsBefore (key x) (key y)) back
+    following [] back h = h.0
+    following (z ∷ front) back h = following front back h.1
 
     others_before : (front back : List X) → AscendsByKey key (front ++ x ∷ back) → AreOthers (key x) front
     others_before front back h = all_weaker _ _ (λ y b. other_key (key y) (key x) (λ e. before_not_self (key x) (subst (λ k. IsBefore k (key x)) e b))) front (before front back h)
 
-    others_behind : (front back : List X) → AscendsByKey key (front ++ x ∷ back) → AreOthers (key x) back
-    others_behind front back h = all_weaker _ _ (λ y b. other_key (key y) (key x) (λ e. before_not_self (key x) (subst (λ k. IsBefore (key x) k) e b))) back (behind front back h)
+    others_after : (front back : List X) → AscendsByKey key (front ++ x ∷ back) → AreOthers (key x) back
+    others_after front back h = all_weaker _ _ (λ y b. other_key (key y) (key x) (λ e. before_not_self (key x) (subst (λ k. IsBefore (key x) k) e b))) back (following front back h)
 
     free_before : (front back : List X) → AscendsByKey key (front ++ x ∷ back) → AreFree (key x) front
     free_before front back h = all_weaker _ _ (λ y b c. conflict_not_before (key y) (key x) (conflict_turned (key x) (key y) c) b) front (before front back h)
 
-    free_behind : (front back : List X) → AscendsByKey key (front ++ x ∷ back) → AreFree (key x) back
-    free_behind front back h = all_weaker _ _ (λ y b c. conflict_not_before (key x) (key y) c b) back (behind front back h)
+    free_after : (front back : List X) → AscendsByKey key (front ++ x ∷ back) → AreFree (key x) back
+    free_after front back h = all_weaker _ _ (λ y b c. conflict_not_before (key x) (key y) c b) back (following front back h)
 
     -- an item that was put in is put at the place of its key
     pub put_new : (front back : List X) → AscendsByKey key (front ++ x ∷ back) → IsPut x (front ++ back) (front ++ x ∷ back) []
     put_new front back h =
-        let others = all_append _ front back (others_before front back h) (others_behind front back h) in
+        let others = all_append _ front back (others_before front back h) (others_after front back h) in
         record {
           new_is = sym (put_is key x front back h) ∙ ap (put_in_order key x) (sym (without_none (key x) (front ++ back) others));
           were = sym (with_none (key x) (front ++ back) others);
-          free = not_blocked (key x) (front ++ back) (all_append _ front back (free_before front back h) (free_behind front back h));
+          free = not_blocked (key x) (front ++ back) (all_append _ front back (free_before front back h) (free_after front back h));
         }
 
     -- and so is one that took the place of an item with its key
     pub put_replaced : (front : List X) (was : X) (back : List X) → key was ≡ key x → AscendsByKey key (front ++ x ∷ back) → IsPut x (front ++ was ∷ back) (front ++ x ∷ back) (was ∷ [])
     put_replaced front was back same h = record {
-      new_is = sym (put_is key x front back h) ∙ ap (put_in_order key x) (sym (without_one (key x) front was back same (others_before front back h) (others_behind front back h)));
-      were = sym (with_one (key x) front was back same (others_before front back h) (others_behind front back h));
-      free = not_blocked (key x) (front ++ was ∷ back) (all_append _ front (was ∷ back) (free_before front back h) ((λ c. c.0 (sym same)), free_behind front back h));
+      new_is = sym (put_is key x front back h) ∙ ap (put_in_order key x) (sym (without_one (key x) front was back same (others_before front back h) (others_after front back h)));
+      were = sym (with_one (key x) front was back same (others_before front back h) (others_after front back h));
+      free = not_blocked (key x) (front ++ was ∷ back) (all_append _ front (was ∷ back) (free_before front back h) ((λ c. c.0 (sym same)), free_after front back h));
     }
 
     -- an item that was taken out had its key alone
     pub taken : (front back : List X) → AscendsByKey key (front ++ x ∷ back) → IsTaken (key x) x (front ++ x ∷ back) (front ++ back)
     taken front back h = record {
-      new_is = sym (without_one (key x) front x back refl (others_before front back h) (others_behind front back h));
-      had = with_one (key x) front x back refl (others_before front back h) (others_behind front back h);
+      new_is = sym (without_one (key x) front x back refl (others_before front back h) (others_after front back h));
+      had = with_one (key x) front x back refl (others_before front back h) (others_after front back h);
     }

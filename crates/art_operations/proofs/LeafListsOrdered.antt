@@ -1,4 +1,4 @@
--- Leaves that stand linked in key order: a cursor before them or behind them, and the list in which a cursor stands.
+-- Leaves that stand linked in key order: a cursor before them or after them, and the list in which a cursor stands.
 use Rattle.std.proofs.Common.{◌≡◌, ℕ, List, [], ◌++◌, Option, None, refl, sym, ap, subst, ◌∙◌, append-nil}
 use Rattle.art_arena.proofs.Common.{Arena, KeepsRoomOf, first_slot, last_slot, LeafAt, key_of, pairs_of, AscendsByKey}
 use Rattle.art_operations.proofs.Terms.{KeepsInnerRoom, StandsAhead, StandsInList, StandsBetween, HasInnerRoom, HoldsInOrder, LeafCursor}
@@ -27,10 +27,10 @@ module _ {K V : Type 0} (bytes : K → List ℕ) where
     is.pairs_are,
   )
 
-  -- a cursor behind all leaves
-  pub behind-all : (arena : Arena K V) (first last : Option ℕ) (ls : List (LeafAt K V)) → HoldsInOrder bytes arena first ls → last_slot None ls ≡ last
+  -- a cursor after all leaves
+  pub after-all : (arena : Arena K V) (first last : Option ℕ) (ls : List (LeafAt K V)) → HoldsInOrder bytes arena first ls → last_slot None ls ≡ last
       → (among : StandsInList arena (record { first = first; before = last; after = None }) bytes (pairs_of ls)) × (among.back ≡ [])
-  behind-all arena first last ls is e = (
+  after-all arena first last ls is e = (
     record {
       front = ls;
       back = [];

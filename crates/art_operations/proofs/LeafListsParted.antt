@@ -3,10 +3,12 @@ use Rattle.std.proofs.Common.{◌≡◌, ◌≢◌, ℕ, ◌+◌, ◌≤◌, Lis
 use Rattle.std.proofs.lemmas.Bool.Decides.{eqb_tells}
 use Rattle.art_nodes.proofs.Common.{Name}
 use Rattle.art_nodes.specs.declared.leaf.LeafNode.{LeafNode}
-use Rattle.art_arena.proofs.Common.{Arena, Held, leaf_held, held_at, node_at, links_at, cell_of, links_of, Allocates, SameCells, WritesLinks, Cell, pair, leaf_name, UpdatesAt, Holds, Links, AreHalves, IsList, first_slot, last_slot, times, LeafAt, Holds-add, Holds-remove, Holds-same, Holds-write, copies-vacant, AreLinked-join, AreLinked-left, AreLinked-right, AreLinked-same, around_leaf, empty-first, eqb-self, end_there, ends_with-first, first-apart, first_slot-append, halves-apart, halves-end, halves-no_end, halves-start, joined, last-apart, last_slot-append, link_there, linked_in, parted, some_of, start_there, times-append, cell_held, nodes-update, links-update, all_right}
+use Rattle.art_arena.proofs.Common.{Arena, Held, leaf_held, held_at, node_at, links_at, cell_of, links_of, Allocates, SameCells, WritesLinks, Cell, pair, leaf_name, UpdatesAt, Holds, Links, AreHalves, IsList, first_slot, last_slot, times, LeafAt, Holds-add, Holds-remove, Holds-same}
+use Rattle.art_arena.proofs.Common.{Holds-write, copies-vacant, AreLinked-join, AreLinked-left, AreLinked-right, AreLinked-same, around_leaf, empty-first, eqb-self, end_there, ends_with-first, first-apart, first_slot-append, halves-apart, halves-end, halves-no_end, halves-start, joined}
+use Rattle.art_arena.proofs.Common.{last-apart, last_slot-append, link_there, linked_in, parted, some_of, start_there, times-append, cell_held, nodes-update, links-update, all_right}
 use Rattle.art_operations.proofs.Terms.{leaf_cells, HasInserted, HasRemoved, StandsBetween, LeafCursor, HasReplaced, StandsParted}
 use Rattle.art_operations.specs.LeafLists.{HoldsLeaves}
-use Rattle.art_operations.proofs.Door.{links-are}
+use Rattle.art_operations.proofs.NodesRead.{links-are}
 use Rattle.art_operations.proofs.FreedParts.{cells-parts}
 use Rattle.art_operations.proofs.FreedRuns.{times-copies}
 pub use Rattle.art_operations.proofs.FreedSizes.{at_most_one}
@@ -198,9 +200,9 @@ module _ {K V : Type 0} where
   abbrev pub beyond : LeafCursor → ℕ → LeafNode K V → LeafCursor
   beyond cursor slot leaf = record { first = cursor.first; before = Some slot; after = leaf.next }
 
-  -- it steps over the leaf behind it
+  -- it steps over the leaf after it
   module _ (arena : Arena K V) (cursor : LeafCursor) (slot : ℕ) (at : cursor.after ≡ Some slot) (leaf : LeafNode K V) (held : held_at arena (leaf_name slot) ≡ Some (leaf_held leaf)) (front : List (LeafAt K V)) where
-    -- which is the first of those behind it
+    -- which is the first of those after it
     pub record IsFirstOf (back : List (LeafAt K V)) : Type 0 where
       pub rest : List (LeafAt K V)
       pub is : back ≡ record { slot = slot; key = leaf.key; value = leaf.value } ∷ rest
@@ -280,7 +282,7 @@ module _ {K V : Type 0} where
           };
         }
 
-  -- the leaf behind the cursor is held
+  -- the leaf after the cursor is held
   pub after-held : (arena : Arena K V) (cursor : LeafCursor) (front back : List (LeafAt K V)) → StandsBetween arena cursor front back → (slot : ℕ) → cursor.after ≡ Some slot → IsSome (held_at arena (leaf_name slot))
   after-held arena cursor front [] stands slot at = absurd (let e = stands.after ∙ at in cc)
   after-held arena cursor front (l ∷ rest) stands slot at =

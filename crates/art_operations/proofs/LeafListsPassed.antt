@@ -7,7 +7,7 @@ use Rattle.art_bytes.proofs.Common.{bytes_cmp}
 use Rattle.art_nodes.proofs.Common.{Name}
 use Rattle.art_nodes.specs.declared.leaf.LeafNode.{LeafNode}
 use Rattle.art_arena.proofs.Common.{Arena, leaf_held, held_at, node_at, links_at, slots_of, Cell, pair, leaf_name, Links, AreLinked, first_slot, last_slot, LeafAt, AreLinked-right, held_few, all_append}
-use Rattle.art_operations.proofs.Terms.{leaf_cells, StandsBetween, LeafCursor, HasPassed, StopsBehindLess, Compare}
+use Rattle.art_operations.proofs.Terms.{leaf_cells, StandsBetween, LeafCursor, HasPassed, StopsAfterLess, Compare}
 use Rattle.art_operations.proofs.LeafListsParted.{at_most_one, beyond, first-of}
 
 -- the next leaf that these links name
@@ -47,7 +47,7 @@ module _ {K V : Type 0} where
   along-is links (suc steps) before (l ∷ ls) linked few =
       ap (λ o. suc (along steps links (next_in o))) linked.0 ∙ ap suc (along-is links steps (Some l.slot) ls linked.1 (omega (arith, few)))
 
-  -- so many leaves are behind a cursor
+  -- so many leaves are after a cursor
   abbrev pub leaves_left : Arena K V → LeafCursor → ℕ
   leaves_left arena cursor = along (slots_of arena) (links_at arena) cursor.after
 
@@ -59,7 +59,7 @@ module _ {K V : Type 0} where
       ap (along (slots_of arena) (links_at arena)) (sym stands.after)
       ∙ along-is (links_at arena) (slots_of arena) (last_slot None front) back (AreLinked-right (links_at arena) None front back None stands.leaves.linked) (omega (arith, few, long, length-append front back))
 
-  -- fewer are behind it then
+  -- fewer are after it then
   pub left-less : (arena : Arena K V) (cursor : LeafCursor) (slot : ℕ) (at : cursor.after ≡ Some slot) (leaf : LeafNode K V) (held : held_at arena (leaf_name slot) ≡ Some (leaf_held leaf)) (front back : List (LeafAt K V)) → StandsBetween arena cursor front back
       → leaves_left arena (beyond cursor slot leaf) < leaves_left arena cursor
   left-less arena cursor slot at leaf held front back stands =
@@ -99,7 +99,7 @@ module _ {K V : Type 0} where
         }
 
     pub passed-to : (now : LeafCursor) (is : HasStepped now) (slot : ℕ) (at : now.after ≡ Some slot) (leaf : LeafNode K V) (held : held_at arena (leaf_name slot) ≡ Some (leaf_held leaf)) (found : Option ℕ)
-        → ((rest : List (LeafAt K V)) → StopsBehindLess bytes key found (record { slot = slot; key = leaf.key; value = leaf.value } ∷ rest)) → HasPassed bytes key arena now found front back
+        → ((rest : List (LeafAt K V)) → StopsAfterLess bytes key found (record { slot = slot; key = leaf.key; value = leaf.value } ∷ rest)) → HasPassed bytes key arena now found front back
     passed-to now is slot at leaf held found stops =
         let of = first-of arena now slot at leaf held (front ++ is.passed) is.rest is.stands in
-        record { passed = is.passed; rest = is.rest; parts = is.parts; stands = is.stands; less = is.less; stops = subst (StopsBehindLess bytes key found) (sym of.is) (stops of.rest) }
+        record { passed = is.passed; rest = is.rest; parts = is.parts; stands = is.stands; less = is.less; stops = subst (StopsAfterLess bytes key found) (sym of.is) (stops of.rest) }

@@ -5,8 +5,8 @@ use Rattle.std.specs.declared.cmp.Ordering.TheVariants.{Less, Greater}
 use Rattle.std.proofs.lemmas.List.{map-append}
 use Rattle.art_bytes.proofs.Common.{Conflict, IsBefore, before_not_self, before_trans, cmp_before, conflict_turned}
 use Rattle.art_arena.proofs.Common.{Arena, SameNodes, node_at, links_at, Cell, pair, leaf_name, UpdatesAt, first_slot, LeafAt, pairs_of, key_of, AscendsByKey, IsIn, same_name_tells, Holds-same, AreLinked-same, links-same, nodes-same, all_append, all_at, all_left, all_right, all_weaker}
-use Rattle.art_operations.proofs.Terms.{GoesBehind, HasKey, IsBlocked, with_key, HasInserted, HasPutIn, KeepsCells, StandsAtPlace, StandsBelow, StandsInList, StandsBetween, HasLeavesOf, with_pair_put, LeafCursor, HasPassed, HasReplaced, StopsBehindLess, Compare}
-use Rattle.art_operations.proofs.KeyedLists.{before as items-before, behind as items-behind, put_new, put_replaced}
+use Rattle.art_operations.proofs.Terms.{IsAfterAll, HasKey, IsBlocked, with_key, HasInserted, HasPutIn, KeepsCells, StandsAtPlace, StandsBelow, StandsInList, StandsBetween, HasLeavesOf, with_pair_put, LeafCursor, HasPassed, HasReplaced, StopsAfterLess, Compare}
+use Rattle.art_operations.proofs.KeyedLists.{before as items-before, following as items-after, put_new, put_replaced}
 use Rattle.art_operations.proofs.LeafPairs.{pairs-parts}
 use Rattle.art_operations.proofs.Nearest.{turned}
 
@@ -29,8 +29,8 @@ module _ {X : Type 0} (key : X → List ℕ) where
   in_place x was [] ys same up = (subst (λ k. AllByRecursion (λ y. IsBefore k (key y)) ys) same up.0, up.1)
   in_place x was (w ∷ xs) ys same up =
       let P = λ (z : X). IsBefore (key w) (key z) in
-      let behind = all_right P xs (was ∷ ys) up.0 in
-      (all_append P xs (x ∷ ys) (all_left P xs (was ∷ ys) up.0) (subst (IsBefore (key w)) same behind.0, behind.1), in_place x was xs ys same up.1)
+      let following = all_right P xs (was ∷ ys) up.0 in
+      (all_append P xs (x ∷ ys) (all_left P xs (was ∷ ys) up.0) (subst (IsBefore (key w)) same following.0, following.1), in_place x was xs ys same up.1)
 
   -- none of these is in conflict with the key
   abbrev pub AreFree : List ℕ → List X → Type 0
@@ -42,29 +42,31 @@ module _ {X : Type 0} (key : X → List ℕ) where
 
 module _ {K V : Type 0} (bytes : K → List ℕ) where
   -- lesser keys that are not in conflict with a key come before it
-  less-before : (key : List ℕ) (ls : List (LeafAt K V)) → Compare bytes key Less ls → AreFree (key_of bytes) key (pairs_of ls) → GoesBehind bytes key (pairs_of ls)
+  less-before : (key : List ℕ) (ls : List (LeafAt K V)) → Compare bytes key Less ls → AreFree (key_of bytes) key (pairs_of ls) → IsAfterAll bytes key (pairs_of ls)
   less-before key [] less free = tt
   less-before key (l ∷ ls) less free = (cmp_before (bytes l.key) key less.0 free.0, less-before key ls less.1 free.1)
 
-  -- and a greater one behind it
-  greater-behind : (key : List ℕ) (rest : List (LeafAt K V)) → StopsBehindLess bytes key None rest → AreFree (key_of bytes) key (pairs_of rest) → ComesBefore (key_of bytes) key (pairs_of rest)
-  greater-behind key [] stops free = tt
-  greater-behind key (l ∷ rest) stops free = cmp_before key (bytes l.key) (turned (bytes l.key) key Greater stops) (λ c. free.0 (conflict_turned key (bytes l.key) c))
+  -- and a greater one after it
+  greater-after : (key : List ℕ) (rest : List (LeafAt K V)) → StopsAfterLess bytes key None rest → AreFree (key_of bytes) key (pairs_of rest) → ComesBefore (key_of bytes) key (pairs_of rest)
+  greater-after key [] stops free = tt
+  greater-after key (l ∷ rest) stops free = cmp_before key (bytes l.key) (turned (bytes l.key) key Greater stops) (λ c. free.0 (conflict_turned key (bytes l.key) c))
 
   -- a leaf that was found has the key
-  pub found-key : (key : List ℕ) (slot : ℕ) (rest : List (LeafAt K V)) (old : K × V) (more : List (LeafAt K V)) → rest ≡ record { slot = slot; key = old.0; value = old.1 } ∷ more → StopsBehindLess bytes key (Some slot) rest → bytes old.0 ≡ key
-  found-key key slot rest old more e stops = (subst (StopsBehindLess bytes key (Some slot)) e stops).1
+  pub found-key : (key : List ℕ) (slot : ℕ) (rest : List (LeafAt K V)) (old : K × V) (more : List (LeafAt K V)) → rest ≡ record { slot = slot; key = old.0; value = old.1 } ∷ more → StopsAfterLess bytes key (Some slot) rest → bytes old.0 ≡ key
+  found-key key slot rest old more e stops = (subst (StopsAfterLess bytes key (Some slot)) e stops).1
 
-  -- and it is the one behind the cursor
+  -- and it is the one after the cursor
   pub found-after : (arena : Arena K V) (now : LeafCursor) (key : List ℕ) (slot : ℕ) (front back : List (LeafAt K V)) (pass : HasPassed bytes key arena now (Some slot) front back) → now.after ≡ Some slot
   found-after arena now key slot front back pass = first pass.rest pass.stands.after pass.stops
     where
-      first : (rest : List (LeafAt K V)) → first_slot rest None ≡ now.after → StopsBehindLess bytes key (Some slot) rest → now.after ≡ Some slot
+      first : (rest : List (LeafAt K V)) → first_slot rest None ≡ now.after → StopsAfterLess bytes key (Some slot) rest → now.after ≡ Some slot
       first [] e stops = absurd stops
       first (l ∷ rest) e stops = sym e ∙ ap Some stops.0
 
   -- a cursor has passed what comes before a key that may be put in
-  module _ (old : Arena K V) (was now : LeafCursor) (key : List ℕ) (pairs : List (K × V)) (below : StandsInList old was bytes pairs) (lower : GoesBehind bytes key (pairs_of below.front)) (free : IsBlocked (key_of bytes) key pairs → ⊥) (found : Option ℕ) (pass : HasPassed bytes key old now found below.front below.back) where
+  module _ (old : Arena K V) (was now : LeafCursor) (key : List ℕ) (pairs : List (K × V)) (below : StandsInList old was bytes pairs)
+      (lower : IsAfterAll bytes key (pairs_of below.front)) (free : IsBlocked (key_of bytes) key pairs → ⊥) (found : Option ℕ)
+      (pass : HasPassed bytes key old now found below.front below.back) where
     abbrev pub before : List (LeafAt K V)
     before = below.front ++ pass.passed
 
@@ -84,10 +86,10 @@ module _ {K V : Type 0} (bytes : K → List ℕ) where
         let front = all_left P (pairs_of before) (pairs_of pass.rest) are-free in
         all_right P (pairs_of below.front) (pairs_of pass.passed) (subst (AreFree (key_of bytes) key) before-parts front)
 
-    pub all-before : GoesBehind bytes key (pairs_of before)
+    pub all-before : IsAfterAll bytes key (pairs_of before)
     all-before =
         let P = λ (p : K × V). IsBefore (bytes p.0) key in
-        subst (GoesBehind bytes key) (sym before-parts) (all_append P (pairs_of below.front) (pairs_of pass.passed) lower (less-before key pass.passed pass.less passed-free))
+        subst (IsAfterAll bytes key) (sym before-parts) (all_append P (pairs_of below.front) (pairs_of pass.passed) lower (less-before key pass.passed pass.less passed-free))
 
     ascends : AscendsByKey (key_of bytes) (pairs_of before ++ pairs_of pass.rest)
     ascends = subst (AscendsByKey (key_of bytes)) (sym parts-are) below.ascends
@@ -113,20 +115,20 @@ module _ {K V : Type 0} (bytes : K → List ℕ) where
       passed = all-before;
     }
 
-    -- greater keys stand behind the cursor, where it found none
-    all-behind : found ≡ None → ComesBefore (key_of bytes) key (pairs_of pass.rest)
-    all-behind none = greater-behind key pass.rest (subst (λ f. StopsBehindLess bytes key f pass.rest) none pass.stops) (all_right (λ (p : K × V). Conflict (bytes p.0) key → ⊥) (pairs_of before) (pairs_of pass.rest) are-free)
+    -- greater keys stand after the cursor, where it found none
+    all-after : found ≡ None → ComesBefore (key_of bytes) key (pairs_of pass.rest)
+    all-after none = greater-after key pass.rest (subst (λ f. StopsAfterLess bytes key f pass.rest) none pass.stops) (all_right (λ (p : K × V). Conflict (bytes p.0) key → ⊥) (pairs_of before) (pairs_of pass.rest) are-free)
 
     -- so a pair of this key goes in there
     goes-in : found ≡ None → (p : K × V) → bytes p.0 ≡ key → AscendsByKey (key_of bytes) (pairs_of before ++ p ∷ pairs_of pass.rest)
     goes-in none p same =
-        between (key_of bytes) p (pairs_of before) (pairs_of pass.rest) ascends (subst (λ b. GoesBehind bytes b (pairs_of before)) (sym same) all-before) (subst (λ b. ComesBefore (key_of bytes) b (pairs_of pass.rest)) (sym same) (all-behind none))
+        between (key_of bytes) p (pairs_of before) (pairs_of pass.rest) ascends (subst (λ b. IsAfterAll bytes b (pairs_of before)) (sym same) all-before) (subst (λ b. ComesBefore (key_of bytes) b (pairs_of pass.rest)) (sym same) (all-after none))
 
     pub still-at : found ≡ None → (k : K) (v : V) → bytes k ≡ key → (new : Arena K V) → SameNodes old new → StandsAtPlace new now bytes pairs key
     unfolding still-below
     still-at none k v is new same = record {
       below = still-below new same;
-      above = subst (λ b. AllByRecursion (λ (q : K × V). IsBefore b (bytes q.0)) (pairs_of pass.rest)) is (items-behind (key_of bytes) (k, v) (pairs_of before) (pairs_of pass.rest) (goes-in none (k, v) is));
+      above = subst (λ b. AllByRecursion (λ (q : K × V). IsBefore b (bytes q.0)) (pairs_of pass.rest)) is (items-after (key_of bytes) (k, v) (pairs_of before) (pairs_of pass.rest) (goes-in none (k, v) is));
     }
 
     -- and no pair has the key
@@ -135,15 +137,15 @@ module _ {K V : Type 0} (bytes : K → List ℕ) where
         let up = goes-in none p same in
         let Other = λ (q : K × V). bytes q.0 ≡ bytes p.0 → ⊥ in
         let first = all_weaker (λ (q : K × V). IsBefore (bytes q.0) (bytes p.0)) Other (λ q less e. before_not_self (bytes p.0) (subst (λ k. IsBefore k (bytes p.0)) e less)) (pairs_of before) (items-before (key_of bytes) p (pairs_of before) (pairs_of pass.rest) up) in
-        let last = all_weaker (λ (q : K × V). IsBefore (bytes p.0) (bytes q.0)) Other (λ q less e. before_not_self (bytes p.0) (subst (λ k. IsBefore (bytes p.0) k) e less)) (pairs_of pass.rest) (items-behind (key_of bytes) p (pairs_of before) (pairs_of pass.rest) up) in
+        let last = all_weaker (λ (q : K × V). IsBefore (bytes p.0) (bytes q.0)) Other (λ q less e. before_not_self (bytes p.0) (subst (λ k. IsBefore (bytes p.0) k) e less)) (pairs_of pass.rest) (items-after (key_of bytes) p (pairs_of before) (pairs_of pass.rest) up) in
         all_at Other p (pairs_of before ++ pairs_of pass.rest) (all_append Other (pairs_of before) (pairs_of pass.rest) first last) (subst (IsIn p) (sym parts-are) among) refl
 
     -- where none has the key, a new leaf stands there now
     module _ (new : Arena K V) (then : LeafCursor) (k : K) (v : V) (is : bytes k ≡ key) where
-      -- the cursor stands behind a leaf of the pair
-      behind : (slot : ℕ) (rest : List (LeafAt K V)) (old_pair : Option (K × V)) → StandsBetween new then (before ++ record { slot = slot; key = k; value = v } ∷ []) rest → pairs_of before ++ (k, v) ∷ pairs_of rest ≡ with_pair_put bytes k v pairs
+      -- the cursor stands after a leaf of the pair
+      following : (slot : ℕ) (rest : List (LeafAt K V)) (old_pair : Option (K × V)) → StandsBetween new then (before ++ record { slot = slot; key = k; value = v } ∷ []) rest → pairs_of before ++ (k, v) ∷ pairs_of rest ≡ with_pair_put bytes k v pairs
           → AscendsByKey (key_of bytes) (pairs_of before ++ (k, v) ∷ pairs_of rest) → cons_option old_pair [] ≡ with_key (key_of bytes) (bytes k) pairs → HasPutIn new then bytes k v old_pair pairs
-      behind slot rest old_pair stands put_is up old_is =
+      following slot rest old_pair stands put_is up old_is =
           let m : LeafAt K V = record { slot = slot; key = k; value = v } in
           record {
             old_is = old_is;
@@ -157,7 +159,7 @@ module _ {K V : Type 0} (bytes : K → List ℕ) where
             passed = λ next less.
                 let P = λ (p : K × V). IsBefore (bytes p.0) next in
                 let befores = all_weaker (λ (p : K × V). IsBefore (bytes p.0) key) P (λ p first. before_trans (bytes p.0) key next first (subst (λ b. IsBefore b next) is less)) (pairs_of before) all-before in
-                subst (GoesBehind bytes next) (sym (pairs-parts bytes before m [])) (all_append P (pairs_of before) ((k, v) ∷ []) befores (less, tt));
+                subst (IsAfterAll bytes next) (sym (pairs-parts bytes before m [])) (all_append P (pairs_of before) ((k, v) ∷ []) befores (less, tt));
           }
 
       pub put-inserted : found ≡ None → HasInserted new then k v before pass.rest → HasPutIn new then bytes k v None pairs
@@ -165,15 +167,15 @@ module _ {K V : Type 0} (bytes : K → List ℕ) where
           let up = goes-in none (k, v) is in
           let put = put_new (key_of bytes) (k, v) (pairs_of before) (pairs_of pass.rest) up in
           let put_is = put.new_is ∙ ap (λ ps. with_pair_put bytes k v ps) parts-are in
-          behind slot pass.rest None stands put_is up (put.were ∙ ap (with_key (key_of bytes) (bytes k)) parts-are)
+          following slot pass.rest None stands put_is up (put.were ∙ ap (with_key (key_of bytes) (bytes k)) parts-are)
 
       pub put-replaced : (slot : ℕ) → found ≡ Some slot → (old_pair : K × V) → HasReplaced new then slot k v old_pair before pass.rest → HasPutIn new then bytes k v (Some old_pair) pairs
       put-replaced slot there old_pair has =
-          let same : bytes old_pair.0 ≡ bytes k = found-key key slot pass.rest old_pair has.rest has.had (subst (λ f. StopsBehindLess bytes key f pass.rest) there pass.stops) ∙ sym is in
+          let same : bytes old_pair.0 ≡ bytes k = found-key key slot pass.rest old_pair has.rest has.had (subst (λ f. StopsAfterLess bytes key f pass.rest) there pass.stops) ∙ sym is in
           let all : pairs_of before ++ old_pair ∷ pairs_of has.rest ≡ pairs = ap (λ ls. pairs_of before ++ pairs_of ls) (sym has.had) ∙ parts-are in
           let up = in_place (key_of bytes) (k, v) old_pair (pairs_of before) (pairs_of has.rest) same (subst (AscendsByKey (key_of bytes)) (sym all) below.ascends) in
           let put = put_replaced (key_of bytes) (k, v) (pairs_of before) old_pair (pairs_of has.rest) same up in
-          behind slot has.rest (Some old_pair) has.stands (put.new_is ∙ ap (λ ps. with_pair_put bytes k v ps) all) up (put.were ∙ ap (with_key (key_of bytes) (bytes k)) all)
+          following slot has.rest (Some old_pair) has.stands (put.new_is ∙ ap (λ ps. with_pair_put bytes k v ps) all) up (put.were ∙ ap (with_key (key_of bytes) (bytes k)) all)
 
   -- which leaves stand
   pub kept-names : (old new : Arena K V) → KeepsCells old new → HasLeavesOf bytes new old

@@ -2,8 +2,10 @@
 use Rattle.std.proofs.Common.{◌≡◌, ◌≢◌, ℕ, ◌≤◌, ◌⊎◌, Bool, true, false, not, filter, cond, List, [], ◌∷◌, ◌++◌, Option, Some, None, is_some, refl, sym, ap, ap₂, subst, ◌∙◌, inl, inr, arith}
 use Rattle.art_nodes.proofs.Common.{Name}
 use Rattle.art_nodes.specs.declared.leaf.LeafNode.{LeafNode}
-use Rattle.art_arena.proofs.Common.{Arena, Held, held_at, node_at, cell_of, Allocates, KeepsNodes, SameNodes, Cell, pair, leaf_name, copies, Holds, Shape, Branches, leaf_at, inner_at, no_branch, branch, LeafAt, leaves, leaves_in, pairs_of, key_of, cells, cells_in, Step, StoresBeside, IsIn, is_before, put_in_order, only-holds, same_name_tells, nodes-part, all_at, in_left, in_right, in_cases}
-use Rattle.art_operations.proofs.Terms.{HasLeavesBeside, IsDeletedBeside, IsInsertedBeside, IsPutOrReplaced, overlaps, without_overlapping, HasKeyAt, HasLeavesOf, KeepsLeavesOf, IsOverwrittenBeside, with_pair_over, leaves_without, IsCutBeside, DeleteResult, SubtreeDeleteResult, InsertResult, PrefixInsertResult}
+use Rattle.art_arena.proofs.Common.{Arena, Held, held_at, node_at, cell_of, Allocates, KeepsNodes, SameNodes, Cell, pair, leaf_name, copies, Holds, Shape, Branches, leaf_at, inner_at, no_branch, branch, LeafAt, leaves, leaves_in, pairs_of, key_of, cells, cells_in, Step, StoresBeside, IsIn}
+use Rattle.art_arena.proofs.Common.{is_before, put_in_order, only-holds, same_name_tells, nodes-part, all_at, in_left, in_right, in_cases}
+use Rattle.art_operations.proofs.Terms.{HasLeavesBeside, IsDeletedBeside, IsInsertedBeside, IsPutOrReplaced, overlaps, without_overlapping, HasKeyAt, HasLeavesOf, KeepsLeavesOf, IsOverwrittenBeside, with_pair_over, leaves_without, IsCutBeside, DeleteResult, SubtreeDeleteResult}
+use Rattle.art_operations.proofs.Terms.{InsertResult, PrefixInsertResult}
 use Rattle.art_operations.proofs.KeyedLists.{passes}
 use Rattle.art_operations.proofs.LeafPairs.{held_leaf}
 
@@ -138,11 +140,16 @@ module _ {K V : Type 0} (bytes : K → List ℕ) where
       | inl j ↦ (k, v, sym (beside-kept old new rest keeps (leaf_name slot) (pair k v) j) ∙ e, same)
       | inr j ↦
           let back : List (LeafAt K V) = record { slot = gone; key = result.deleted_leaf.key; value = result.deleted_leaf.value } ∷ is.back in
-          let stood : IsIn (record { slot = slot; key = k; value = v }) (is.front ++ back) = elim (in_cases (record { slot = slot; key = k; value = v }) is.front is.back j) [ inl i ↦ in_left (record { slot = slot; key = k; value = v }) is.front back i | inr i ↦ in_right (record { slot = slot; key = k; value = v }) is.front back (inr i) ] in
+          let stood : IsIn (record { slot = slot; key = k; value = v }) (is.front ++ back) = elim
+          (in_cases (record { slot = slot; key = k; value = v }) is.front is.back j) [
+            | inl i ↦ in_left (record { slot = slot; key = k; value = v }) is.front back i
+            | inr i ↦ in_right (record { slot = slot; key = k; value = v })
+                is.front back (inr i)
+          ] in
           (k, v, leaf-of old root rest s tree slot k v (subst (IsIn (record { slot = slot; key = k; value = v })) (sym is.was) stood), same)
     ]
 
-    -- where those behind a prefix were cut off, each leaf that is left had its key
+    -- where those with a prefix were cut off, each leaf that is left had its key
     pub cut-names : (old new : Arena K V) (root : Name) (rest : List (Name × Cell K V)) (s : Shape K V) → StoresBeside bytes P old root rest s → KeepsNodes rest old new
         → (front : List ℕ) (result : SubtreeDeleteResult) → IsCutBeside bytes front P new rest s result → HasLeavesOf bytes old new
     cut-names old new root rest s tree keeps front result is slot bs (k, v, e, same) = elim (among-left new rest result.new_root (leaves_without bytes front (leaves s)) is.left slot k v e) [

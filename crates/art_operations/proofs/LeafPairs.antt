@@ -5,7 +5,8 @@ use Rattle.std.proofs.lemmas.List.{map-append}
 use Rattle.art_bytes.proofs.Common.{BeginsWith, Conflict, common_prefix}
 use Rattle.art_nodes.proofs.Common.{Name}
 use Rattle.art_nodes.specs.declared.leaf.LeafNode.{LeafNode}
-use Rattle.art_arena.proofs.Common.{AscendsByKey, IsIn, IsPutIn, Cell, pair, leaf_name, AreHeld, leaves_before, leaves_after, byte_after, bytes_after, distinct, width_of, found_in, IsAtKey, IsLimit, Step, Shape, Branches, leaf_at, inner_at, no_branch, branch, LeafAt, leaves, leaves_in, pairs_of, erase, cells, cells_in, IsUnder, key_of, Shrinks, all_left, all_right, items-erase, canonical-erase, pairs-with_key, pair_at, in_middle, all_at, in_right, leaves-plug, in_cases, in_map, in_unmap}
+use Rattle.art_arena.proofs.Common.{AscendsByKey, IsIn, IsPutIn, Cell, pair, leaf_name, AreHeld, leaves_before, leaves_after, byte_after, bytes_after, distinct, width_of, found_in, IsAtKey, IsLimit, Step, Shape, Branches, leaf_at, inner_at, no_branch, branch, LeafAt, leaves, leaves_in}
+use Rattle.art_arena.proofs.Common.{pairs_of, erase, cells, cells_in, IsUnder, key_of, Shrinks, all_left, all_right, items-erase, canonical-erase, pairs-with_key, pair_at, in_middle, all_at, in_right, leaves-plug, in_cases, in_map, in_unmap}
 use Rattle.art_arena.specs.arena.Found as found
 use Rattle.art_arena.proofs.tree.Canonical.{ascending}
 use Rattle.art_operations.proofs.Terms.{IsReplaced, IsPutOrReplaced, with_key, IsBlocked, pair_in, NoConflict, ShrinksWithout}

@@ -23,7 +23,7 @@ pub mod Splits
 pub mod SplitTrees
 pub mod Results
 pub mod PutBack
-pub mod Door
+pub mod NodesRead
 pub mod JoinedPrefixes
 pub mod OtherChild
 pub mod Lengthened

@@ -4,7 +4,7 @@ use Rattle.std.proofs.lemmas.Bool.Decides.{eqb_tells}
 use Rattle.art_nodes.proofs.Common.{agreeing}
 use Rattle.art_bytes.proofs.Common.{IsProperFront}
 
--- the lists differ behind a front of so many bytes
+-- the lists differ after a front of so many bytes
 pub record Parts (xs ys : List ℕ) (n : ℕ) : Type 0 where
   pub front : List ℕ
   pub x_rest : List ℕ

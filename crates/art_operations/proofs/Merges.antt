@@ -1,8 +1,9 @@
--- A node of two children without one: the other child stands for it, behind a longer prefix.
+-- A node of two children without one: the other child stands for it, after a longer prefix.
 use Rattle.std.proofs.Common.{◌≡◌, ◌≢◌, ℕ, ◌+◌, ◌≤◌, cond, Option, List, [], ◌∷◌, ◌++◌, length, take, Some, None, inl, inr, refl, sym, ap, ap₂, subst, ◌∙◌, arith, append_assoc, length-append}
 use Rattle.std.proofs.lemmas.List.{append-nil}
 use Rattle.art_nodes.proofs.Common.{Name, InnerNode}
-use Rattle.art_arena.proofs.Common.{Arena, held_at, node_at, Cell, branches, leaf_name, copies, Holds, UpdatesAt, Frame, path_to, frame_cell, cells_before, cells_after, AreBelow, IsPart, IsSubtree, Shape, Branches, leaf_at, inner_at, no_branch, branch, name_of, children_at, join, width, leaves, leaves_in, cells, cells_in, node_of, IsUnder, AreUnder, all_right, same_name-self, copies-append, Holds-write, Holds-remove, Holds-same, leaves_in-join, frame_node, inner_of, nodes-update, nodes-same}
+use Rattle.art_arena.proofs.Common.{Arena, held_at, node_at, Cell, branches, leaf_name, copies, Holds, UpdatesAt, Frame, path_to, frame_cell, cells_before, cells_after, AreBelow, IsPart, IsSubtree, Shape, Branches, leaf_at, inner_at, no_branch, branch, name_of, children_at, join, width}
+use Rattle.art_arena.proofs.Common.{leaves, leaves_in, cells, cells_in, node_of, IsUnder, AreUnder, all_right, same_name-self, copies-append, Holds-write, Holds-remove, Holds-same, leaves_in-join, frame_node, inner_of, nodes-update, nodes-same}
 use Rattle.art_operations.proofs.Terms.{IsHeldAt, StandsFor, Lengthens, lengthened, IsOther}
 use Rattle.art_operations.proofs.Apart.{set_apart, AreUnder-closed}
 use Rattle.art_operations.proofs.JoinedPrefixes.{joined}
@@ -12,18 +13,18 @@ use Rattle.art_operations.proofs.FreedSizes.{at_most_one}
 use Rattle.art_operations.proofs.Waiting.{part-within}
 
 module _ {K V : Type 0} where
-  -- the shape behind a longer prefix
-  abbrev pub behind_more : List ℕ → ℕ → Shape K V → Shape K V
-  behind_more prefix b (leaf_at slot k v) = leaf_at slot k v
-  behind_more prefix b (inner_at n q kids) = inner_at n (prefix ++ b ∷ q) kids
+  -- the shape after a longer prefix
+  abbrev pub after_more : List ℕ → ℕ → Shape K V → Shape K V
+  after_more prefix b (leaf_at slot k v) = leaf_at slot k v
+  after_more prefix b (inner_at n q kids) = inner_at n (prefix ++ b ∷ q) kids
 
   -- it has the name that it had
-  pub same_name_of : (prefix : List ℕ) (b : ℕ) (s : Shape K V) → name_of (behind_more prefix b s) ≡ name_of s
+  pub same_name_of : (prefix : List ℕ) (b : ℕ) (s : Shape K V) → name_of (after_more prefix b s) ≡ name_of s
   same_name_of prefix b (leaf_at slot k v) = refl
   same_name_of prefix b (inner_at n q kids) = refl
 
   -- and the leaves
-  pub same_leaves : (prefix : List ℕ) (b : ℕ) (s : Shape K V) → leaves (behind_more prefix b s) ≡ leaves s
+  pub same_leaves : (prefix : List ℕ) (b : ℕ) (s : Shape K V) → leaves (after_more prefix b s) ≡ leaves s
   same_leaves prefix b (leaf_at slot k v) = refl
   same_leaves prefix b (inner_at n q kids) = refl
 
@@ -42,9 +43,9 @@ module _ {K V : Type 0} where
     abbrev above_node : InnerNode
     above_node = record { header = record { num_children = length above; prefix_len = length prefix; stored = take P prefix }; children = above }
 
-    -- the cells are then those of the other child behind the longer prefix
+    -- the cells are then those of the other child after the longer prefix
     pub merge_cells : (s : Shape K V) → (path : List ℕ) → (bytes : K → List ℕ) → IsUnder bytes path s → Lengthens P old mid above_node b (name_of s) → (was : Cell K V) (xs ys : List (Name × Cell K V))
-        → Holds (node_at old) (xs ++ ((place, was) ∷ (cells P s ++ ys))) → Holds (node_at new) (xs ++ (cells P (behind_more prefix b s) ++ ys))
+        → Holds (node_at old) (xs ++ ((place, was) ∷ (cells P s ++ ys))) → Holds (node_at new) (xs ++ (cells P (after_more prefix b s) ++ ys))
     merge_cells (leaf_at slot k v) path bytes under lengthens was xs ys holds =
         Holds-remove (node_at mid) (node_at new) place was xs _ (nodes-update mid new place None gone) (Holds-same (node_at old) (node_at mid) (nodes-same old mid (lengthens.0 refl)) _ holds)
     merge_cells (inner_at n q kids) path bytes under lengthens was xs ys holds =
@@ -53,7 +54,13 @@ module _ {K V : Type 0} where
         let longer = nodes-update old mid n _ (lengthens.1 (kind_not_leaf n (width kids) under.0) _ (inner_of (held_at old n) _ there)) in
         let write = Holds-write (node_at old) (node_at mid) n (node_of P q (children_at kids)) _ (xs ++ (place, was) ∷ []) (cells_in P kids ++ ys) longer
         (subst (Holds (node_at old)) (sym (append_assoc xs ((place, was) ∷ []) ((n, node_of P q (children_at kids)) ∷ (cells_in P kids ++ ys)))) holds) in
-        let named : ◌≡◌ {A = List (Name × Cell K V)} ((xs ++ (place, was) ∷ []) ++ (n, branches (lengthened P above_node b (record { header = record { num_children = length (children_at kids); prefix_len = length q; stored = take P q }; children = children_at kids }))) ∷ (cells_in P kids ++ ys)) (xs ++ ((place, was) ∷ (cells P (inner_at n (prefix ++ b ∷ q) kids) ++ ys))) =
+        let named : ◌≡◌ {A = List (Name × Cell K V)} ((xs ++ (place, was) ∷ [])
+        ++ (
+          n,
+          branches (lengthened P above_node b
+              (record { header = record { num_children = length (children_at kids); prefix_len = length q; stored = take P q }; children = children_at kids })),
+        )
+        ∷ (cells_in P kids ++ ys)) (xs ++ ((place, was) ∷ (cells P (inner_at n (prefix ++ b ∷ q) kids) ++ ys))) =
         append_assoc xs ((place, was) ∷ []) _ ∙ ap (λ c. xs ++ ((place, was) ∷ ((n, c) ∷ (cells_in P kids ++ ys)))) (lengthened_cell P prefix b q (children_at kids) above) in
         Holds-remove (node_at mid) (node_at new) place was xs _ (nodes-update mid new place None gone) (subst (Holds (node_at mid)) named write)
 
@@ -82,8 +89,8 @@ module _ {K V : Type 0} where
     pub other : IsOther (children_at before ++ (byte, n) ∷ children_at after) byte (edge, name_of here)
 
 module _ {K V : Type 0} (bytes : K → List ℕ) where
-  -- behind the path and the prefix, instead of behind the path to the other child
-  pub under_more : (path prefix : List ℕ) (b : ℕ) (s : Shape K V) → IsUnder bytes ((path ++ prefix) ++ b ∷ []) s → IsUnder bytes path (behind_more prefix b s)
+  -- after the path and the prefix, instead of after the path to the other child
+  pub under_more : (path prefix : List ℕ) (b : ℕ) (s : Shape K V) → IsUnder bytes ((path ++ prefix) ++ b ∷ []) s → IsUnder bytes path (after_more prefix b s)
   under_more path prefix b (leaf_at slot k v) under = begins_append path prefix (bytes k) (begins_append (path ++ prefix) (b ∷ []) (bytes k) under)
   under_more path prefix b (inner_at n q kids) under =
       let same : ((path ++ prefix) ++ b ∷ []) ++ q ≡ path ++ (prefix ++ b ∷ q) = simp append_assoc in
@@ -102,7 +109,7 @@ module _ {K V : Type 0} (bytes : K → List ℕ) where
   one_left path (branch c t (branch d u rest)) byte n after below under one = absurd (omega (arith, one))
 
   module _ (P : ℕ) {rest : List (Name × Cell K V)} (old : Arena K V) (f : Frame K V) (outer : List (Frame K V)) (part : Shape K V) (at : IsHeldAt bytes P old rest (f ∷ outer) part) (one : OneLeft f.before f.byte (name_of part) f.after) where
-    -- the other child stands behind this path
+    -- the other child stands after this path
     abbrev pub other_path : List ℕ
     other_path = (path_to outer ++ f.prefix) ++ one.edge ∷ []
 
@@ -128,7 +135,7 @@ module _ {K V : Type 0} (bytes : K → List ℕ) where
     pub merged : (mid new : Arena K V) → Lengthens P old mid (frame_node P f (name_of part)) one.edge (name_of one.here) → UpdatesAt (held_at mid) (held_at new) f.name None
         → StandsFor bytes P new rest f outer part (name_of one.here)
     merged mid new lengthens gone = record {
-      remains = behind_more f.prefix one.edge one.here;
+      remains = after_more f.prefix one.edge one.here;
       named = same_name_of f.prefix one.edge one.here;
       holds = merge_cells P old mid new f.name f.prefix (children_at f.before ++ (f.byte, name_of part) ∷ children_at f.after) one.edge gone one.here other_path bytes other_under lengthens _ (cells_before P outer f.name) (cells_after P outer ++ (cells P part ++ rest)) other_cells;
       under = under_more (path_to outer) f.prefix one.edge one.here other_under;

@@ -5,7 +5,7 @@ use Rattle.art_nodes.proofs.Common.{Name}
 use Rattle.art_nodes.specs.declared.leaf.LeafNode.{LeafNode}
 use Rattle.art_arena.proofs.Common.{Arena, Held, leaf_held, inner_held, held_at, node_at, cell_of, Cell, pair, leaf_name, found_in, IsAtKey, Shape, LeafAt, leaves, pairs_of, key_of, Step, Stores, StoresBeside, IsIn, AscendsByKey, Shrinks, nodes-part, nodes-subtree, in_middle, all_at, in_cases}
 use Rattle.art_operations.proofs.Terms.{IsLeafPlace, IsAmong, with_key}
-use Rattle.art_operations.proofs.KeyedLists.{before, behind, taken}
+use Rattle.art_operations.proofs.KeyedLists.{before, following, taken}
 use Rattle.art_operations.proofs.LeafPairs.{leaf_pair, pairs_ascend, pairs-parts, none_found, same_leaf, found_leaf, held_leaf}
 use Rattle.art_operations.proofs.Stretches.{leaves_ascend}
 
@@ -19,7 +19,7 @@ same_there : {X : Type 0} (key : X → List ℕ) (front : List X) (x : X) (back 
 same_there key front x back up y i same = elim (in_cases y front (x ∷ back) i) [
   | inl j ↦ absurd (before_not_self (key x) (subst (λ k. IsBefore k (key x)) same (all_at (λ z. IsBefore (key z) (key x)) y front (before key x front back up) j)))
   | inr (inl e) ↦ e
-  | inr (inr j) ↦ absurd (before_not_self (key x) (subst (IsBefore (key x)) same (all_at (λ z. IsBefore (key x) (key z)) y back (behind key x front back up) j)))
+  | inr (inr j) ↦ absurd (before_not_self (key x) (subst (IsBefore (key x)) same (all_at (λ z. IsBefore (key x) (key z)) y back (following key x front back up) j)))
 ]
 
 module _ {K V : Type 0} (bytes : K → List ℕ) (P : ℕ) (arena : Arena K V) (root : Name) {rest : List (Name × Cell K V)} (s : Shape K V) (tree : StoresBeside bytes P arena root rest s) (slot : ℕ) (there : IsAmong slot (leaves s)) where

@@ -11,14 +11,16 @@ use Rattle.std.proofs.lemmas.List.Elements.{filter-append}
 use Rattle.art_bytes.proofs.Common.{BeginsWith, Conflict, IsBefore, bytes_cmp, before_cmp}
 use Rattle.art_nodes.proofs.Common.{child_at, children_between, first_child, Name}
 use Rattle.art_nodes.specs.declared.leaf.LeafNode.{LeafNode}
-use Rattle.art_arena.proofs.Common.{Arena, Held, leaf_held, held_at, links_of, links_at, node_at, pair, leaf_name, Frame, path_to, leaves_before, leaves_after, leaf_where, passing, Links, AreLinked, first_slot, last_slot, IsSubtree, IsPlace, Shape, Branches, inner_at, no_branch, branch, LeafAt, name_of, children_at, join, leaves, leaves_in, pairs_of, erase, erase_in, IsUnder, AreUnder, key_of, all_append, all_left, all_right, all_weaker, AscendsByKey, leaves-plug, leaves_in-join, items-erase, canonical-erase, opening, leaves_are_held, branch-first, leaves_begin_prefix, holds_pair, some_leaf, ends_with-first, last_slot-append, link_there, AreAfter, AreBefore, branches-after, branches-before, ctx-after, ctx-before, smaller_byte_first, behind, place-subtree}
+use Rattle.art_arena.proofs.Common.{Arena, Held, leaf_held, held_at, links_of, links_at, node_at, pair, leaf_name, Frame, path_to, leaves_before, leaves_after, leaf_where, passing, Links, AreLinked, first_slot, last_slot, IsSubtree, IsPlace, Shape, Branches, inner_at, no_branch, branch}
+use Rattle.art_arena.proofs.Common.{LeafAt, name_of, children_at, join, leaves, leaves_in, pairs_of, erase, erase_in, IsUnder, AreUnder, key_of, all_append, all_left, all_right, all_weaker, AscendsByKey, leaves-plug, leaves_in-join, items-erase, canonical-erase, opening, leaves_are_held}
+use Rattle.art_arena.proofs.Common.{branch-first, leaves_begin_prefix, holds_pair, some_leaf, ends_with-first, last_slot-append, link_there, AreAfter, AreBefore, branches-after, branches-before, ctx-after, ctx-before, smaller_byte_first, following, place-subtree}
 use Rattle.art_arena.proofs.tree.Canonical.{ascending}
 use Rattle.std.specs.declared.ops.Bound.TheVariants.{Excluded, Unbounded}
 use Rattle.art_operations.proofs.Terms.{slot_inside, PartAt, AllConflict, IsPoint, InsertPoint, Parted, Compare, IsNearest, bound_at, first_above, takes}
-use Rattle.art_operations.proofs.Door.{links-are}
+use Rattle.art_operations.proofs.NodesRead.{links-are}
 use Rattle.art_operations.proofs.KeyedLists.{all-pass, none-pass}
 use Rattle.art_operations.proofs.Points.{leaf_there, part_new, part_old}
-use Rattle.art_operations.proofs.Waiting.{children_behind}
+use Rattle.art_operations.proofs.Waiting.{children_after}
 use Rattle.art_operations.proofs.WayParts.{above-none, above-some}
 
 -- the other way round, the order is turned
@@ -28,7 +30,7 @@ turned k l o e = nat_list_cmp_total.antisymm l k ∙ ap ordering_reverse e
 pub before_greater : (k l : List ℕ) → IsBefore k l → bytes_cmp l k ≡ Greater
 before_greater k l h = turned k l Less (before_cmp k l h)
 
--- a key that begins with another goes on before what comes behind that one
+-- a key that begins with another goes on before what comes after that one
 front_before : (f key r : List ℕ) → BeginsWith f key → IsBefore f r → IsBefore key r
 front_before [] key r b h = absurd h
 front_before (a ∷ f) [] r b h = let e = b.1 in absurd (cc)
@@ -55,7 +57,7 @@ module _ {K V : Type 0} (bytes : K → List ℕ) (key : List ℕ) where
   pub above_after : (ls : List (LeafAt K V)) → AreAfter bytes key ls → Compare bytes key Greater ls
   above_after ls h = all_weaker _ _ (λ l b. before_greater key (bytes l.key) b) ls h
 
-  -- the first leaf of a run that is above the key, behind leaves that are below it
+  -- the first leaf of a run that is above the key, after leaves that are below it
   pub nearest_first : (xs run ys : List (LeafAt K V)) (slot : ℕ) → first_slot run None ≡ Some slot → Compare bytes key Less xs → Compare bytes key Greater run → Compare bytes key Greater ys → IsNearest bytes key (xs ++ (run ++ ys)) slot Greater
   nearest_first xs [] ys slot e below here above = absurd (cc)
   nearest_first xs (l ∷ run) ys slot e below here above = record {
@@ -106,8 +108,8 @@ module _ {K V : Type 0} (bytes : K → List ℕ) (key : List ℕ) where
   -- the first of leaves that are all in conflict with the key
   pub nearest_conflict : (l : LeafAt K V) (ls : List (LeafAt K V)) (slot : ℕ) (o : Ordering) → l.slot ≡ slot → bytes_cmp (bytes l.key) key ≡ o → Conflict key (bytes l.key)
       → AllByRecursion (λ r. IsBefore (bytes l.key) (bytes r.key)) ls → IsNearest bytes key (l ∷ ls) slot o
-  nearest_conflict l ls slot o is compares conflict behind =
-      record { before = []; leaf = l; after = ls; parts = refl; is = is; below = tt; compares = compares; above = all_weaker _ _ (λ r b. over o compares (bytes r.key) b) ls behind }
+  nearest_conflict l ls slot o is compares conflict following =
+      record { before = []; leaf = l; after = ls; parts = refl; is = is; below = tt; compares = compares; above = all_weaker _ _ (λ r b. over o compares (bytes r.key) b) ls following }
     where
       over : (o : Ordering) → bytes_cmp (bytes l.key) key ≡ o → (r : List ℕ) → IsBefore (bytes l.key) r → bytes_cmp r key ≡ Greater
       over Greater e r b = turned key r Less (nat_list_cmp_total.trans key (bytes l.key) r (turned (bytes l.key) key Greater e) (before_cmp (bytes l.key) r b))
@@ -164,16 +166,18 @@ module _ {K V : Type 0} (bytes : K → List ℕ) (key : List ℕ) where
         ap (λ xs. first_slot xs None) starts
         ∙ rw (from_start includes key (bytes near.leaf.key) o near.compares ∙ e) (ap (λ xs. first_slot xs None) (all-pass (λ l. from (bytes l.key)) near.after (all_weaker _ _ (λ l f. from_start includes key (bytes l.key) Greater f) near.after near.above)))
 
-    none-behind : passing bytes up_to near.after ≡ []
-    none-behind = none-pass (λ l. up_to (bytes l.key)) near.after (all_weaker _ _ (λ l e. up_to_end includes key (bytes l.key) Greater e) near.after near.above)
+    none-after : passing bytes up_to near.after ≡ []
+    none-after = none-pass (λ l. up_to (bytes l.key)) near.after (all_weaker _ _ (λ l e. up_to_end includes key (bytes l.key) Greater e) near.after near.above)
 
     end-inside : (is_taken : Bool) → takes false includes o ≡ is_taken → last_slot None (passing bytes up_to ls) ≡ Inside false is_taken
     end-inside true e =
         ap (last_slot None) (parted up_to)
-        ∙ rw (up_to_end includes key (bytes near.leaf.key) o near.compares ∙ e, none-behind) (last_slot-append None (passing bytes up_to near.before) (near.leaf ∷ []) ∙ ap Some near.is)
+        ∙ rw (up_to_end includes key (bytes near.leaf.key) o near.compares ∙ e, none-after) (last_slot-append None (passing bytes up_to near.before) (near.leaf ∷ []) ∙ ap Some near.is)
     end-inside false e =
         ap (last_slot None) (parted up_to)
-        ∙ rw (up_to_end includes key (bytes near.leaf.key) o near.compares ∙ e, none-behind) (ap (last_slot None) (append-nil (passing bytes up_to near.before) ∙ all-pass (λ l. up_to (bytes l.key)) near.before (all_weaker _ _ (λ l f. up_to_end includes key (bytes l.key) Less f) near.before near.below)))
+        ∙ rw (up_to_end includes key (bytes near.leaf.key) o near.compares ∙ e, none-after)
+        (ap (last_slot None) (append-nil (passing bytes up_to near.before)
+        ∙ all-pass (λ l. up_to (bytes l.key)) near.before (all_weaker _ _ (λ l f. up_to_end includes key (bytes l.key) Less f) near.before near.below)))
 
     pub inside-is : (is_start : Bool) → slot_inside bytes is_start (bound_at includes key) ls ≡ Inside is_start (takes is_start includes o)
     inside-is true = start-inside (takes true includes o) refl
@@ -184,7 +188,7 @@ module _ {K V : Type 0} (bytes : K → List ℕ) (key : List ℕ) where
 module _ {K V : Type 0} (bytes : K → List ℕ) (key path prefix : List ℕ) (kids : Branches K V) where
   module _ (p : Parted) (on : BeginsWith path key) (n : Name) (under : IsUnder bytes path (inner_at n prefix kids)) (part : PartAt prefix (drop (length path) key) p) where
     here : BeginsWith ((path ++ part.front) ++ p.new_byte ∷ []) key
-    here = part_new path (drop (length path) key) key prefix p (behind path key (length path) refl on) part
+    here = part_new path (drop (length path) key) key prefix p (following path key (length path) refl on) part
 
     there : (k : List ℕ) → BeginsWith (path ++ prefix) k → BeginsWith ((path ++ part.front) ++ p.old_byte ∷ []) k
     there k st = part_old path (drop (length path) key) prefix k st.0 p st.1 part
@@ -204,7 +208,7 @@ module _ {K V : Type 0} (bytes : K → List ℕ) (key path prefix : List ℕ) (k
         smaller a b le ne = elim (cases_order a b) [ inl e ↦ absurd (ne e) | inr (inl h) ↦ h | inr (inr h) ↦ absurd (omega (arith, le, h)) ]
 
   module _ (byte : ℕ) (under : AreUnder bytes (path ++ prefix) 0 kids) (missing : child_at (children_at kids) byte ≡ None) where
-    -- the first child behind the place of the byte
+    -- the first child after the place of the byte
     pub record IsChildAfter (c : ℕ × Name) : Type 0 where
       pub before : Branches K V
       pub here : Shape K V
@@ -218,7 +222,7 @@ module _ {K V : Type 0} (bytes : K → List ℕ) (key path prefix : List ℕ) (k
     child_after c found =
         let o = opening bytes kids byte (path ++ prefix) 0 under missing in
         let later : first_child (children_at o.after) ≡ Some c =
-        ap first_child (sym (children_behind bytes (path ++ prefix) byte o.before o.after o.below o.after_under)) ∙ ap (λ ks. first_child (children_between (Excluded byte) Unbounded (children_at ks))) (sym o.kids_are) ∙ found in
+        ap first_child (sym (children_after bytes (path ++ prefix) byte o.before o.after o.below o.after_under)) ∙ ap (λ ks. first_child (children_between (Excluded byte) Unbounded (children_at ks))) (sym o.kids_are) ∙ found in
         let b = branch-first o.after c later in
         let whole : kids ≡ join o.before (branch c.0 b.0 b.1) = o.kids_are ∙ ap (join o.before) b.2 in
         record {
@@ -243,7 +247,7 @@ module _ {K V : Type 0} (bytes : K → List ℕ) (key path prefix : List ℕ) (k
     none_above missed =
         let o = opening bytes kids byte (path ++ prefix) 0 under missing in
         let none : first_child (children_at o.after) ≡ None =
-        ap first_child (sym (children_behind bytes (path ++ prefix) byte o.before o.after o.below o.after_under)) ∙ ap (λ ks. first_child (children_between (Excluded byte) Unbounded (children_at ks))) (sym o.kids_are) ∙ missed in
+        ap first_child (sym (children_after bytes (path ++ prefix) byte o.before o.after o.below o.after_under)) ∙ ap (λ ks. first_child (children_between (Excluded byte) Unbounded (children_at ks))) (sym o.kids_are) ∙ missed in
         ap (λ f. first_above byte (erase_in f)) o.kids_are ∙ ap (λ f. first_above byte (erase_in (join o.before f))) (no_more o.after none) ∙ above-none byte o.before o.below
       where
         no_more : (f : Branches K V) → first_child (children_at f) ≡ None → f ≡ no_branch
@@ -255,7 +259,7 @@ module _ {K V : Type 0} (bytes : K → List ℕ) (key path prefix : List ℕ) (k
     no_child_after missed on slot last =
         let o = opening bytes kids byte (path ++ prefix) 0 under missing in
         let none : first_child (children_at o.after) ≡ None =
-        ap first_child (sym (children_behind bytes (path ++ prefix) byte o.before o.after o.below o.after_under)) ∙ ap (λ ks. first_child (children_between (Excluded byte) Unbounded (children_at ks))) (sym o.kids_are) ∙ missed in
+        ap first_child (sym (children_after bytes (path ++ prefix) byte o.before o.after o.below o.after_under)) ∙ ap (λ ks. first_child (children_between (Excluded byte) Unbounded (children_at ks))) (sym o.kids_are) ∙ missed in
         let all : leaves_in kids ≡ leaves_in o.before = ap leaves_in o.kids_are ∙ leaves_in-join o.before o.after ∙ ap (λ ls. leaves_in o.before ++ ls) (empty o.after none) ∙ append-nil (leaves_in o.before) in
         let below = subst (Compare bytes key Less) (sym all) (below_before bytes key (leaves_in o.before) (branches-before bytes key (path ++ prefix) byte 0 o.before o.before_under o.below on)) in
         subst (λ ls. IsNearest bytes key ls slot Less) (append-nil (leaves_in kids)) (nearest_last bytes key [] (leaves_in kids) [] slot last tt below tt)
@@ -300,8 +304,8 @@ module _ {K V : Type 0} (bytes : K → List ℕ) (P : ℕ) (arena : Arena K V) w
       let at = leaf_there bytes P arena slot path part sub in
       subst (λ t. IsNearest bytes key (leaves t) slot o) (sym at.is) (record { before = []; leaf = _; after = []; parts = refl; is = refl; below = tt; compares = sym (told at.leaf at.there); above = tt })
 
-  behind_first : (l : LeafAt K V) (ls : List (LeafAt K V)) → AscendsByKey (key_of bytes) (pairs_of (l ∷ ls)) → AllByRecursion (λ r. IsBefore (bytes l.key) (bytes r.key)) ls
-  behind_first l ls h = unmapped ls h.0
+  after_first : (l : LeafAt K V) (ls : List (LeafAt K V)) → AscendsByKey (key_of bytes) (pairs_of (l ∷ ls)) → AllByRecursion (λ r. IsBefore (bytes l.key) (bytes r.key)) ls
+  after_first l ls h = unmapped ls h.0
     where
       unmapped : (ls : List (LeafAt K V)) → AllByRecursion (λ y. IsBefore (bytes l.key) (key_of bytes y)) (pairs_of ls) → AllByRecursion (λ r. IsBefore (bytes l.key) (bytes r.key)) ls
       unmapped [] h = tt
@@ -327,7 +331,7 @@ module _ {K V : Type 0} (bytes : K → List ℕ) (P : ℕ) (arena : Arena K V) w
           let h = subst (AllByRecursion (λ l. node_at arena (leaf_name l.slot) ≡ Some (pair l.key l.value))) e (leaves_are_held bytes P arena part sub.part.held) in
           let p = holds_pair (held_at arena (leaf_name slot)) l.key l.value (ap (λ m. node_at arena (leaf_name m)) (sym same) ∙ h.0) in
           let up = subst (λ xs. AscendsByKey (key_of bytes) (pairs_of xs)) e (subst (AscendsByKey (key_of bytes)) (items-erase part) (ascending (key_of bytes) path (erase part) (canonical-erase bytes path part sub.under))) in
-          record { first = l; others = ls; are = e; is = same; node = p.leaf; there = p.is; key_is = p.key; before = behind_first l ls up }
+          record { first = l; others = ls; are = e; is = same; node = p.leaf; there = p.is; key_is = p.key; before = after_first l ls up }
 
   -- the first of leaves that are all in conflict with a key
   pub nearest_of_conflicts : (key : List ℕ) (name : Name) (slot : ℕ) (o : Ordering) (path : List ℕ) (part : Shape K V) → IsSubtree bytes P (node_at arena) name path part → first_slot (leaves part) None ≡ Some slot

@@ -6,7 +6,7 @@ use Rattle.art_operations.specs.declared.insert.into_existing.Neighbours.TheVari
 use Rattle.art_operations.proofs.Terms.{IsBetween, AreNeighbours}
 
 module _ {K V : Type 0} where
-  -- the list behind the place begins with the leaf before which the new one goes
+  -- the list after the place begins with the leaf before which the new one goes
   pub record GoesBefore (slot : ℕ) (ys : List (LeafAt K V)) : Type 0 where
     pub first : LeafAt K V
     pub more : List (LeafAt K V)
@@ -17,7 +17,7 @@ module _ {K V : Type 0} where
   goes_before is_before slot xs [] is between = absurd (let e = subst (λ b. IsBetween {K = K} {V = V} b slot xs []) is between in cc)
   goes_before is_before slot xs (y ∷ ys) is between = record { first = y; more = ys; is = refl; named = (let e = subst (λ b. IsBetween b slot xs (y ∷ ys)) is between in cc) }
 
-  -- the list before the place ends with the leaf behind which the new one goes
+  -- the list before the place ends with the leaf after which the new one goes
   pub record GoesAfter (slot : ℕ) (xs : List (LeafAt K V)) : Type 0 where
     pub more : List (LeafAt K V)
     pub last : LeafAt K V
@@ -30,17 +30,17 @@ module _ {K V : Type 0} where
       record { more = e.0; last = e.1; is = e.2; named = e.3 }
 
   -- what is beside the place between two lists is so between longer ones with the same ends there
-  pub neighbours_of_longer : (n : Neighbours) (before behind xs ys : List (LeafAt K V)) → ((p : ℕ) → last_slot None before ≡ Some p → last_slot None xs ≡ Some p)
-      → ((p : ℕ) → first_slot behind None ≡ Some p → first_slot ys None ≡ Some p) → AreNeighbours n before behind → AreNeighbours n xs ys
-  neighbours_of_longer (One leaf) before behind xs ys last first is = one leaf.is_before is
+  pub neighbours_of_longer : (n : Neighbours) (before following xs ys : List (LeafAt K V)) → ((p : ℕ) → last_slot None before ≡ Some p → last_slot None xs ≡ Some p)
+      → ((p : ℕ) → first_slot following None ≡ Some p → first_slot ys None ≡ Some p) → AreNeighbours n before following → AreNeighbours n xs ys
+  neighbours_of_longer (One leaf) before following xs ys last first is = one leaf.is_before is
     where
-      one : (is_before : Bool) → IsBetween is_before leaf.leaf before behind → IsBetween is_before leaf.leaf xs ys
+      one : (is_before : Bool) → IsBetween is_before leaf.leaf before following → IsBetween is_before leaf.leaf xs ys
       one true e = first _ e
       one false e = last _ e
-  neighbours_of_longer (Both previous next) before behind xs ys last first is = (last _ is.0, first _ is.1)
+  neighbours_of_longer (Both previous next) before following xs ys last first is = (last _ is.0, first _ is.1)
 
-  pub behind_last : (zs : List (LeafAt K V)) (z : LeafAt K V) (ys : List (LeafAt K V)) → (zs ++ z ∷ []) ++ ys ≡ zs ++ z ∷ ys
-  behind_last zs z ys = append_assoc zs (z ∷ []) ys
+  pub after_last : (zs : List (LeafAt K V)) (z : LeafAt K V) (ys : List (LeafAt K V)) → (zs ++ z ∷ []) ++ ys ≡ zs ++ z ∷ ys
+  after_last zs z ys = append_assoc zs (z ∷ []) ys
 
   -- links that answer alike have the same list beside the same leaf
   pub beside-same : (old new : ℕ → Option Links) (ls : List (LeafAt K V)) (leaf : ℕ) → ((n : ℕ) → new n ≡ old n) → IsBeside old ls leaf → IsBeside new ls leaf

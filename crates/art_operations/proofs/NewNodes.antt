@@ -1,9 +1,18 @@
 -- Nodes that are made in an arena: the room for them, and what is left where one is taken out again.
 use Rattle.std.proofs.Common.{◌≡◌, ◌≢◌, ℕ, zero, suc, ◌+◌, ◌≤◌, None, Some, Option, IsSome, refl, sym, ◌∙◌, inl, inr, arith, subst}
-use Rattle.art_nodes.proofs.Common.{Name, InnerNode}
+use Rattle.art_nodes.proofs.Common.{Name, InnerNode, row_of}
 use Rattle.art_nodes.specs.declared.kind.NodeType.{NodeType}
-use Rattle.art_nodes.specs.declared.kind.NodeType.TheVariants.{Leaf}
+use Rattle.art_nodes.specs.declared.kind.NodeType.TheVariants.{Node4, Node16, Node32, Node48, Node256, Leaf}
 use Rattle.art_arena.proofs.Common.{Arena, Held, inner_held, as_inner, held_as, held_at, Allocates, SameNodes, FreesRoomOf, HasRoom, HasRoomOf, KeepsRoomOf, UsesRoomOf, UpdatesAt, same_kind_tells, same_name_tells}
+
+-- what an inner node becomes that gets smaller is no leaf
+pub smaller-inner : (kind smaller : NodeType) → (row_of kind).smaller ≡ Some smaller → smaller ≢ Leaf
+smaller-inner Node4 smaller is leaf = absurd (cc)
+smaller-inner Node16 smaller is leaf = absurd (cc)
+smaller-inner Node32 smaller is leaf = absurd (cc)
+smaller-inner Node48 smaller is leaf = absurd (cc)
+smaller-inner Node256 smaller is leaf = absurd (cc)
+smaller-inner Leaf smaller is leaf = absurd (cc)
 
 module _ {K V : Type 0} where
   -- room for more is room for fewer

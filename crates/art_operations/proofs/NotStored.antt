@@ -4,7 +4,8 @@ use Rattle.std.specs.List.{AllByRecursion}
 use Rattle.std.proofs.lemmas.Bool.Decides.{eqb_tells}
 use Rattle.art_bytes.proofs.Common.{BeginsWith, IsBefore, before_not_self}
 use Rattle.art_nodes.proofs.Common.{child_at, Name}
-use Rattle.art_arena.proofs.Common.{Step, path_to, leaves_before, leaves_after, Shape, Branches, inner_at, no_branch, branch, LeafAt, children_at, leaves, leaves_in, IsUnder, AreUnder, leaves-plug, one_byte, all_append, all_weaker, leaves-begin, leaves_begin_prefix, ctx-before, ctx-after, behind, Frame, IsPlace}
+use Rattle.art_arena.proofs.Common.{Step, path_to, leaves_before, leaves_after, Shape, Branches, inner_at, no_branch, branch, LeafAt, children_at, leaves, leaves_in, IsUnder, AreUnder, leaves-plug, one_byte, all_append, all_weaker, leaves-begin, leaves_begin_prefix, ctx-before, ctx-after}
+use Rattle.art_arena.proofs.Common.{following, Frame, IsPlace}
 use Rattle.art_operations.proofs.Terms.{IsInTheWay, IsPoint, MeetsAt, InsertKind, InsertPoint}
 use Rattle.art_operations.specs.declared.insert.point.InsertKind.TheVariants as kind
 use Rattle.art_operations.proofs.Points.{part_new, part_old}
@@ -16,7 +17,7 @@ which (kind.SplitLeaf slot parted) = inr (λ s e. cc)
 which (kind.IntoExisting name byte) = inr (λ slot e. cc)
 which (kind.Exact slot) = inl (slot, refl)
 
--- a key that goes on behind a front by another byte is another
+-- a key that goes on after a front by another byte is another
 other : (key q : List ℕ) (a b : ℕ) (k : List ℕ) → BeginsWith (q ++ a ∷ []) key → BeginsWith (q ++ b ∷ []) k → a ≢ b → k ≢ key
 other key q a b k here there differs e = differs (one_byte q a b key here (subst (BeginsWith (q ++ b ∷ [])) e there))
 
@@ -40,15 +41,15 @@ module _ {K V : Type 0} (bytes : K → List ℕ) (key : List ℕ) where
   met path s (kind.MismatchPrefix name p) under begins (prefix, kids, is, part) unmet =
       subst (λ t. HaveOthers (leaves t)) (sym is)
       (all_weaker _ (λ l. bytes l.key ≢ key) (λ l st. other key (path ++ part.front) p.new_byte p.old_byte (bytes l.key)
-      (part_new path (drop (length path) key) key prefix p (behind path key (length path) refl begins) part)
+      (part_new path (drop (length path) key) key prefix p (following path key (length path) refl begins) part)
       (part_old path (drop (length path) key) prefix (bytes l.key) st.0 p st.1 part)
       (λ e. part.differs (sym e))) (leaves_in kids) (leaves_begin_prefix bytes path (inner_at name prefix kids) (subst (IsUnder bytes path) is under)))
   met path s (kind.SplitLeaf slot p) under begins (k, v, is, part) unmet =
       let stands : BeginsWith path (bytes k) = subst (IsUnder bytes path) is under in
       subst (λ t. HaveOthers (leaves t)) (sym is) (
         other key (path ++ part.front) p.new_byte p.old_byte (bytes k)
-            (part_new path (drop (length path) key) key (drop (length path) (bytes k)) p (behind path key (length path) refl begins) part)
-            (part_old path (drop (length path) key) (drop (length path) (bytes k)) (bytes k) [] p (behind path (bytes k) (length path) refl stands ∙ sym (append-nil (path ++ drop (length path) (bytes k)))) part)
+            (part_new path (drop (length path) key) key (drop (length path) (bytes k)) p (following path key (length path) refl begins) part)
+            (part_old path (drop (length path) key) (drop (length path) (bytes k)) (bytes k) [] p (following path (bytes k) (length path) refl stands ∙ sym (append-nil (path ++ drop (length path) (bytes k)))) part)
             (λ e. part.differs (sym e)),
         tt,
       )

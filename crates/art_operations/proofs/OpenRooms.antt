@@ -6,7 +6,7 @@ use Rattle.art_nodes.specs.declared.kind.NodeType.{NodeType}
 use Rattle.art_arena.proofs.Common.{Arena, FreesRoomOf, HasRoomOf, IsKindOf, KeepsRoomOf, same_kind_tells, LeafAt, Branches, branch, no_branch, width, leaves, leaves_in, pairs_of, children_at, AreUnder, some_leaf, length-children}
 use Rattle.art_operations.proofs.Terms.{HasInnerRoom, HasRoomAround, HasSpineRoom, IsFresh, Open, Spine, Level, AreOpen, one_of, opened, open_children, open_leaves, unmade}
 use Rattle.art_operations.proofs.InnerRooms.{fewer-leaves}
-use Rattle.art_operations.proofs.Unmade.{fewer-room, one-other, one-own, unmade-behind}
+use Rattle.art_operations.proofs.Unmade.{fewer-room, one-other, one-own, unmade-after}
 use Rattle.art_operations.specs.inner.Reopening.{HasRoomToOpen}
 
 module _ {K V : Type 0} (bytes : K → List ℕ) where
@@ -23,9 +23,9 @@ module _ {K V : Type 0} (bytes : K → List ℕ) where
   pub few-open : (key : List ℕ) (levels : List (Level K V)) → AreOpen bytes key levels → length (opened levels) ≤ length (open_children levels)
   few-open key [] ways = omega arith
   few-open key (l ∷ outer) ways =
-      let some = ways.0.some in
+      let some = ways.0.has_kids in
       let above = few-open key outer ways.2 in
-      let nodes = length-append (opened outer) (record { behind = suc l.depth; first = length (open_children outer) } ∷ []) in
+      let nodes = length-append (opened outer) (record { child_depth = suc l.depth; first = length (open_children outer) } ∷ []) in
       let noted = length-append (open_children outer) (children_at l.kids) in
       let count = length-children l.kids in
       omega (arith, some, above, nodes, noted, count)
@@ -54,7 +54,7 @@ module _ {K V : Type 0} where
       let two = is.two in
       let count : suc (length now.children.items - top.first) ≡ own = omega (arith, first, all, two) in
       let split : unmade other (length now.children.items) now.stack.items ≡ u + one_of other own =
-      ap (unmade other (length now.children.items)) stack ∙ unmade-behind other (length now.children.items) was.stack.items top ∙ ap₂ (λ f c. unmade other f was.stack.items + one_of other c) first count in
+      ap (unmade other (length now.children.items)) stack ∙ unmade-after other (length now.children.items) was.stack.items top ∙ ap₂ (λ f c. unmade other f was.stack.items + one_of other c) first count in
       subst (λ m. HasRoomOf new other (n + m)) (sym split) (elim (same_kind_tells other kind) [
         | inl same ↦
             let one : one_of other own ≡ 1 = subst (λ k. one_of k own ≡ 1) (sym same.1) (one-own kind own is) in

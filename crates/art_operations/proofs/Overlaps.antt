@@ -7,7 +7,7 @@ use Rattle.art_bytes.proofs.Common.{Conflict, IsBefore, front_not_before, front_
 use Rattle.art_arena.proofs.Common.{put_in_order, AscendsByKey, begins_with, put_is, all_weaker, begins_same}
 use Rattle.art_arena.proofs.tree.Parts.{begins_not}
 use Rattle.art_operations.proofs.Terms.{overlaps, overlapping, without_overlapping}
-use Rattle.art_operations.proofs.KeyedLists.{all-pass, before, behind, none-pass}
+use Rattle.art_operations.proofs.KeyedLists.{all-pass, before, following, none-pass}
 
 -- a key overlaps itself, and each key with which it is in conflict
 pub overlaps_same : (k l : List ℕ) → l ≡ k → overlaps k l ≡ true
@@ -21,8 +21,8 @@ overlaps_conflict k l (n, inr h) = or_right (begins_with k l) (begins_with l k) 
 pub before_no_overlap : (k l : List ℕ) → IsBefore k l → overlaps k l ≡ false
 before_no_overlap k l less = rw (begins_not k l (λ h. front_not_before k l h less), begins_not l k (λ h. front_not_after l k h less)) refl
 
-pub behind_no_overlap : (k l : List ℕ) → IsBefore l k → overlaps k l ≡ false
-behind_no_overlap k l less = rw (begins_not k l (λ h. front_not_after k l h less), begins_not l k (λ h. front_not_before l k h less)) refl
+pub after_no_overlap : (k l : List ℕ) → IsBefore l k → overlaps k l ≡ false
+after_no_overlap k l less = rw (begins_not k l (λ h. front_not_after k l h less), begins_not l k (λ h. front_not_before l k h less)) refl
 
 module _ {X : Type 0} (key : X → List ℕ) (k : List ℕ) where
   -- the keys of all of these overlap the key, or of none
@@ -52,10 +52,10 @@ module _ {X : Type 0} (key : X → List ℕ) (x : X) where
     pub new_is : new ≡ put_in_order key x (without_overlapping key (key x) old)
     pub were : gone ≡ overlapping key (key x) old
 
-  pub put_over : (front block back : List X) → AscendsByKey key (front ++ x ∷ back) → AllOverlap key (key x) block → IsPutOver (front ++ (block ++ back)) (front ++ x ∷ back) block
-  put_over front block back h all =
-      let left = all_weaker _ (λ y. overlaps (key x) (key y) ≡ false) (λ y b. behind_no_overlap (key x) (key y) b) front (before key x front back h) in
-      let right = all_weaker _ (λ y. overlaps (key x) (key y) ≡ false) (λ y b. before_no_overlap (key x) (key y) b) back (behind key x front back h) in
+  pub insert_over : (front block back : List X) → AscendsByKey key (front ++ x ∷ back) → AllOverlap key (key x) block → IsPutOver (front ++ (block ++ back)) (front ++ x ∷ back) block
+  insert_over front block back h all =
+      let left = all_weaker _ (λ y. overlaps (key x) (key y) ≡ false) (λ y b. after_no_overlap (key x) (key y) b) front (before key x front back h) in
+      let right = all_weaker _ (λ y. overlaps (key x) (key y) ≡ false) (λ y b. before_no_overlap (key x) (key y) b) back (following key x front back h) in
       record {
         new_is = sym (put_is key x front back h) ∙ ap (put_in_order key x) (sym (block_gone key (key x) front block back left all right));
         were = sym (block_kept key (key x) front block back left all right);

@@ -2,7 +2,9 @@
 use Rattle.std.proofs.Common.{◌≡◌, ℕ, ◌+◌, ◌≤◌, true, List, [], ◌∷◌, ◌++◌, Option, Some, None, refl, sym, ap, subst, ◌∙◌, arith, append_assoc}
 use Rattle.art_nodes.proofs.Common.{Name}
 use Rattle.art_nodes.specs.declared.leaf.LeafNode.{LeafNode}
-use Rattle.art_arena.proofs.Common.{Arena, cell_of, links_of, held_at, node_at, links_at, Allocates, KeepsNodes, SameCells, Cell, pair, leaf_name, copies, Holds, UpdatesAt, plug, path_to, root_of, leaves_before, leaves_after, cells_before, cells_after, AreLinked, IsBeside, KeepsLinksOutside, times, IsNodesBeside, IsSubtree, IsTreeBeside, Shape, leaf_at, inner_at, LeafAt, name_of, leaves, pairs_of, cells, width, IsUnder, Step, all_left, all_weaker, keeps-held, copies-append, Holds-add, Holds-remove, Holds-same, Holds-turn, cells-plug, leaves-plug, name_of-plug, IsUnder-plug, outside-apart, AreLinked-kept, nodes-subtree, IsNodesBeside-plug, unplugged, new-beside, times-leaves, place-subtree, nodes-update, links-update}
+use Rattle.art_arena.proofs.Common.{Arena, cell_of, links_of, held_at, node_at, links_at, Allocates, KeepsNodes, SameCells, Cell, pair, leaf_name, copies, Holds, UpdatesAt, plug, path_to, root_of, leaves_before, leaves_after, cells_before, cells_after, AreLinked, IsBeside}
+use Rattle.art_arena.proofs.Common.{KeepsLinksOutside, times, IsNodesBeside, IsSubtree, IsTreeBeside, Shape, leaf_at, inner_at, LeafAt, name_of, leaves, pairs_of, cells, width, IsUnder, Step, all_left, all_weaker, keeps-held, copies-append, Holds-add, Holds-remove, Holds-same, Holds-turn}
+use Rattle.art_arena.proofs.Common.{cells-plug, leaves-plug, name_of-plug, IsUnder-plug, outside-apart, AreLinked-kept, nodes-subtree, IsNodesBeside-plug, unplugged, new-beside, times-leaves, place-subtree, nodes-update, links-update}
 use Rattle.art_operations.proofs.Terms.{HoldsBeside, KeepsAllBut, IsInsertedBeside, IsPutOrReplaced, overlaps, AreRemoved, IsOverwrittenBeside, IsInTheWay, StandsAround, lone_leaf, InsertResult, NoChange}
 use Rattle.art_operations.proofs.FreedSizes.{at_most_one}
 use Rattle.art_operations.proofs.Lengthened.{kind_not_leaf}
@@ -30,26 +32,26 @@ module _ {K V : Type 0} (bytes : K → List ℕ) (P : ℕ) where
     root_named = ap (root_of way.ctx) (sym way.here) ∙ sym (name_of-plug way.ctx way.part) ∙ sym (ap name_of way.toward.place.is) ∙ tree.nodes.named
 
     module _ (leaf : ℕ) where
-      -- the cells behind those of the part
-      abbrev behind : List (Name × Cell K V)
-      behind = (leaf_name leaf, pair key value) ∷ (cells_after P way.ctx ++ rest)
+      -- the cells after those of the part
+      abbrev following : List (Name × Cell K V)
+      following = (leaf_name leaf, pair key value) ∷ (cells_after P way.ctx ++ rest)
 
       -- the cells around the new leaf, its own among them
       abbrev pub around : List (Name × Cell K V)
-      around = cells_before P way.ctx (leaf_name leaf) ++ behind
+      around = cells_before P way.ctx (leaf_name leaf) ++ following
 
       abbrev new_leaf : LeafAt K V
       new_leaf = record { slot = leaf; key = key; value = value }
 
       module _ (made : Arena K V) (stored : Allocates start made (leaf_name leaf) (lone_leaf key value)) where
-        holds_made : Holds (node_at made) (cells_before P way.ctx name ++ (cells P way.part ++ behind))
+        holds_made : Holds (node_at made) (cells_before P way.ctx name ++ (cells P way.part ++ following))
         holds_made =
             let before = cells_before P way.ctx name in
             let after = cells_after P way.ctx ++ rest in
             let apart = unplugged P (node_at start) rest way.ctx way.part (subst (λ w. Holds (node_at start) (rest ++ cells P w)) way.toward.place.is tree.nodes.holds) in
             let was : Holds (node_at start) ((before ++ cells P way.part) ++ after) =
             subst (Holds (node_at start)) (ap (λ n. cells_before P way.ctx n ++ (cells P way.part ++ after)) way.here ∙ sym (append_assoc before (cells P way.part) after)) apart in
-            subst (Holds (node_at made)) (append_assoc before (cells P way.part) behind)
+            subst (Holds (node_at made)) (append_assoc before (cells P way.part) following)
             (Holds-add (node_at start) (node_at made) (leaf_name leaf) (pair key value) (before ++ cells P way.part) after
             (nodes-update start made (leaf_name leaf) (Some (lone_leaf key value)) stored.updates) (ap cell_of stored.vacant) was)
 
@@ -60,18 +62,18 @@ module _ {K V : Type 0} (bytes : K → List ℕ) (P : ℕ) where
             (new-beside bytes P (node_at start) root (links_at start) (links_at made) s leaf _ tree (ap cell_of stored.vacant) (links-update start made leaf (Some (lone_leaf key value)) stored.updates))
 
         -- the part can be left
-        pub part_left : (linked : Arena K V) → SameCells made linked → StandsAround bytes P (node_at linked) root way.ctx name (cells P way.part ++ behind) last
+        pub part_left : (linked : Arena K V) → SameCells made linked → StandsAround bytes P (node_at linked) root way.ctx name (cells P way.part ++ following) last
         part_left linked same = record {
           around = way.toward.place.around;
-          holds = Holds-same (node_at made) (node_at linked) same (cells_before P way.ctx name ++ (cells P way.part ++ behind)) holds_made;
+          holds = Holds-same (node_at made) (node_at linked) same (cells_before P way.ctx name ++ (cells P way.part ++ following)) holds_made;
           steps = way.toward.steps;
           named = root_named;
         }
 
-      module _ (moved : Arena K V) (there : Holds (node_at moved) (cells_before P way.ctx (leaf_name leaf) ++ (cells P way.part ++ behind))) where
+      module _ (moved : Arena K V) (there : Holds (node_at moved) (cells_before P way.ctx (leaf_name leaf) ++ (cells P way.part ++ following))) where
         -- the part stands beside the tree with the new leaf
         pub part_apart : HoldsBeside P moved name way.part around
-        part_apart = record { named = way.here; holds = Holds-turn (node_at moved) [] (cells_before P way.ctx (leaf_name leaf)) (cells P way.part) behind there }
+        part_apart = record { named = way.here; holds = Holds-turn (node_at moved) [] (cells_before P way.ctx (leaf_name leaf)) (cells P way.part) following there }
 
         under : IsUnder bytes [] (plug way.ctx (leaf_at leaf key value))
         under = IsUnder-plug bytes way.ctx (leaf_at leaf key value) way.toward.place.around way.toward.begins
@@ -82,7 +84,7 @@ module _ {K V : Type 0} (bytes : K → List ℕ) (P : ℕ) where
             let before = cells_before P way.ctx (leaf_name leaf) in
             let after = cells_after P way.ctx in
             let cell : Name × Cell K V = (leaf_name leaf, pair key value) in
-            omega (arith, copies-append n (cells P way.part) around, copies-append n before behind, copies-append n before (cell ∷ after), copies-append n (cell ∷ after) rest)
+            omega (arith, copies-append n (cells P way.part) around, copies-append n before following, copies-append n before (cell ∷ after), copies-append n (cell ∷ after) rest)
 
         -- the leaves of the tree keep their links when the part is freed
         links_stay : (new : Arena K V) → KeepsAllBut (cells P way.part) moved new → (n : ℕ) → 1 ≤ times n (leaves_before way.ctx ++ new_leaf ∷ leaves_after way.ctx) → links_at new n ≡ links_at moved n

@@ -2,7 +2,8 @@
 use Rattle.std.proofs.Common.{◌≡◌, ◌≢◌, ℕ, suc, ◌+◌, List, ◌∷◌, length, Some, sym, ap, ◌∙◌, arith, length-append}
 use Rattle.art_nodes.proofs.Common.{Name, InnerNode, with_child, without_child, with_children}
 use Rattle.art_nodes.specs.declared.kind.NodeType.TheVariants.{Leaf}
-use Rattle.art_arena.proofs.Common.{Arena, inner_held, held_at, links_of, links_at, node_at, Cell, leaf_name, Frame, IsSubtree, Shape, leaf_at, inner_at, name_of, children_at, join, width, children_at-join, length-children, with_child-opening, without_child-frame, frame_node, frame-there, unplugged, inner_of}
+use Rattle.art_arena.proofs.Common.{Arena, inner_held, held_at, links_of, links_at, node_at, Cell, leaf_name, Frame, IsSubtree, Shape, leaf_at, inner_at, name_of, children_at, join, width, children_at-join, length-children, with_child-opening, without_child-frame, frame_node, frame-there}
+use Rattle.art_arena.proofs.Common.{unplugged, inner_of}
 use Rattle.art_operations.proofs.Terms.{IsHeldAt, Moves, PutsBack, Lengthens}
 use Rattle.art_operations.proofs.Lengthened.{kind_not_leaf, others_kept}
 

@@ -1,4 +1,4 @@
--- Leaves over which a tree is made are passed one by one: the first of them, the next one, and what is so behind it.
+-- Leaves over which a tree is made are passed one by one: the first of them, the next one, and what is so after it.
 use Rattle.std.proofs.Common.{◌≡◌, ℕ, suc, ◌+◌, ◌-◌, ◌<◌, ◌≤◌, List, [], ◌∷◌, ◌++◌, length, refl, sym, ap, subst, ◌∙◌, inl, inr, arith, append_assoc, Option, Some, None, IsSome, Result, Ok, Err, IsOk, OnErr}
 use Rattle.std.proofs.lemmas.Bool.Decides.{leb_tells}
 use Rattle.art_bytes.proofs.Common.{IsBefore}
@@ -9,9 +9,9 @@ use Rattle.art_arena.proofs.shapes.CellLists.{holds-only}
 use Rattle.art_operations.proofs.Terms.{leaf_cells, PartAt, HasPairs, HoldsInOrder, Spine, Parted, Meets, CanPass, RebuildsUpTo, AddsChild, HasSpine, begin_of, open_cells, open_leaves, IsEmptySpine}
 use Rattle.art_operations.specs.declared.meeting.Meeting.{Meeting}
 use Rattle.art_operations.specs.declared.meeting.Meeting.TheVariants as meeting
-use Rattle.art_operations.proofs.Door.{links-are}
-use Rattle.art_operations.proofs.Building.{Added, added, not-behind}
-use Rattle.art_operations.proofs.Rebuilding.{last_of, passed, next-behind, whole}
+use Rattle.art_operations.proofs.NodesRead.{links-are}
+use Rattle.art_operations.proofs.Building.{Added, added, not-after}
+use Rattle.art_operations.proofs.Rebuilding.{last_of, passed, next-later, whole}
 
 -- what succeeds has no other outcome
 pub never : {A E : Type 0} (r : Result A E) → IsOk r → ((x : A) → r ≡ Ok x → ⊥) → ⊥
@@ -31,7 +31,7 @@ on-err (Err e) Then so = so
 -- two keys part where the first comes before the second, and the second goes on by the greater byte
 module _ (old new : List ℕ) (first : IsBefore old new) where
   pub must-part : (m : Meeting) → Meets old new m → ((p : Parted) → m ≡ meeting.Parts p → ⊥) → ⊥
-  must-part m meets other = not-behind old new m meets (λ p e. absurd (other p e)) first
+  must-part m meets other = not-after old new m meets (λ p e. absurd (other p e)) first
 
   pub rises : (p : Parted) → PartAt old new p → p.old_byte < p.new_byte
   rises p part = elim (leb_tells (suc p.old_byte) p.new_byte) [
@@ -40,7 +40,7 @@ module _ (old new : List ℕ) (first : IsBefore old new) where
         let differs = part.differs in
         let most = more.1 in
         let lower : p.new_byte < p.old_byte = omega (arith, most, differs) in
-        absurd (not-behind old new (meeting.Parts p) part (λ q e. let same : p ≡ q = cc in subst (λ (r : Parted). r.new_byte < r.old_byte) same lower) first)
+        absurd (not-after old new (meeting.Parts p) part (λ q e. let same : p ≡ q = cc in subst (λ (r : Parted). r.new_byte < r.old_byte) same lower) first)
   ]
 
 module _ {K V : Type 0} (bytes : K → List ℕ) (P : ℕ) where
@@ -87,14 +87,14 @@ module _ {K V : Type 0} (bytes : K → List ℕ) (P : ℕ) where
     next-read stored read_bytes read e = e ∙ ap bytes (read next-there.leaf next-there.is ∙ next-there.key)
 
     pub above : IsBefore (bytes can.up_to.key) (bytes can.leaf.key)
-    above = next-behind bytes P (open_leaves can.up_to.levels) (last_of bytes P arena spine last (can.leaf ∷ rest) ls can.up_to) can.leaf rest ls can.up_to.leaves_are can.ascends
+    above = next-later bytes P (open_leaves can.up_to.levels) (last_of bytes P arena spine last (can.leaf ∷ rest) ls can.up_to) can.leaf rest ls can.up_to.leaves_are can.ascends
 
     -- then it is the last one
-    pub passes : (now : Arena K V) (was new : Spine) (p : Parted) (behind : ℕ) (root : Name) → PartAt (bytes can.up_to.key) (bytes can.leaf.key) p → p.old_byte < 256 → behind ≡ suc p.matched
-        → HasSpine bytes P now was still last behind root (bytes can.up_to.key) front → begin_of behind was.stack.items ≡ behind → AddsChild behind (p.old_byte, root) was new → RebuildsUpTo bytes P now new next rest ls
-    passes now was new p behind root part fits behind_is has closed adds =
+    pub passes : (now : Arena K V) (was new : Spine) (p : Parted) (following : ℕ) (root : Name) → PartAt (bytes can.up_to.key) (bytes can.leaf.key) p → p.old_byte < 256 → following ≡ suc p.matched
+        → HasSpine bytes P now was still last following root (bytes can.up_to.key) front → begin_of following was.stack.items ≡ following → AddsChild following (p.old_byte, root) was new → RebuildsUpTo bytes P now new next rest ls
+    passes now was new p following root part fits child_depth_is has closed adds =
         subst (λ n. RebuildsUpTo bytes P now new n rest ls) can.named
-        (of (added bytes P (bytes can.up_to.key) (bytes can.leaf.key) p part (rises (bytes can.up_to.key) (bytes can.leaf.key) above p part) fits now was new still behind root front behind_is has.stands closed adds))
+        (of (added bytes P (bytes can.up_to.key) (bytes can.leaf.key) p part (rises (bytes can.up_to.key) (bytes can.leaf.key) above p part) fits now was new still following root front child_depth_is has.stands closed adds))
       where
         of : Added bytes P now new still (bytes can.leaf.key) front → RebuildsUpTo bytes P now new can.leaf.slot rest ls
         of add = record {

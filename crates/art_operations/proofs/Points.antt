@@ -5,13 +5,14 @@ use Rattle.art_bytes.proofs.Common.{BeginsWith, Conflict, IsProperFront, begins_
 use Rattle.art_nodes.proofs.Common.{InnerNode, child_at, Name}
 use Rattle.art_nodes.specs.declared.kind.NodeType.TheVariants.{Leaf}
 use Rattle.art_nodes.specs.declared.leaf.LeafNode.{LeafNode}
-use Rattle.art_arena.proofs.Common.{IsIn, Cell, leaf_name, Arena, Held, leaf_held, inner_held, held_at, node_at, Shape, Branches, leaf_at, inner_at, no_branch, branch, children_at, leaves, leaves_in, IsUnder, AreUnder, path_to, IsAtDepth, IsSubtree, Step, all_append, all_weaker, begins_trans, one_byte, leaves-begin, OnWayTo, behind, holds_pair, leaves_begin_prefix, some_leaf, subtree-leaf, subtree-inner, root_held}
+use Rattle.art_arena.proofs.Common.{IsIn, Cell, leaf_name, Arena, Held, leaf_held, inner_held, held_at, node_at, Shape, Branches, leaf_at, inner_at, no_branch, branch, children_at, leaves, leaves_in, IsUnder, AreUnder, path_to, IsAtDepth, IsSubtree, Step, all_append, all_weaker}
+use Rattle.art_arena.proofs.Common.{begins_trans, one_byte, leaves-begin, OnWayTo, following, holds_pair, leaves_begin_prefix, some_leaf, subtree-leaf, subtree-inner, root_held}
 use Rattle.art_arena.specs.arena.Descents.{Stops}
-use Rattle.art_operations.proofs.Terms.{PartAt, Parted, AllConflict, HasConflict, NoConflict, IsWayAtInner, IsWayAtLeaf, IsWay}
-use Rattle.art_operations.specs.declared.insert.point.Way.{Way}
-use Rattle.art_operations.specs.declared.insert.point.Way.TheVariants as way
+use Rattle.art_operations.proofs.Terms.{PartAt, Parted, AllConflict, HasConflict, NoConflict, IsEndAtInner, IsEndAtLeaf, IsSearchEnd}
+use Rattle.art_operations.specs.declared.insert.point.SearchEnd.{SearchEnd}
+use Rattle.art_operations.specs.declared.insert.point.SearchEnd.TheVariants as way
 
--- keys that go on behind a front by different bytes are not in conflict
+-- keys that go on after a front by different bytes are not in conflict
 apart_free : (q k l : List ℕ) (a b : ℕ) → BeginsWith (q ++ a ∷ []) k → BeginsWith (q ++ b ∷ []) l → a ≢ b → Conflict k l → ⊥
 apart_free q k l a b ka lb differs (n, inl kl) = differs (one_byte q a b l (begins_trans (q ++ a ∷ []) k l ka kl) lb)
 apart_free q k l a b ka lb differs (n, inr lk) = differs (one_byte q a b k ka (begins_trans (q ++ b ∷ []) l k lb lk))
@@ -74,21 +75,21 @@ module _ {K V : Type 0} (bytes : K → List ℕ) (key path : List ℕ) (depth : 
     not_in_conflict n = subst (λ t. NoConflict bytes key (leaves t)) (sym is) (n, tt)
 
     -- how the search ends there
-    pub leaf_end : (w : Way) → IsWayAtLeaf (drop depth (bytes k)) (drop depth key) w → IsWay bytes key path s (leaf_name slot) w
+    pub leaf_end : (w : SearchEnd) → IsEndAtLeaf (drop depth (bytes k)) (drop depth key) w → IsSearchEnd bytes key path s (leaf_name slot) w
     leaf_end way.Same e =
-        let same : bytes k ≡ key = behind path (bytes k) depth len leaf_begins ∙ ap (λ r. path ++ r) e ∙ sym (behind path key depth len begins) in
+        let same : bytes k ≡ key = following path (bytes k) depth len leaf_begins ∙ ap (λ r. path ++ r) e ∙ sym (following path key depth len begins) in
         ((k, v, is, same), not_in_conflict (λ c. c.0 (sym same)))
     leaf_end (way.PartsFromLeaf p) part = (
       (k, v, is, subst (λ d. PartAt (drop d (bytes k)) (drop d key) p) (sym len) part),
       not_in_conflict (apart_free (path ++ part.front) key (bytes k) p.new_byte p.old_byte
-          (part_new path (drop depth key) key (drop depth (bytes k)) p (behind path key depth len begins) part)
-          (part_old path (drop depth key) (drop depth (bytes k)) (bytes k) [] p (behind path (bytes k) depth len leaf_begins ∙ sym (append-nil (path ++ drop depth (bytes k)))) part)
+          (part_new path (drop depth key) key (drop depth (bytes k)) p (following path key depth len begins) part)
+          (part_old path (drop depth key) (drop depth (bytes k)) (bytes k) [] p (following path (bytes k) depth len leaf_begins ∙ sym (append-nil (path ++ drop depth (bytes k)))) part)
           (λ e. part.differs (sym e))),
     )
     leaf_end way.Conflict (inl (b, r, e)) =
-        in_conflict (conflict_second key (bytes k) (b, r, behind path key depth len begins ∙ ap (λ x. path ++ x) e ∙ sym (append_assoc path (drop depth (bytes k)) (b ∷ r)) ∙ ap (λ x. x ++ b ∷ r) (sym (behind path (bytes k) depth len leaf_begins))))
+        in_conflict (conflict_second key (bytes k) (b, r, following path key depth len begins ∙ ap (λ x. path ++ x) e ∙ sym (append_assoc path (drop depth (bytes k)) (b ∷ r)) ∙ ap (λ x. x ++ b ∷ r) (sym (following path (bytes k) depth len leaf_begins))))
     leaf_end way.Conflict (inr (b, r, e)) =
-        in_conflict (conflict_first key (bytes k) (b, r, behind path (bytes k) depth len leaf_begins ∙ ap (λ x. path ++ x) e ∙ sym (append_assoc path (drop depth key) (b ∷ r)) ∙ ap (λ x. x ++ b ∷ r) (sym (behind path key depth len begins))))
+        in_conflict (conflict_first key (bytes k) (b, r, following path (bytes k) depth len leaf_begins ∙ ap (λ x. path ++ x) e ∙ sym (append_assoc path (drop depth key) (b ∷ r)) ∙ ap (λ x. x ++ b ∷ r) (sym (following path key depth len begins))))
     leaf_end (way.PartsFromPrefix p) h = absurd h
     leaf_end (way.NoChild b) h = absurd h
 
@@ -104,7 +105,7 @@ module _ {K V : Type 0} (bytes : K → List ℕ) (key path : List ℕ) (depth : 
             let s = begins_step (path ++ prefix) c k st in
             let parts : (path ++ (drop depth key ++ x)) ++ c ∷ s.0 ≡ path ++ (drop depth key ++ (x ++ c ∷ s.0)) = simp append_assoc in
             let spelled : k ≡ key ++ (x ++ c ∷ s.0) =
-            s.1 ∙ ap (λ y. (path ++ y) ++ c ∷ s.0) e ∙ parts ∙ sym (append_assoc path (drop depth key) (x ++ c ∷ s.0)) ∙ ap (λ y. y ++ (x ++ c ∷ s.0)) (sym (behind path key depth len begins)) in
+            s.1 ∙ ap (λ y. (path ++ y) ++ c ∷ s.0) e ∙ parts ∙ sym (append_assoc path (drop depth key) (x ++ c ∷ s.0)) ∙ ap (λ y. y ++ (x ++ c ∷ s.0)) (sym (following path key depth len begins)) in
             conflict_first key k (goes_on key x c s.0 k spelled)
 
         each : (low : ℕ) (f : Branches K V) → AreUnder bytes (path ++ prefix) low f → AllConflict bytes key (leaves_in f)
@@ -119,7 +120,7 @@ module _ {K V : Type 0} (bytes : K → List ℕ) (key path : List ℕ) (depth : 
     inner_parts p part = (
       subst (λ d. PartAt prefix (drop d key) p) (sym len) part,
       all_weaker _ _ (λ l st. apart_free (path ++ part.front) key (bytes l.key) p.new_byte p.old_byte
-          (part_new path (drop depth key) key prefix p (behind path key depth len begins) part)
+          (part_new path (drop depth key) key prefix p (following path key depth len begins) part)
           (part_old path (drop depth key) prefix (bytes l.key) st.0 p st.1 part)
           (λ e. part.differs (sym e))) (leaves_in kids) (leaves_begin_prefix bytes path (inner_at n prefix kids) under),
     )
@@ -139,11 +140,11 @@ module _ {K V : Type 0} (bytes : K → List ℕ) (key path : List ℕ) (depth : 
         ]
 
     -- how the search ends there, from where the key goes no further
-    pub inner_end : (s : Shape K V) → s ≡ inner_at n prefix kids → Stops bytes key path s → (w : Way) → IsWayAtInner prefix (drop depth key) w → IsWay bytes key path s n w
+    pub inner_end : (s : Shape K V) → s ≡ inner_at n prefix kids → Stops bytes key path s → (w : SearchEnd) → IsEndAtInner prefix (drop depth key) w → IsSearchEnd bytes key path s n w
     inner_end s is stops way.Conflict ends = subst (λ t. AllConflict bytes key (leaves t)) (sym is) (inner_ends ends)
     inner_end s is stops (way.PartsFromPrefix p) part = let r = inner_parts p part in ((prefix, kids, is, r.0), subst (λ t. NoConflict bytes key (leaves t)) (sym is) r.1)
     inner_end s is stops (way.NoChild b) (r, e) =
-        let on = begins_from_step (path ++ prefix) b r key (behind path key depth len begins ∙ ap (λ x. path ++ x) e ∙ sym (append_assoc path prefix (b ∷ r))) in
+        let on = begins_from_step (path ++ prefix) b r key (following path key depth len begins ∙ ap (λ x. path ++ x) e ∙ sym (append_assoc path prefix (b ∷ r))) in
         let missing = stops n prefix kids is b on in
         ((prefix, kids, is, missing, on), subst (λ t. NoConflict bytes key (leaves t)) (sym is) (inner_missing b on missing))
     inner_end s is stops way.Same h = absurd h
@@ -180,7 +181,7 @@ module _ {K V : Type 0} (bytes : K → List ℕ) (P : ℕ) (arena : Arena K V) w
         children = refl;
       }
 
--- a part on the way stands behind so many bytes
+-- a part on the way stands after so many bytes
 pub way_at_depth : {K V : Type 0} (bytes : K → List ℕ) (P : ℕ) (at : Name → Option (Cell K V)) (key : List ℕ) (s : Shape K V) (current : Name) (last : List Step) (depth : ℕ) (way : OnWayTo bytes P at key s current last depth)
     → IsAtDepth bytes P at current depth (path_to way.ctx) way.part
-way_at_depth bytes P at key s current last depth way = record { subtree = way.subtree; behind = way.toward.depth_is }
+way_at_depth bytes P at key s current last depth way = record { subtree = way.subtree; path_len = way.toward.depth_is }

@@ -25,7 +25,7 @@ module _ {K V : Type 0} (bytes : K → List ℕ) (front : List ℕ) (whole part 
   abbrev slot_key : LeafAt K V → List ℕ
   slot_key l = bytes l.key
 
-  -- a part behind a front of the prefix, whose keys begin with the prefix, has all that do
+  -- a part after a front of the prefix, whose keys begin with the prefix, has all that do
   module _ (all : leaves_with bytes front (leaves part) ≡ leaves part) where
     pub block_is : leaves part ≡ leaves_with bytes front (leaves whole)
     block_is = sym (begin_in bytes front whole part ctx place begins ∙ all)

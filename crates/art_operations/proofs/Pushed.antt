@@ -1,13 +1,15 @@
--- A pair that a builder takes: its leaf is stored behind the last one, and then that one is passed.
+-- A pair that a builder takes: its leaf is stored after the last one, and then that one is passed.
 use Rattle.std.proofs.Common.{◌≡◌, ℕ, ◌+◌, List, [], ◌∷◌, ◌++◌, Option, None, Some, IsSome, take, refl, sym, ap, subst, ◌∙◌, inl, inr, arith, append_assoc, append-nil}
 use Rattle.std.specs.List.{AllByRecursion}
 use Rattle.std.proofs.lemmas.Bool.Decides.{eqb_tells}
 use Rattle.art_bytes.proofs.Common.{IsBefore}
 use Rattle.art_nodes.proofs.Common.{Name}
 use Rattle.art_nodes.specs.declared.kind.NodeType.TheVariants.{Leaf}
-use Rattle.art_arena.proofs.Common.{Arena, Allocates, SameNodes, WritesLinks, cell_of, leaf_held, links_of, node_at, links_at, SameLeaves, UsesRoomOf, Cell, leaf_name, pair, copies, Holds, UpdatesAt, AreLinked, Links, first_slot, last_slot, times, LeafAt, leaves_in, cells_in, pairs_of, key_of, AscendsByKey, Holds-add, Holds-same, copies-append, same_name_tells, times-append, last_slot-append, last-apart, empty-first, end_there, relink_end, some_of, AreLinked-frame, AreLinked-join, AreLinked-same, times-leaves_in, links-update, nodes-update, all_weaker, ascending_append}
+use Rattle.art_arena.proofs.Common.{Arena, Allocates, SameNodes, WritesLinks, cell_of, leaf_held, links_of, node_at, links_at, SameLeaves, UsesRoomOf, Cell, leaf_name, pair, copies, Holds, UpdatesAt, AreLinked, Links, first_slot, last_slot, times, LeafAt, leaves_in, cells_in, pairs_of}
+use Rattle.art_arena.proofs.Common.{key_of, AscendsByKey, Holds-add, Holds-same, copies-append, same_name_tells, times-append, last_slot-append, last-apart, empty-first, end_there, relink_end, some_of, AreLinked-frame, AreLinked-join, AreLinked-same, times-leaves_in, links-update}
+use Rattle.art_arena.proofs.Common.{nodes-update, all_weaker, ascending_append}
 use Rattle.art_operations.proofs.Terms.{Builds, BuildsTo, BuildsUpTo, HasLeavesOf, PartAt, Parted, TreeBuilder, Spine, HasStoredLast, IsListTo, CanPass, CanPassAt, RebuildsUpTo, Level, AreOpen, open_leaves, open_cells}
-use Rattle.art_operations.proofs.Building.{all_leaves, behind-all, last_leaf}
+use Rattle.art_operations.proofs.Building.{all_leaves, after-all, last_leaf}
 use Rattle.art_operations.proofs.FreedRuns.{times-copies}
 use Rattle.art_operations.proofs.InnerRooms.{beside-leaf}
 use Rattle.art_operations.proofs.LeafListsParted.{at_most_one}
@@ -25,7 +27,7 @@ not-linked links n before (l ∷ rest) after linked none = elim (eqb_tells n l.s
       rw other.0 (omega (arith, more))
 ]
 
--- a leaf is stored behind the last one of a list
+-- a leaf is stored after the last one of a list
 module _ {K V : Type 0} (old stored : Arena K V) (last : Option ℕ) (slot : ℕ) (key : K) (value : V) (ls : List (LeafAt K V)) (to : IsListTo (links_at old) last ls)
     (allocates : Allocates old stored (leaf_name slot) (leaf_held (record { key = key; value = value; previous = last; next = None }))) where
   links : UpdatesAt (links_at old) (links_at stored) slot (Some (record { previous = last; next = None }))
@@ -54,8 +56,8 @@ module _ {K V : Type 0} (old stored : Arena K V) (last : Option ℕ) (slot : ℕ
     pub end-held : IsSome (links_at stored end)
     end-held = end_there (links_at stored) ls end None (to.last_is ∙ some) still
 
-    pub stored-behind : (new : Arena K V) → ((was : Links) → links_at stored end ≡ Some was → WritesLinks stored new end (record was { next = Some slot })) → HasStoredLast old new slot key value ls
-    stored-behind new writes =
+    pub stored-after : (new : Arena K V) → ((was : Links) → links_at stored end ≡ Some was → WritesLinks stored new end (record was { next = Some slot })) → HasStoredLast old new slot key value ls
+    stored-after new writes =
         let was = some_of (links_at stored end) end-held in
         let write = writes was.0 was.1 in
         let here : links_at new slot ≡ Some (record { previous = last_slot None ls; next = None }) =
@@ -136,7 +138,7 @@ module _ {K V : Type 0} (bytes : K → List ℕ) (P : ℕ) where
       last_is = last_slot-append None (open_leaves is.levels) end;
     }
 
-    -- a leaf was stored behind it
+    -- a leaf was stored after it
     module _ (new : Arena K V) (slot : ℕ) (key : K) (value : V) (stored : HasStoredLast arena new slot key value whole) (less : IsBefore (bytes is.key) (bytes key)) where
       abbrev new_leaf : LeafAt K V
       new_leaf = record { slot = slot; key = key; value = value }
@@ -147,7 +149,7 @@ module _ {K V : Type 0} (bytes : K → List ℕ) (P : ℕ) where
       ascends-now : AscendsByKey (key_of bytes) (pairs ++ (key, value) ∷ [])
       ascends-now = ascending_append (key_of bytes) pairs ((key, value) ∷ []) is.ascends (tt, tt)
           (all_weaker (λ (q : K × V). IsBefore (bytes q.0) (bytes key)) (λ (q : K × V). AllByRecursion (λ (y : K × V). IsBefore (key_of bytes q) (key_of bytes y)) ((key, value) ∷ [])) (λ q before. (before, tt)) pairs
-          (behind-all bytes P arena spine last pairs is (bytes key) less))
+          (after-all bytes P arena spine last pairs is (bytes key) less))
 
       -- so the last one can be passed
       can : CanPass bytes P new spine last slot [] (whole ++ new_leaf ∷ [])

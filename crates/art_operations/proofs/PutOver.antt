@@ -11,7 +11,7 @@ use Rattle.art_operations.specs.declared.prefix_insert.point.PrefixInsertPoint.T
 use Rattle.art_operations.proofs.HeldPairs.{stored-exact}
 use Rattle.art_operations.proofs.LeafPairs.{leaf_pair, pairs_ascend, held_leaf}
 use Rattle.art_operations.proofs.NotStored.{not-in-way}
-use Rattle.art_operations.proofs.Overlaps.{put_over}
+use Rattle.art_operations.proofs.Overlaps.{insert_over}
 
 -- how many pairs are no more
 pub how_many : {K V : Type 0} (gone : List (K × V)) (result : PrefixInsertResult K V) → AreRemoved gone result.insert_result.existing_leaf result.leafs_removed → removed_by result ≡ length gone
@@ -40,7 +40,7 @@ module _ {K V : Type 0} (bytes : K → List ℕ) (P : ℕ) where
       let old_is : pairs ≡ pairs_of is.front ++ (pairs_of is.block ++ pairs_of is.back) =
       sym has.pairs_are ∙ ap pairs_of is.were ∙ map-append leaf_pair is.front (is.block ++ is.back) ∙ ap (λ ps. pairs_of is.front ++ ps) (map-append leaf_pair is.block is.back) in
       let h = rw new_is at (pairs_ascend bytes is.shape is.is_tree.nodes.under) in
-      let put = put_over (key_of bytes) (key, value) (pairs_of is.front) (pairs_of is.block) (pairs_of is.back) h (pair_overlap (bytes key) is.block is.overlap) in
+      let put = insert_over (key_of bytes) (key, value) (pairs_of is.front) (pairs_of is.block) (pairs_of is.back) h (pair_overlap (bytes key) is.block is.overlap) in
       let told = rw (sym old_is) at put in
       record {
         has = (is.shape, is.is_tree, new_is ∙ told.new_is);

@@ -47,13 +47,13 @@ module _ {K V : Type 0} (bytes : K → List ℕ) (start end : Bound (List ℕ)) 
       here true t rest = let f = rw t at e in absurd (cc)
       here false t rest = rw t (rest (rw t at e))
 
-  -- the first leaf from the start on, and what is behind it
+  -- the first leaf from the start on, and what is after it
   pub record StartsAt (ls : List (LeafAt K V)) (slot : ℕ) : Type 0 where
     pub leaf : LeafAt K V
     pub others : List (LeafAt K V)
     pub is : leaf.slot ≡ slot
     pub among : IsIn leaf ls
-    pub behind : AllByRecursion (λ (r : LeafAt K V). IsBefore (bytes leaf.key) (bytes r.key)) others
+    pub following : AllByRecursion (λ (r : LeafAt K V). IsBefore (bytes leaf.key) (bytes r.key)) others
     pub inside : Between ls ≡ UpTo (leaf ∷ others)
     pub from : (more : List (LeafAt K V)) × (passing bytes (λ k. is_from_start bytes_cmp start k) ls ≡ leaf ∷ more)
     pub last : is_past_end bytes_cmp end (bytes leaf.key) ≡ false → last_slot None (UpTo ls) ≡ last_slot (Some leaf.slot) (UpTo others)
@@ -68,7 +68,7 @@ module _ {K V : Type 0} (bytes : K → List ℕ) (start end : Bound (List ℕ)) 
         others = ls;
         is = (let f = rw t at e in cc);
         among = inl refl;
-        behind = up.0;
+        following = up.0;
         from = (passing bytes (λ k. is_from_start bytes_cmp start k) ls, rw t refl);
         inside = all-from (l ∷ ls) (t, all_weaker _ _ (λ r b. from_later start (bytes l.key) (bytes r.key) b t) ls up.0);
         last = λ off. rw off refl;
@@ -80,7 +80,7 @@ module _ {K V : Type 0} (bytes : K → List ℕ) (start end : Bound (List ℕ)) 
             others = later.others;
             is = later.is;
             among = inr later.among;
-            behind = later.behind;
+            following = later.following;
             inside = rw t later.inside;
             from = (later.from.0, rw t later.from.1);
             last = λ off. last-kept (not (is_past_end bytes_cmp end (bytes l.key))) l (UpTo ls) later.leaf.slot (UpTo later.others) (later.last off);
@@ -89,7 +89,7 @@ module _ {K V : Type 0} (bytes : K → List ℕ) (start end : Bound (List ℕ)) 
   module _ (ls : List (LeafAt K V)) (slot : ℕ) (at : StartsAt ls slot) where
     -- where it is past the end, no leaf is between the bounds
     pub none-between : is_past_end bytes_cmp end (bytes at.leaf.key) ≡ true → Between ls ≡ []
-    none-between past = at.inside ∙ none-pass (λ l. not (is_past_end bytes_cmp end (bytes l.key))) (at.leaf ∷ at.others) (ap not past, all_weaker _ _ (λ r b. ap not (past_later end (bytes at.leaf.key) (bytes r.key) b past)) at.others at.behind)
+    none-between past = at.inside ∙ none-pass (λ l. not (is_past_end bytes_cmp end (bytes l.key))) (at.leaf ∷ at.others) (ap not past, all_weaker _ _ (λ r b. ap not (past_later end (bytes at.leaf.key) (bytes r.key) b past)) at.others at.following)
 
     -- else they begin with it, and end with the last one up to the end
     pub ends-between : is_past_end bytes_cmp end (bytes at.leaf.key) ≡ false → (last : ℕ) → last_slot None (UpTo ls) ≡ Some last → AreEndsWhere bytes (λ k. range_contains bytes_cmp start end k) ls (Some (slot, last))
@@ -125,24 +125,24 @@ module _ {K V : Type 0} (bytes : K → List ℕ) (P : ℕ) (arena : Arena K V) (
 
 -- what is read for the second end, by whether a leaf is from the start on, and by how its key meets the end
 module _ {K V : Type 0} (bytes : K → List ℕ) (P : ℕ) (start end : Bound (List ℕ)) (s : Shape K V) where
-  abbrev pub behind_reads : ℕ
-  behind_reads = end_reads (key_of bytes) P (erase s) end (filter (λ x. is_from_start bytes_cmp start (key_of bytes x)) (items (erase s)))
+  abbrev pub after_reads : ℕ
+  after_reads = end_reads (key_of bytes) P (erase s) end (filter (λ x. is_from_start bytes_cmp start (key_of bytes x)) (items (erase s)))
 
-  listed : (ls : List (LeafAt K V)) → passing bytes (λ k. is_from_start bytes_cmp start k) (leaves s) ≡ ls → behind_reads ≡ end_reads (key_of bytes) P (erase s) end (pairs_of ls)
+  listed : (ls : List (LeafAt K V)) → passing bytes (λ k. is_from_start bytes_cmp start k) (leaves s) ≡ ls → after_reads ≡ end_reads (key_of bytes) P (erase s) end (pairs_of ls)
   listed ls is =
       ap (λ xs. end_reads (key_of bytes) P (erase s) end (filter (λ x. is_from_start bytes_cmp start (key_of bytes x)) xs)) (items-erase s)
       ∙ ap (end_reads (key_of bytes) P (erase s) end) (passing-items bytes (λ k. is_from_start bytes_cmp start k) (leaves s) ∙ ap pairs_of is)
 
-  pub behind-none : leaf_where bytes (λ k. is_from_start bytes_cmp start k) (leaves s) ≡ None → behind_reads ≡ 0
-  behind-none none = listed [] (empty (passing bytes (λ k. is_from_start bytes_cmp start k) (leaves s)) none)
+  pub after-none : leaf_where bytes (λ k. is_from_start bytes_cmp start k) (leaves s) ≡ None → after_reads ≡ 0
+  after-none none = listed [] (empty (passing bytes (λ k. is_from_start bytes_cmp start k) (leaves s)) none)
     where
       empty : (ls : List (LeafAt K V)) → first_slot ls None ≡ None → ls ≡ []
       empty [] e = refl
       empty (l ∷ ls) e = absurd (cc)
 
   module _ (slot : ℕ) (at : StartsAt bytes start end (leaves s) slot) where
-    pub behind-past : is_past_end bytes_cmp end (bytes at.leaf.key) ≡ true → behind_reads ≡ 1
-    behind-past past = listed (at.leaf ∷ at.from.0) at.from.1 ∙ rw past refl
+    pub after-past : is_past_end bytes_cmp end (bytes at.leaf.key) ≡ true → after_reads ≡ 1
+    after-past past = listed (at.leaf ∷ at.from.0) at.from.1 ∙ rw past refl
 
-    pub behind-found : is_past_end bytes_cmp end (bytes at.leaf.key) ≡ false → behind_reads ≡ suc (bound_reads P false (erase s) end)
-    behind-found off = listed (at.leaf ∷ at.from.0) at.from.1 ∙ rw off refl
+    pub after-found : is_past_end bytes_cmp end (bytes at.leaf.key) ≡ false → after_reads ≡ suc (bound_reads P false (erase s) end)
+    after-found off = listed (at.leaf ∷ at.from.0) at.from.1 ∙ rw off refl

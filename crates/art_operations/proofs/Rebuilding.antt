@@ -1,4 +1,4 @@
--- Inner nodes that are made over leaves which stand: what is so behind each leaf, and where the last node is made.
+-- Inner nodes that are made over leaves which stand: what is so after each leaf, and where the last node is made.
 use Rattle.std.proofs.Common.{◌≡◌, ℕ, List, [], ◌∷◌, ◌++◌, take, drop, refl, sym, ap, subst, ◌∙◌, arith, append-nil, Some, None, IsSome}
 use Rattle.std.proofs.lemmas.List.{take-append-drop}
 use Rattle.art_bytes.proofs.Common.{IsBefore}
@@ -6,7 +6,7 @@ use Rattle.art_nodes.proofs.Common.{Name}
 use Rattle.art_nodes.specs.declared.leaf.LeafNode.{LeafNode}
 use Rattle.art_arena.proofs.Common.{Arena, leaf_held, held_at, node_at, links_at, Cell, pair, leaf_name, Holds, AreLinked, Shape, LeafAt, leaf_at, name_of, leaves, cells, pairs_of, key_of, IsUnder, AscendsByKey, HoldsPair, holds_pair, all_right}
 use Rattle.art_operations.proofs.Terms.{leaf_cells, HasPairs, Spine, RebuildsUpTo, Level, begin, begin_of, open_leaves, open_cells, HasSpine}
-use Rattle.art_operations.proofs.KeyedLists.{behind}
+use Rattle.art_operations.proofs.KeyedLists.{following}
 use Rattle.art_operations.proofs.LeafPairs.{pairs-parts}
 use Rattle.art_operations.proofs.Spines.{begin-opened}
 
@@ -69,7 +69,7 @@ module _ {K V : Type 0} (bytes : K → List ℕ) (P : ℕ) where
       )
       of (l ∷ outer) part named holds under leaves_are none = absurd (omega (arith, none))
 
-  -- the keys of leaves ascend, so the next one's goes behind the last one's
-  pub next-behind : (front : List (LeafAt K V)) (l m : LeafAt K V) (more ls : List (LeafAt K V)) → front ++ l ∷ m ∷ more ≡ ls → AscendsByKey (key_of bytes) (pairs_of ls) → IsBefore (bytes l.key) (bytes m.key)
-  next-behind front l m more ls is ascends =
-      (behind (key_of bytes) (l.key, l.value) (pairs_of front) (pairs_of (m ∷ more)) (subst (AscendsByKey (key_of bytes)) (ap pairs_of (sym is) ∙ pairs-parts bytes front l (m ∷ more)) ascends)).0
+  -- the keys of leaves ascend, so the next one's goes after the last one's
+  pub next-later : (front : List (LeafAt K V)) (l m : LeafAt K V) (more ls : List (LeafAt K V)) → front ++ l ∷ m ∷ more ≡ ls → AscendsByKey (key_of bytes) (pairs_of ls) → IsBefore (bytes l.key) (bytes m.key)
+  next-later front l m more ls is ascends =
+      (following (key_of bytes) (l.key, l.value) (pairs_of front) (pairs_of (m ∷ more)) (subst (AscendsByKey (key_of bytes)) (ap pairs_of (sym is) ∙ pairs-parts bytes front l (m ∷ more)) ascends)).0

@@ -6,7 +6,9 @@ use Rattle.std.proofs.Math.Seq.{take-suc, take-append_seam, get_or-append_seam}
 use Rattle.art_bytes.proofs.Common.{BeginsWith, begins_step}
 use Rattle.art_nodes.proofs.Common.{InnerNode, IsAscending, IsAscendingFrom, Name}
 use Rattle.art_nodes.specs.declared.kind.NodeType.TheVariants.{Leaf}
-use Rattle.art_arena.proofs.Common.{Arena, inner_held, held_at, node_at, SameNodes, SameLeaves, UpdatesAt, Cell, branches, leaf_name, Holds, Holds-remove, Holds-same, AreBelow, AreHeld, IsIn, Shape, Branches, LeafAt, leaf_at, no_branch, branch, inner_at, name_of, children_at, join, width, leaves, leaves_in, cells, cells_in, IsUnder, AreUnder, IsKindOf, inner_of, some_leaf, leaves-begin, all_at, all_left, all_right, in_right, nodes-update, nodes-same, length-children, StoresOnly, HoldsPair, holds_pair, leaf_held, links_at, AreLinked, AscendsByKey, key_of, pairs_of, no_inner, IsSubtree, nodes-subtree, last_slot, ends_with-first, AreLinked-same, links_of, KeepsRoomOf}
+use Rattle.art_arena.proofs.Common.{Arena, inner_held, held_at, node_at, SameNodes, SameLeaves, UpdatesAt, Cell, branches, leaf_name, Holds, Holds-remove, Holds-same, AreBelow, AreHeld, IsIn, Shape, Branches, LeafAt, leaf_at, no_branch, branch, inner_at, name_of, children_at, join, width}
+use Rattle.art_arena.proofs.Common.{leaves, leaves_in, cells, cells_in, IsUnder, AreUnder, IsKindOf, inner_of, some_leaf, leaves-begin, all_at, all_left, all_right, in_right, nodes-update, nodes-same, length-children, StoresOnly, HoldsPair, holds_pair, leaf_held, links_at, AreLinked}
+use Rattle.art_arena.proofs.Common.{AscendsByKey, key_of, pairs_of, no_inner, IsSubtree, nodes-subtree, last_slot, ends_with-first, AreLinked-same, links_of, KeepsRoomOf}
 use Rattle.art_operations.proofs.Terms.{Open, Spine, Level, begin, begin_of, opened, open_children, open_leaves, open_cells, IsOpen, AreOpen, HasSpine, IsEmptySpine, BuildsUpTo, HasPairs, HasSpineRoom, inner_over}
 use Rattle.art_operations.specs.inner.Reopening.{HasRoomToOpen, OpensTo}
 use Rattle.std.specs.Prelude.{vec_capacity}
@@ -15,7 +17,7 @@ use Rattle.art_operations.proofs.LeafPairs.{held_leaf, pairs_ascend}
 use Rattle.art_operations.proofs.OpenRooms.{few-noted, few-open, noting-room, wide-leaves}
 use Rattle.art_operations.proofs.PutBack.{same_inner}
 use Rattle.art_operations.proofs.Rebuilding.{whole}
-use Rattle.art_operations.proofs.Spines.{begin-opened, last-same, children-behind, width-behind, leaves-behind, cells-behind}
+use Rattle.art_operations.proofs.Spines.{begin-opened, last-same, children-after, width-after, leaves-after, cells-after}
 
 -- what stands last of a list stands in its last part
 last-in : {X : Type 0} (xs : List X) (y : X) (ys front : List X) (x : X) → xs ++ y ∷ ys ≡ front ++ x ∷ [] → IsIn x (y ∷ ys)
@@ -27,7 +29,7 @@ front-ascending : (low : ℕ) (xs ys : List (ℕ × Name)) → IsAscendingFrom l
 front-ascending low [] ys up = tt
 front-ascending low (x ∷ xs) ys up = (up.0, up.1, front-ascending (x.0 + 1) xs ys up.2)
 
--- an inner node behind so many bytes of the key, under whose last child the key goes on
+-- an inner node after so many bytes of the key, under whose last child the key goes on
 module _ (key : List ℕ) (from : ℕ) (prefix : List ℕ) (byte : ℕ) (within : from ≤ length key) (begins : BeginsWith ((take from key ++ prefix) ++ byte ∷ []) key) where
   rest : (r : List ℕ) × (key ≡ (take from key ++ prefix) ++ byte ∷ r)
   rest = begins_step (take from key ++ prefix) byte key begins
@@ -214,7 +216,7 @@ module _ {K V : Type 0} (bytes : K → List ℕ) (P : ℕ) where
       parted = parted-at bytes (take from key ++ inner.prefix) 0 end.others end.byte end.child (subst (AreUnder bytes (take from key ++ inner.prefix) 0) end.is whole_under.1)
 
       all_leaves : open_leaves levels ++ (leaves_in end.others ++ leaves end.child) ≡ ls
-      all_leaves = ap (λ xs. open_leaves levels ++ xs) (sym (ap leaves inner.shape_is ∙ ap leaves_in end.is ∙ leaves-behind end.byte end.child end.others)) ∙ is.stands.leaves_are
+      all_leaves = ap (λ xs. open_leaves levels ++ xs) (sym (ap leaves inner.shape_is ∙ ap leaves_in end.is ∙ leaves-after end.byte end.child end.others)) ∙ is.stands.leaves_are
 
       goes_through : BeginsWith ((take from key ++ inner.prefix) ++ end.byte ∷ []) key
       goes_through =
@@ -241,13 +243,13 @@ module _ {K V : Type 0} (bytes : K → List ℕ) (P : ℕ) where
       is_open : IsAscending (children_at inner.kids) → IsOpen bytes key level
       is_open up =
           let few = whole_under.0.two in
-          let wide = ap width end.is ∙ width-behind end.byte end.child end.others in
+          let wide = ap width end.is ∙ width-after end.byte end.child end.others in
           record {
             inside = depth-inside key from inner.prefix end.byte within goes_through;
-            some = omega (arith, few, wide);
+            has_kids = omega (arith, few, wide);
             under = subst (λ q. AreUnder bytes q 0 end.others) (sym (front-is key from inner.prefix end.byte within goes_through)) parted.under;
             below = subst (λ b. AreBelow b end.others) (sym (byte-is key from inner.prefix end.byte within goes_through)) parted.below;
-            ascending = front-ascending 0 (children_at end.others) ((end.byte, name_of end.child) ∷ []) (subst IsAscending (ap children_at end.is ∙ children-behind end.byte end.child end.others) up);
+            ascending = front-ascending 0 (children_at end.others) ((end.byte, name_of end.child) ∷ []) (subst IsAscending (ap children_at end.is ∙ children-after end.byte end.child end.others) up);
           }
 
       child_under : IsUnder bytes (take (begin 0 (level ∷ levels)) key) end.child
@@ -259,7 +261,7 @@ module _ {K V : Type 0} (bytes : K → List ℕ) (P : ℕ) where
       left_held new frees =
           let removed = Holds-remove (node_at arena) (node_at new) part _ (open_cells P levels) (cells_in P inner.kids ++ []) (nodes-update arena new part None frees)
           (subst (λ s. Holds (node_at arena) (open_cells P levels ++ (cells P s ++ []))) inner.shape_is is.stands.holds) in
-          let kids_are : cells_in P inner.kids ≡ cells_in P end.others ++ cells P end.child = ap (cells_in P) end.is ∙ cells-behind P end.byte end.child end.others in
+          let kids_are : cells_in P inner.kids ≡ cells_in P end.others ++ cells P end.child = ap (cells_in P) end.is ∙ cells-after P end.byte end.child end.others in
           subst (Holds (node_at new)) (ap (λ cs. open_cells P levels ++ (cs ++ [])) kids_are ∙ ap (λ cs. open_cells P levels ++ cs) (append_assoc (cells_in P end.others) (cells P end.child) []) ∙ sym (append_assoc (open_cells P levels) (cells_in P end.others) (cells P end.child ++ []))) removed
 
       -- with places for all leaves its children can be noted
@@ -279,10 +281,10 @@ module _ {K V : Type 0} (bytes : K → List ℕ) (P : ℕ) where
         noted : (now.children.items ≡ open_children levels ++ children_at end.others) × (child ≡ (end.byte, name_of end.child))
         noted =
             last-same now.children.items (open_children levels ++ children_at end.others) child (end.byte, name_of end.child)
-            (children ∙ ap (λ cs. cs ++ children_at inner.kids) is.stands.children_are ∙ ap (λ cs. open_children levels ++ cs) (ap children_at end.is ∙ children-behind end.byte end.child end.others)
+            (children ∙ ap (λ cs. cs ++ children_at inner.kids) is.stands.children_are ∙ ap (λ cs. open_children levels ++ cs) (ap children_at end.is ∙ children-after end.byte end.child end.others)
             ∙ sym (append_assoc (open_children levels) (children_at end.others) ((end.byte, name_of end.child) ∷ [])))
 
-        pub opens-last : (new : Arena K V) → now.stack.items ≡ spine.stack.items ++ record { behind = suc (begin_of 0 spine.stack.items + length inner.prefix); first = length spine.children.items } ∷ [] → IsAscending (children_at inner.kids)
+        pub opens-last : (new : Arena K V) → now.stack.items ≡ spine.stack.items ++ record { child_depth = suc (begin_of 0 spine.stack.items + length inner.prefix); first = length spine.children.items } ∷ [] → IsAscending (children_at inner.kids)
             → UpdatesAt (held_at arena) (held_at new) part None → OpensTo bytes P new now child.1 leaf ls
         opens-last new stack up frees = record {
           front = is.front;
@@ -290,8 +292,8 @@ module _ {K V : Type 0} (bytes : K → List ℕ) (P : ℕ) where
           stands = record {
             levels = level ∷ levels;
             part = end.child;
-            stack_is = stack ∙ ap₂ (λ (os : List Open) (cs : List (ℕ × Name)). os ++ record { behind = suc (begin_of 0 spine.stack.items + length inner.prefix); first = length cs } ∷ []) is.stands.stack_is is.stands.children_are
-                ∙ ap (λ d. opened levels ++ record { behind = suc d; first = length (open_children levels) } ∷ []) read-depth;
+            stack_is = stack ∙ ap₂ (λ (os : List Open) (cs : List (ℕ × Name)). os ++ record { child_depth = suc (begin_of 0 spine.stack.items + length inner.prefix); first = length cs } ∷ []) is.stands.stack_is is.stands.children_are
+                ∙ ap (λ d. opened levels ++ record { child_depth = suc d; first = length (open_children levels) } ∷ []) read-depth;
             children_are = noted.0;
             named = ap (λ (c : ℕ × Name). c.1) (sym noted.1);
             holds = left_held new frees;
@@ -319,11 +321,11 @@ module _ {K V : Type 0} (bytes : K → List ℕ) (P : ℕ) where
         seen-room = subst (λ (m : InnerNode). HasRoomToOpen arena spine (length ls) → HasSpineRoom arena spine (length m.children)) seen_is can-open
 
         pub opens-child : (now : Spine) (child : ℕ × Name) → now.children.items ++ child ∷ [] ≡ spine.children.items ++ seen.children → (new : Arena K V)
-            → now.stack.items ≡ spine.stack.items ++ record { behind = suc (begin_of 0 spine.stack.items + seen.header.prefix_len); first = length spine.children.items } ∷ [] → IsAscending seen.children
+            → now.stack.items ≡ spine.stack.items ++ record { child_depth = suc (begin_of 0 spine.stack.items + seen.header.prefix_len); first = length spine.children.items } ∷ [] → IsAscending seen.children
             → UpdatesAt (held_at arena) (held_at new) part None → OpensTo bytes P new now child.1 leaf ls
         opens-child now child =
             subst (λ (m : InnerNode). now.children.items ++ child ∷ [] ≡ spine.children.items ++ m.children → (new : Arena K V)
-            → now.stack.items ≡ spine.stack.items ++ record { behind = suc (begin_of 0 spine.stack.items + m.header.prefix_len); first = length spine.children.items } ∷ [] → IsAscending m.children
+            → now.stack.items ≡ spine.stack.items ++ record { child_depth = suc (begin_of 0 spine.stack.items + m.header.prefix_len); first = length spine.children.items } ∷ [] → IsAscending m.children
             → UpdatesAt (held_at arena) (held_at new) part None → OpensTo bytes P new now child.1 leaf ls) seen_is (opens-last now child)
 
   -- at the start, and where the nodes are made again

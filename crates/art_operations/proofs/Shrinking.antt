@@ -2,7 +2,8 @@
 use Rattle.std.proofs.Common.{◌≡◌, ℕ, suc, ◌+◌, List, [], ◌∷◌, ◌++◌, length, drop, refl, sym, ap, ap₂, subst, ◌∙◌, inl, inr, arith, append_assoc, drop_at}
 use Rattle.std.proofs.lemmas.Bool.Decides.{eqb_tells}
 use Rattle.art_bytes.proofs.Common.{BeginsWith}
-use Rattle.art_arena.proofs.Common.{IsIn, Frame, fill, plug, path_to, leaves_before, leaves_after, AreBelow, AreAround, width_of, ChangesKind, Shape, Branches, leaf_at, no_branch, branch, LeafAt, join, leaves, width, erase, erase_in, key_of, IsUnder, Shrinks, items, count, IsCanonical, leaves-plug, width-join, items-erase, count-erase, canonical-erase, widths, in_right, in_map}
+use Rattle.art_arena.proofs.Common.{IsIn, Frame, fill, plug, path_to, leaves_before, leaves_after, AreBelow, AreAround, width_of, ChangesKind, Shape, Branches, leaf_at, no_branch, branch, LeafAt, join, leaves, width, erase, erase_in, key_of, IsUnder, Shrinks, items, count, IsCanonical}
+use Rattle.art_arena.proofs.Common.{leaves-plug, width-join, items-erase, count-erase, canonical-erase, widths, in_right, in_map}
 use Rattle.art_arena.proofs.tree.Delete.{last_count, last_in}
 use Rattle.art_arena.proofs.tree.Shrinks.{TreeMeets, tree_meets, shrinks_is_kind_change}
 use Rattle.art_operations.proofs.Terms.{LosesKind}

@@ -6,24 +6,25 @@ use Rattle.std.proofs.Math.Seq.{take-add, take-suc}
 use Rattle.art_nodes.proofs.Common.{InnerNode, IsAscendingFrom, Name}
 use Rattle.art_nodes.specs.declared.kind.NodeType.{NodeType}
 use Rattle.art_nodes.specs.declared.kind.NodeType.TheVariants.{Leaf}
-use Rattle.art_arena.proofs.Common.{Arena, inner_held, cell_of, node_at, Allocates, SameNodes, SameLeaves, Cell, branches, leaf_name, Holds, AreBelow, Shape, Branches, LeafAt, no_branch, branch, inner_at, name_of, children_at, join, width, leaves, leaves_in, cells, cells_in, IsUnder, AreUnder, IsKindOf, Holds-add, children_at-join, leaves_in-join, cells_in-join, width-join, length-children, AreUnder-join, nodes-update}
+use Rattle.art_arena.proofs.Common.{Arena, inner_held, cell_of, node_at, Allocates, SameNodes, SameLeaves, Cell, branches, leaf_name, Holds, AreBelow, Shape, Branches, LeafAt, no_branch, branch, inner_at, name_of, children_at, join, width, leaves, leaves_in, cells, cells_in, IsUnder}
+use Rattle.art_arena.proofs.Common.{AreUnder, IsKindOf, Holds-add, children_at-join, leaves_in-join, cells_in-join, width-join, length-children, AreUnder-join, nodes-update}
 use Rattle.art_operations.proofs.Terms.{Open, Level, begin, begin_of, opened, open_children, open_leaves, open_cells, inner_over, IsOpen}
 
--- lists with an item behind them
+-- lists with an item after them
 
-pub begin-behind : (low : ℕ) (xs : List Open) (o : Open) → begin_of low (xs ++ o ∷ []) ≡ max low o.behind
-begin-behind low [] o = refl
-begin-behind low (x ∷ []) o = refl
-begin-behind low (x ∷ y ∷ xs) o = begin-behind low (y ∷ xs) o
+pub begin-after : (low : ℕ) (xs : List Open) (o : Open) → begin_of low (xs ++ o ∷ []) ≡ max low o.child_depth
+begin-after low [] o = refl
+begin-after low (x ∷ []) o = refl
+begin-after low (x ∷ y ∷ xs) o = begin-after low (y ∷ xs) o
 
 pub begin-from : (low : ℕ) (xs : List Open) → low ≤ begin_of low xs
 begin-from low [] = omega arith
 begin-from low (o ∷ []) = omega arith
 begin-from low (o ∷ p ∷ xs) = begin-from low (p ∷ xs)
 
-pub begin-last : (low : ℕ) (xs : List Open) (o : Open) → Some o ≡ slice_get xs (length xs - 1) → begin_of low xs ≡ max low o.behind
+pub begin-last : (low : ℕ) (xs : List Open) (o : Open) → Some o ≡ slice_get xs (length xs - 1) → begin_of low xs ≡ max low o.child_depth
 begin-last low [] o e = absurd (cc)
-begin-last low (x ∷ []) o e = let same : o ≡ x = cc in ap (λ (p : Open). max low p.behind) (sym same)
+begin-last low (x ∷ []) o e = let same : o ≡ x = cc in ap (λ (p : Open). max low p.child_depth) (sym same)
 begin-last low (x ∷ y ∷ xs) o e = begin-last low (y ∷ xs) o (simp unary_clauses (simp unary_clauses at e))
 
 pub last-same : {X : Type 0} (xs ys : List X) (x y : X) → xs ++ x ∷ [] ≡ ys ++ y ∷ [] → (xs ≡ ys) × (x ≡ y)
@@ -47,7 +48,7 @@ module _ {K V : Type 0} where
 
   pub begin-opened : (low : ℕ) (levels : List (Level K V)) → begin_of low (opened levels) ≡ begin low levels
   begin-opened low [] = refl
-  begin-opened low (l ∷ outer) = begin-behind low (opened outer) (record { behind = suc l.depth; first = length (open_children outer) })
+  begin-opened low (l ∷ outer) = begin-after low (opened outer) (record { child_depth = suc l.depth; first = length (open_children outer) })
 
   -- the level of the last open node, and those above it
   pub record IsTop (levels : List (Level K V)) (outer : List Open) (top : Open) : Type 0 where
@@ -55,7 +56,7 @@ module _ {K V : Type 0} where
     pub above : List (Level K V)
     pub is : levels ≡ level ∷ above
     pub outer_is : outer ≡ opened above
-    pub behind_is : top.behind ≡ suc level.depth
+    pub child_depth_is : top.child_depth ≡ suc level.depth
     pub first_is : top.first ≡ length (open_children above)
 
   pub top-level : (levels : List (Level K V)) (outer : List Open) (top : Open) → outer ++ top ∷ [] ≡ opened levels → IsTop levels outer top
@@ -63,35 +64,35 @@ module _ {K V : Type 0} where
   top-level [] (o ∷ outer) top e = absurd (cc)
   top-level (l ∷ above) outer top e =
       let same = last-same outer (opened above) top _ e in
-      record { level = l; above = above; is = refl; outer_is = same.0; behind_is = ap (λ (o : Open). o.behind) same.1; first_is = ap (λ (o : Open). o.first) same.1 }
+      record { level = l; above = above; is = refl; outer_is = same.0; child_depth_is = ap (λ (o : Open). o.child_depth) same.1; first_is = ap (λ (o : Open). o.first) same.1 }
 
   -- no more bytes lead there than to the last branch
   pub begin-least : (low depth : ℕ) (levels : List (Level K V)) → low ≤ depth → begin 0 levels ≤ depth → begin low levels ≤ depth
   begin-least low depth [] above below = above
   begin-least low depth (l ∷ outer) above below = omega (arith, above, below)
 
-  -- branches with one more behind them
+  -- branches with one more after them
 
-  pub ascending-behind : (low byte : ℕ) (name : Name) (f : Branches K V) → IsAscendingFrom low (children_at f) → AreBelow byte f → low ≤ byte → byte < 256 → IsAscendingFrom low (children_at f ++ (byte, name) ∷ [])
-  ascending-behind low byte name no_branch rises below above fits = (above, fits, tt)
-  ascending-behind low byte name (branch b s f) rises below above fits =
-      (rises.0, rises.1, ascending-behind (b + 1) byte name f rises.2 below.1 (omega (arith, below.0)) fits)
+  pub ascending-after : (low byte : ℕ) (name : Name) (f : Branches K V) → IsAscendingFrom low (children_at f) → AreBelow byte f → low ≤ byte → byte < 256 → IsAscendingFrom low (children_at f ++ (byte, name) ∷ [])
+  ascending-after low byte name no_branch rises below above fits = (above, fits, tt)
+  ascending-after low byte name (branch b s f) rises below above fits =
+      (rises.0, rises.1, ascending-after (b + 1) byte name f rises.2 below.1 (omega (arith, below.0)) fits)
 
-  pub below-behind : (byte more : ℕ) (s : Shape K V) (f : Branches K V) → AreBelow byte f → byte < more → AreBelow more (join f (branch byte s no_branch))
-  below-behind byte more s no_branch below less = (less, tt)
-  below-behind byte more s (branch b t f) below less = (omega (arith, below.0, less), below-behind byte more s f below.1 less)
+  pub below-after : (byte more : ℕ) (s : Shape K V) (f : Branches K V) → AreBelow byte f → byte < more → AreBelow more (join f (branch byte s no_branch))
+  below-after byte more s no_branch below less = (less, tt)
+  below-after byte more s (branch b t f) below less = (omega (arith, below.0, less), below-after byte more s f below.1 less)
 
-  pub children-behind : (byte : ℕ) (s : Shape K V) (f : Branches K V) → children_at (join f (branch byte s no_branch)) ≡ children_at f ++ (byte, name_of s) ∷ []
-  children-behind byte s f = children_at-join f (branch byte s no_branch)
+  pub children-after : (byte : ℕ) (s : Shape K V) (f : Branches K V) → children_at (join f (branch byte s no_branch)) ≡ children_at f ++ (byte, name_of s) ∷ []
+  children-after byte s f = children_at-join f (branch byte s no_branch)
 
-  pub width-behind : (byte : ℕ) (s : Shape K V) (f : Branches K V) → width (join f (branch byte s no_branch)) ≡ suc (width f)
-  width-behind byte s f = width-join f (branch byte s no_branch) ∙ omega arith
+  pub width-after : (byte : ℕ) (s : Shape K V) (f : Branches K V) → width (join f (branch byte s no_branch)) ≡ suc (width f)
+  width-after byte s f = width-join f (branch byte s no_branch) ∙ omega arith
 
-  pub leaves-behind : (byte : ℕ) (s : Shape K V) (f : Branches K V) → leaves_in (join f (branch byte s no_branch)) ≡ leaves_in f ++ leaves s
-  leaves-behind byte s f = leaves_in-join f (branch byte s no_branch) ∙ ap (λ xs. leaves_in f ++ xs) (append-nil (leaves s))
+  pub leaves-after : (byte : ℕ) (s : Shape K V) (f : Branches K V) → leaves_in (join f (branch byte s no_branch)) ≡ leaves_in f ++ leaves s
+  leaves-after byte s f = leaves_in-join f (branch byte s no_branch) ∙ ap (λ xs. leaves_in f ++ xs) (append-nil (leaves s))
 
-  pub cells-behind : (P byte : ℕ) (s : Shape K V) (f : Branches K V) → cells_in P (join f (branch byte s no_branch)) ≡ cells_in P f ++ cells P s
-  cells-behind P byte s f = cells_in-join P f (branch byte s no_branch) ∙ ap (λ xs. cells_in P f ++ xs) (append-nil (cells P s))
+  pub cells-after : (P byte : ℕ) (s : Shape K V) (f : Branches K V) → cells_in P (join f (branch byte s no_branch)) ≡ cells_in P f ++ cells P s
+  cells-after P byte s f = cells_in-join P f (branch byte s no_branch) ∙ ap (λ xs. cells_in P f ++ xs) (append-nil (cells P s))
 
 module _ {K V : Type 0} (bytes : K → List ℕ) (P : ℕ) where
   -- the last open node is made, with this part below its last branch
@@ -118,7 +119,7 @@ module _ {K V : Type 0} (bytes : K → List ℕ) (P : ℕ) where
         let here : begin low (l ∷ outer) ≡ suc l.depth = omega (arith, low_is) in
         let part_under : IsUnder bytes (take l.depth key ++ byte ∷ []) part = subst (λ q. IsUnder bytes q part) (ap (λ n. take n key) here ∙ path) under in
         let count : length (children_at l.kids ++ (byte, root) ∷ []) ≡ width (join l.kids (branch byte part no_branch)) =
-        ap (λ n. length (children_at l.kids ++ (byte, n) ∷ [])) (sym named) ∙ ap length (sym (children-behind byte part l.kids)) ∙ length-children (join l.kids (branch byte part no_branch)) in (
+        ap (λ n. length (children_at l.kids ++ (byte, n) ∷ [])) (sym named) ∙ ap length (sym (children-after byte part l.kids)) ∙ length-children (join l.kids (branch byte part no_branch)) in (
           subst (IsKindOf node.kind) count kind,
           subst (λ q. AreUnder bytes q 0 (join l.kids (branch byte part no_branch))) (sym (front-parts from l.depth key from-within))
               (AreUnder-join bytes (take l.depth key) 0 byte l.kids part no_branch is_open.under is_open.below zero-le part_under tt),
@@ -130,10 +131,10 @@ module _ {K V : Type 0} (bytes : K → List ℕ) (P : ℕ) where
         let added = Holds-add (node_at old) (node_at new) node _ (open_cells P outer) below (nodes-update old new node _ allocates.updates) (ap cell_of allocates.vacant)
         (subst (Holds (node_at old)) (append_assoc (open_cells P outer) (cells_in P l.kids) (cells P part ++ rest)) holds) in
         let children : children_at l.kids ++ (byte, root) ∷ [] ≡ children_at (join l.kids (branch byte part no_branch)) =
-        ap (λ n. children_at l.kids ++ (byte, n) ∷ []) (sym named) ∙ sym (children-behind byte part l.kids) in
+        ap (λ n. children_at l.kids ++ (byte, n) ∷ []) (sym named) ∙ sym (children-after byte part l.kids) in
         let kept : below ≡ cells_in P (join l.kids (branch byte part no_branch)) ++ rest =
-        sym (append_assoc (cells_in P l.kids) (cells P part) rest) ∙ ap (λ xs. xs ++ rest) (sym (cells-behind P byte part l.kids)) in
+        sym (append_assoc (cells_in P l.kids) (cells P part) rest) ∙ ap (λ xs. xs ++ rest) (sym (cells-after P byte part l.kids)) in
         subst (λ c. Holds (node_at new) (open_cells P outer ++ c)) (ap₂ (λ (cs : List (ℕ × Name)) (xs : List (Name × Cell K V)). (node, branches (inner_over P prefix cs)) ∷ xs) children kept) added
 
     pub made-leaves : open_leaves (l ∷ outer) ++ leaves part ≡ ls → open_leaves outer ++ leaves made ≡ ls
-    made-leaves e = ap (λ xs. open_leaves outer ++ xs) (leaves-behind byte part l.kids) ∙ sym (append_assoc (open_leaves outer) (leaves_in l.kids) (leaves part)) ∙ e
+    made-leaves e = ap (λ xs. open_leaves outer ++ xs) (leaves-after byte part l.kids) ∙ sym (append_assoc (open_leaves outer) (leaves_in l.kids) (leaves part)) ∙ e

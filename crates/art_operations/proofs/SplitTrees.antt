@@ -4,7 +4,9 @@ use Rattle.std.proofs.lemmas.Bool.Decides.{eqb_tells, leb_tells}
 use Rattle.art_nodes.proofs.Common.{with_child, Name}
 use Rattle.art_nodes.specs.declared.kind.NodeType.TheVariants.{Leaf, Node4}
 use Rattle.art_nodes.specs.declared.concrete.ConcreteInnerNodePtr.TheVariants as inner
-use Rattle.art_arena.proofs.Common.{Arena, inner_held, cell_of, held_at, node_at, links_at, Cell, pair, branches, leaf_name, Holds, UpdatesAt, Frame, path_to, root_of, frame_cell, leaves_before, leaves_after, cells_before, cells_after, AreAround, AreLinked, IsBeside, IsAtDepth, IsSubtree, IsTreeBeside, Shape, no_branch, branch, name_of, leaves, cells, node_of, Step, all_right, Holds-add, Holds-write, Holds-same, Holds-turn, leaves-plug, name_of-plug, nodes-subtree, unplugged, new-beside, nodes-update, links-update, links-kept, cell_held, place-subtree, AreLinked-same}
+use Rattle.art_arena.proofs.Common.{Arena, inner_held, cell_of, held_at, node_at, links_at, Cell, pair, branches, leaf_name, Holds, UpdatesAt, Frame, path_to, root_of, frame_cell, leaves_before, leaves_after, cells_before, cells_after, AreAround, AreLinked, IsBeside, IsAtDepth, IsSubtree}
+use Rattle.art_arena.proofs.Common.{IsTreeBeside, Shape, no_branch, branch, name_of, leaves, cells, node_of, Step, all_right, Holds-add, Holds-write, Holds-same, Holds-turn, leaves-plug, name_of-plug, nodes-subtree, unplugged, new-beside, nodes-update, links-update, links-kept, cell_held}
+use Rattle.art_arena.proofs.Common.{place-subtree, AreLinked-same}
 use Rattle.art_operations.proofs.Terms.{StandsAround, lone_leaf, AllocatesBoth, trimmed, root_cell, IsEnd, IsBetween, split_node, IsInsertedBeside, NewParent, Parted}
 use Rattle.art_operations.proofs.Splits.{SplitPlace, below_root, cells-root, below-trimmed, name_of-trimmed, leaves-trimmed}
 use Rattle.art_operations.proofs.Inserted.{inserted_below}
@@ -94,7 +96,7 @@ module _ {K V : Type 0} (bytes : K → List ℕ) (P : ℕ) (s : Shape K V) (old 
     part_subtree = subst (λ n. IsSubtree bytes P (node_at start) n (path_to at.ctx) at.part) at.named (place-subtree bytes P (node_at start) root s at.ctx at.part (nodes-subtree bytes P (node_at start) root s tree.nodes) at.place)
 
     pub part_at_depth : IsAtDepth bytes P (node_at start) old depth (path_to at.ctx) at.part
-    part_at_depth = record { subtree = part_subtree; behind = at.depth_is }
+    part_at_depth = record { subtree = part_subtree; path_len = at.depth_is }
 
     root_named : root_of at.ctx old ≡ root
     root_named = ap (root_of at.ctx) (sym at.named) ∙ sym (name_of-plug at.ctx at.part) ∙ sym (ap name_of at.place.is) ∙ tree.nodes.named
@@ -106,7 +108,7 @@ module _ {K V : Type 0} (bytes : K → List ℕ) (P : ℕ) (s : Shape K V) (old 
       abbrev split_cell : Name × Cell K V
       split_cell = (split_name slot, branches (split_node P (take parted.matched (drop depth (bytes key))) parted.old_byte old parted.new_byte (leaf_name leaf)))
 
-      -- what stands in the place and behind it, once the old part is trimmed
+      -- what stands in the place and after it, once the old part is trimmed
       abbrev pub split_cells : List (Name × Cell K V)
       split_cells = split_cell ∷ ((old, root_cell P lower) ∷ (below ++ new_leaf_cell ∷ right))
 

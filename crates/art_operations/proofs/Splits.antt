@@ -3,7 +3,7 @@ use Rattle.std.proofs.Common.{◌≡◌, ◌≢◌, ℕ, ◌+◌, ◌≤◌, Lis
 use Rattle.art_bytes.proofs.Common.{BeginsWith}
 use Rattle.art_nodes.proofs.Common.{Name}
 use Rattle.art_nodes.specs.declared.kind.NodeType.TheVariants.{Leaf}
-use Rattle.art_arena.proofs.Common.{Cell, leaf_name, Frame, path_to, IsPlace, prefix_of, Shape, Branches, leaf_at, inner_at, name_of, leaves, cells, cells_in, IsUnder, AreUnder, Step, steps_to, steps_of, drop-front, take-front, behind}
+use Rattle.art_arena.proofs.Common.{Cell, leaf_name, Frame, path_to, IsPlace, prefix_of, Shape, Branches, leaf_at, inner_at, name_of, leaves, cells, cells_in, IsUnder, AreUnder, Step, steps_to, steps_of, drop-front, take-front, following}
 use Rattle.art_operations.proofs.Terms.{PartsFrom, trimmed, root_cell, PartAt, IsPoint, MeetsAt, InsertPoint, InsertKind, Parted}
 use Rattle.art_operations.specs.declared.insert.point.InsertKind.TheVariants as kind
 use Rattle.art_operations.proofs.Points.{part_new, part_old}
@@ -37,7 +37,7 @@ module _ (key : List ℕ) (path : List ℕ) (depth : ℕ) (len : length path ≡
 
   front_within : depth + p.matched ≤ length key
   front_within =
-      let whole = ap length (behind path key depth len begins) ∙ length-append path (drop depth key) in
+      let whole = ap length (following path key depth len begins) ∙ length-append path (drop depth key) in
       let rest = ap length part.new_is ∙ length-append part.front (p.new_byte ∷ part.new_rest) in
       let front = part.len in
       omega (arith, whole, rest, front, len)
@@ -89,7 +89,7 @@ module _ {K V : Type 0} (bytes : K → List ℕ) where
       front = part.front;
       front_is = front_taken key (path_to ctx) depth len begins stored p part;
       within = front_within key (path_to ctx) depth len begins stored p part;
-      begins = part_new (path_to ctx) (drop depth key) key stored p (behind (path_to ctx) key depth len begins) part;
+      begins = part_new (path_to ctx) (drop depth key) key stored p (following (path_to ctx) key depth len begins) part;
       differs = part.differs;
       lower = lower;
       inside = inside;
@@ -98,7 +98,7 @@ module _ {K V : Type 0} (bytes : K → List ℕ) where
     split_at_leaf : (slot : ℕ) (k : K) (v : V) → IsPlace bytes s ctx (leaf_at slot k v) → PartAt (drop depth (bytes k)) (drop depth key) p → SplitPlace key s (leaf_name slot) p depth last
     split_at_leaf slot k v place part =
         let stored = drop depth (bytes k) in
-        let whole = behind (path_to ctx) (bytes k) depth len place.under ∙ sym (append-nil (path_to ctx ++ stored)) in
+        let whole = following (path_to ctx) (bytes k) depth len place.under ∙ sym (append-nil (path_to ctx ++ stored)) in
         split_at (leaf_at slot k v) stored place part (part_old (path_to ctx) (drop depth key) stored (bytes k) [] p whole part) (λ other. absurd (other refl))
 
     split_at_inner : (n : Name) (prefix : List ℕ) (kids : Branches K V) → IsPlace bytes s ctx (inner_at n prefix kids) → PartAt prefix (drop depth key) p → SplitPlace key s n p depth last

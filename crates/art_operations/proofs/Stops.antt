@@ -3,7 +3,7 @@ use Rattle.std.proofs.Common.{◌≡◌, ℕ, List, drop, length, Option, Some, 
 use Rattle.art_bytes.proofs.Common.{BeginsWith}
 use Rattle.art_nodes.proofs.Common.{Name}
 use Rattle.art_arena.proofs.Common.{Arena, node_at, path_to, OnWayTo, Shape, erase, leaves, steps_of, Stores, StoresAt, free, conflict, IsSubtree, Step, StoresBelow, place-subtree}
-use Rattle.art_operations.proofs.Terms.{AllConflict, EndsInside, HasConflict, IsInTheWay, IsPoint, NoConflict, IsEndAt, IsPlaceAt, answer_at, point_at, InsertKind}
+use Rattle.art_operations.proofs.Terms.{AllConflict, EndsInside, HasConflict, IsInTheWay, IsPoint, NoConflict, IsEndAt, IsPlaceAt, result_at, point_at, InsertKind}
 use Rattle.art_operations.specs.Points.{IsPlaceOrConflict}
 use Rattle.art_operations.specs.declared.insert.point.Stop.{Stop}
 use Rattle.art_operations.proofs.Points.{way_at_depth, some_conflict}
@@ -47,17 +47,17 @@ module _ {K V : Type 0} (bytes : K → List ℕ) (P : ℕ) (arena : Arena K V) (
   abbrev pub EndsThere : Option InsertKind → Type 0
   EndsThere end = (path : List ℕ) (part : Shape K V) → StoresAt bytes P arena stop.node stop.depth path part → BeginsWith path key → IsEndAt bytes key path part end
 
-  pub answered : (end : Option InsertKind) → EndsThere end → (s : Shape K V) → Stores bytes P arena root s → IsPlaceOrConflict bytes key s (answer_at root stop end)
+  pub answered : (end : Option InsertKind) → EndsThere end → (s : Shape K V) → Stores bytes P arena root s → IsPlaceOrConflict bytes key s (result_at root stop end)
   answered (Some met) is s tree = placed bytes P arena root key stop s tree (on s tree) met is
   answered None is s tree = blocked bytes P arena root key stop s tree (on s tree) is
 
-  pub refused : (end : Option InsertKind) → EndsThere end → IfErr (answer_at root stop end) (λ e. (s : Shape K V) → Stores bytes P arena root s → IsInTheWay bytes key s e.root e.part (steps_of e.path))
+  pub refused : (end : Option InsertKind) → EndsThere end → IfErr (result_at root stop end) (λ e. (s : Shape K V) → Stores bytes P arena root s → IsInTheWay bytes key s e.root e.part (steps_of e.path))
   refused (Some met) is = tt
   refused None is = λ s tree. in-the-way bytes P arena root key stop s tree (on s tree) is
 
   -- a conflict where the key ends within a prefix
   pub inside : (met : Option InsertKind) → EndsThere met → (met ≡ None → (path : List ℕ) (part : Shape K V) → StoresAt bytes P arena stop.node stop.depth path part → EndsInside (erase part) (drop stop.depth key))
-      → IfErr (answer_at root stop met) (λ e. (s : Shape K V) → Stores bytes P arena root s → (there : IsInTheWay bytes key s e.root e.part (steps_of e.path)) × EndsInside (erase there.part) (drop (length (path_to there.ctx)) key))
+      → IfErr (result_at root stop met) (λ e. (s : Shape K V) → Stores bytes P arena root s → (there : IsInTheWay bytes key s e.root e.part (steps_of e.path)) × EndsInside (erase there.part) (drop (length (path_to there.ctx)) key))
   unfolding in-the-way
   inside (Some met) is ends = tt
   inside None is ends = λ s tree.

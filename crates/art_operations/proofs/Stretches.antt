@@ -1,4 +1,4 @@
--- The leaves that a range or a prefix takes stand together: what is before them and what is behind them fails.
+-- The leaves that a range or a prefix takes stand together: what is before them and what is after them fails.
 use Rattle.std.proofs.Common.{◌≡◌, ℕ, Bool, true, false, ◌==◌, not, eqb-true, List, [], ◌∷◌, ◌++◌, refl, sym, ap, subst, ◌∙◌, inl, inr, arith}
 use Rattle.std.specs.List.{AllByRecursion}
 use Rattle.std.specs.BTreeMap.Range.{is_from_start, is_past_end, range_contains}
@@ -27,31 +27,31 @@ module _ {K V : Type 0} (bytes : K → List ℕ) where
       unmapped (r ∷ rs) h = (h.0, unmapped rs h.1)
 
   module _ (test : List ℕ → Bool) where
-    -- the leaves that pass, between those before them and those behind them
+    -- the leaves that pass, between those before them and those after them
     pub record IsStretch (ls : List (LeafAt K V)) : Type 0 where
       pub front : List (LeafAt K V)
       pub back : List (LeafAt K V)
       pub parts : ls ≡ front ++ (passing bytes test ls ++ back)
 
     module _ (convex : IsConvex test) where
-      -- behind a leaf that fails, which is behind one that passes, none passes
-      none-behind : (l r : LeafAt K V) (rs : List (LeafAt K V)) → test (bytes l.key) ≡ true → test (bytes r.key) ≡ false → IsBefore (bytes l.key) (bytes r.key)
+      -- after a leaf that fails, which is after one that passes, none passes
+      none-after : (l r : LeafAt K V) (rs : List (LeafAt K V)) → test (bytes l.key) ≡ true → test (bytes r.key) ≡ false → IsBefore (bytes l.key) (bytes r.key)
           → AllByRecursion (λ (q : LeafAt K V). IsBefore (bytes r.key) (bytes q.key)) rs → passing bytes test rs ≡ []
-      none-behind l r [] on off before h = refl
-      none-behind l r (q ∷ qs) on off before h = here (test (bytes q.key)) refl (none-behind l r qs on off before h.1)
+      none-after l r [] on off before h = refl
+      none-after l r (q ∷ qs) on off before h = here (test (bytes q.key)) refl (none-after l r qs on off before h.1)
         where
           here : (b : Bool) → test (bytes q.key) ≡ b → passing bytes test qs ≡ [] → passing bytes test (q ∷ qs) ≡ []
           here true t rest = let e = convex (bytes l.key) (bytes r.key) (bytes q.key) before h.0 on t in absurd (cc)
           here false t rest = rw t rest
 
-      -- behind a leaf that passes
+      -- after a leaf that passes
       stretch-on : (l : LeafAt K V) (ls : List (LeafAt K V)) → test (bytes l.key) ≡ true → AscendsByKey (λ (m : LeafAt K V). bytes m.key) (l ∷ ls) → (back : List (LeafAt K V)) × (ls ≡ passing bytes test ls ++ back)
       stretch-on l [] on up = ([], refl)
       stretch-on l (r ∷ rs) on up = here (test (bytes r.key)) refl (λ t. stretch-on r rs t up.1)
         where
           here : (b : Bool) → test (bytes r.key) ≡ b → (test (bytes r.key) ≡ true → (back : List (LeafAt K V)) × (rs ≡ passing bytes test rs ++ back)) → (back : List (LeafAt K V)) × (r ∷ rs ≡ passing bytes test (r ∷ rs) ++ back)
           here true t rest = let e = rest t in (e.0, rw t (ap (λ xs. r ∷ xs) e.1))
-          here false t rest = (r ∷ rs, rw t (ap (λ xs. xs ++ r ∷ rs) (sym (none-behind l r rs on t up.0.0 up.1.0))))
+          here false t rest = (r ∷ rs, rw t (ap (λ xs. xs ++ r ∷ rs) (sym (none-after l r rs on t up.0.0 up.1.0))))
 
       pub stretch : (ls : List (LeafAt K V)) → AscendsByKey (λ (l : LeafAt K V). bytes l.key) ls → IsStretch ls
       stretch [] up = record { front = []; back = []; parts = refl }
@@ -61,7 +61,7 @@ module _ {K V : Type 0} (bytes : K → List ℕ) where
           here true t rest later = let e = rest t in record { front = []; back = e.0; parts = rw t (ap (λ xs. l ∷ xs) e.1) }
           here false t rest later = record { front = l ∷ later.front; back = later.back; parts = rw t (ap (λ xs. l ∷ xs) later.parts) }
 
--- what is behind a key that isn't below a bound's is above it
+-- what is after a key that isn't below a bound's is above it
 above_bound : (a k l : List ℕ) → is_le (bytes_cmp a k) ≡ true → IsBefore k l → bytes_cmp a l ≡ Less
 above_bound a k l le h = here (bytes_cmp a k) refl
   where

@@ -95,12 +95,12 @@ module _ {K V : Type 0} (bytes : K → List ℕ) (P : ℕ) {rest : List (Name ×
     pub one_other : IsOther node.children byte (one.edge, name_of one.here)
     one_other = subst (λ b. IsOther node.children b (one.edge, name_of one.here)) there.under one.other
 
-    -- and stands behind more bytes than the prefix of the node
+    -- and stands after more bytes than the prefix of the node
     pub shorter : node.header.prefix_len < length (other_path bytes P old there.frame there.outer there.part there.held one)
     shorter = omega (arith, length-append (path_to there.outer ++ there.frame.prefix) (one.edge ∷ []), length-append (path_to there.outer) there.frame.prefix)
 
     module _ (mid new : Arena K V) (lengthens : Lengthens P old mid node one.edge (name_of one.here)) (gone : UpdatesAt (held_at mid) (held_at new) parent None) where
-      -- behind the longer prefix it stands for the node
+      -- after the longer prefix it stands for the node
       pub merged_out : StandsFor bytes P new rest there.frame there.outer there.part (name_of one.here)
       merged_out =
           merged bytes P old there.frame there.outer there.part there.held one mid new lengthens (subst (λ n. UpdatesAt (held_at mid) (held_at new) n None) (sym there.named) gone)

@@ -1,10 +1,10 @@
 -- The words of this crate that its proofs and those above name, from one place.
 pub use Rattle.art_operations.specs.Bounds.{AreEndsWhere, slot_inside}
-pub use Rattle.art_operations.specs.Builders.{Builds, BuildsTo, BuildsUpTo, GoesBehind, HasRoomBeside, HasRoomToPush, IsPushRefused}
+pub use Rattle.art_operations.specs.Builders.{Builds, BuildsTo, BuildsUpTo, IsAfterAll, HasRoomBeside, HasRoomToPush, IsPushRefused}
 pub use Rattle.art_operations.specs.Commands.{AreAnswered, IsAnswered, after, clones_in, pairs_after, with_clone}
 pub use Rattle.art_operations.specs.DeletePoints.{IsLeafPlace}
 pub use Rattle.art_operations.specs.Deletions.{HasLeaves, HasLeavesBeside, IsAmong, IsDeletedBeside}
-pub use Rattle.art_operations.specs.Frees.{HoldsBeside, HoldsInnerBeside, HoldsRun, KeepsAllBut, cells_with, cells_with_in, inner_cells, leaf_cells}
+pub use Rattle.art_operations.specs.Frees.{FreesLeaves, HoldsBeside, HoldsInnerBeside, HoldsRun, KeepsAllBut, cells_with, cells_with_in, inner_cells, leaf_cells}
 pub use Rattle.art_operations.specs.Insertions.{IsForConflict, IsInsertedBeside, IsPairRefused, IsPutOrReplaced, IsReplaced}
 pub use Rattle.art_operations.specs.KeyedLists.{HasKey, IsBlocked, overlapping, overlaps, with_key, without_key, without_overlapping}
 pub use Rattle.art_operations.specs.LeafCursors.{HasInserted, HasMoved, HasPutIn, HasRemoved, KeepsCells, KeepsInnerRoom, StandsAhead, StandsAtPlace, StandsBelow, StandsBetween, StandsInList}
@@ -36,7 +36,7 @@ pub use Rattle.art_operations.specs.declared.prefix_insert.result.PrefixInsertRe
 pub use Rattle.art_operations.specs.declared.running.Answer.{Answer}
 pub use Rattle.art_operations.specs.declared.running.Answer.TheVariants.{Done, Prefix}
 pub use Rattle.art_operations.specs.declared.running.Command.TheVariants.{Clone, Delete, Insert, PrefixInsert}
-pub use Rattle.art_operations.specs.inner.Cursors.{HasMovedOne, HasPassed, HasReplaced, HasStoredLast, HoldsFrom, IsListTo, StandsParted, StopsBehindLess}
+pub use Rattle.art_operations.specs.inner.Cursors.{HasMovedOne, HasPassed, HasReplaced, HasStoredLast, HoldsFrom, IsListTo, StandsParted, StopsAfterLess}
 pub use Rattle.art_operations.specs.inner.Detached.{IsApart, IsChildPart, IsDetached, IsHeldAt, StandsFor}
 pub use Rattle.art_operations.specs.inner.Edits.{AllocatesBoth, IsLastOf, StandsAround, lone_leaf}
 pub use Rattle.art_operations.specs.inner.Freeing.{AreFirst, FreesRoot, HoldsBoth, HoldsOneLess, HoldsPart, IsBottom, IsChildIn, IsChildless, step_in}
@@ -44,9 +44,9 @@ pub use Rattle.art_operations.specs.inner.Meetings.{Meets}
 pub use Rattle.art_operations.specs.inner.Nearest.{Compare, IsNearest, bound_at, takes}
 pub use Rattle.art_operations.specs.inner.Rebuilding.{CanPass, CanPassAt, HasNodeRoom, HasPlaces, HasSpineRoom, IsFresh, RebuildsUpTo}
 pub use Rattle.art_operations.specs.inner.Removals.{EditsNode, IsOther, Lengthens, LosesKind, Moves, PutsBack, lengthened}
-pub use Rattle.art_operations.specs.inner.Runs.{HasClones, IsCarriedOut, IsDone}
+pub use Rattle.art_operations.specs.inner.Runs.{HasClones, IsExecuted, IsDone}
 pub use Rattle.art_operations.specs.inner.Spines.{AddsChild, AreOpen, HasSpine, IsEmptySpine, IsOpen, IsSpine, Level, begin, begin_of, inner_over, open_at, open_cells, open_children, open_leaves, opened}
 pub use Rattle.art_operations.specs.inner.Splits.{IsBetween, IsEnd, PartsFrom, root_cell, split_node, trimmed, with_prefix}
 pub use Rattle.art_operations.specs.inner.Unmade.{HasRoomAround, kind_over, noted_before, one_of, unmade}
 pub use Rattle.art_operations.specs.inner.Waiting.{AreNeighbours, AwaitsLeaf}
-pub use Rattle.art_operations.specs.inner.Ways.{EndsInside, IsWayAtInner, IsWayAtLeaf, IsEndAt, IsPlaceAt, IsWay, answer_at, met_by, point_at}
+pub use Rattle.art_operations.specs.inner.SearchEnds.{EndsInside, IsEndAtInner, IsEndAtLeaf, IsEndAt, IsPlaceAt, IsSearchEnd, result_at, met_by, point_at}

@@ -41,11 +41,11 @@ one-most kind n = elim (same_kind_tells kind (kind_over n)) [ inl same ↦ rw sa
 pub not-leaf : (kind : NodeType) (n : ℕ) → IsKindOf kind n → Leaf ≢ kind
 not-leaf kind n is e = let at = subst (λ k. IsKindOf k n) (sym e) is in let two = at.two in let most = at.most in omega (arith, two, most)
 
--- one node more is open, behind the others
-pub unmade-behind : (kind : NodeType) (noted : ℕ) (nodes : List Open) (o : Open) → unmade kind noted (nodes ++ o ∷ []) ≡ unmade kind o.first nodes + one_of kind (suc (noted - o.first))
-unmade-behind kind noted [] o = omega arith
-unmade-behind kind noted (p ∷ []) o = let later = unmade-behind kind noted [] o in omega (arith, later)
-unmade-behind kind noted (p ∷ q ∷ nodes) o = let later = unmade-behind kind noted (q ∷ nodes) o in omega (arith, later)
+-- one node more is open, after the others
+pub unmade-after : (kind : NodeType) (noted : ℕ) (nodes : List Open) (o : Open) → unmade kind noted (nodes ++ o ∷ []) ≡ unmade kind o.first nodes + one_of kind (suc (noted - o.first))
+unmade-after kind noted [] o = omega arith
+unmade-after kind noted (p ∷ []) o = let later = unmade-after kind noted [] o in omega (arith, later)
+unmade-after kind noted (p ∷ q ∷ nodes) o = let later = unmade-after kind noted (q ∷ nodes) o in omega (arith, later)
 
 -- one child more is noted, for the last of them
 unmade-noted : (kind : NodeType) (noted : ℕ) (nodes : List Open) → unmade kind (suc noted) nodes ≤ suc (unmade kind noted nodes)
@@ -116,7 +116,7 @@ module _ {K V : Type 0} where
       let two = is.two in
       let count : suc (length was.children.items - top.first) ≡ own = omega (arith, all, two) in
       let split : unmade other (length was.children.items) was.stack.items ≡ u + one_of other own =
-      ap (unmade other (length was.children.items)) stack ∙ unmade-behind other (length was.children.items) now.stack.items top ∙ ap₂ (λ f c. unmade other f now.stack.items + one_of other c) (sym left) count in
+      ap (unmade other (length was.children.items)) stack ∙ unmade-after other (length was.children.items) now.stack.items top ∙ ap₂ (λ f c. unmade other f now.stack.items + one_of other c) (sym left) count in
       let there : HasRoomOf old other (n + (u + one_of other own)) = subst (λ m. HasRoomOf old other (n + m)) split (room other) in
       elim (same_kind_tells other kind) [
         | inl same ↦
@@ -126,8 +126,8 @@ module _ {K V : Type 0} where
       ]
 
   -- a child is noted, and a node opened for it if there is none
-  pub around-added : (arena : Arena K V) (was now : Spine) (behind n : ℕ) (child : ℕ × Name) → AddsChild behind child was now → HasRoomAround arena was (suc n) → HasRoomAround arena now n
-  around-added arena was now behind n child adds room = λ kind.
+  pub around-added : (arena : Arena K V) (was now : Spine) (following n : ℕ) (child : ℕ × Name) → AddsChild following child was now → HasRoomAround arena was (suc n) → HasRoomAround arena now n
+  around-added arena was now following n child adds room = λ kind.
       let noted : length now.children.items ≡ suc (length was.children.items) = ap length adds.children ∙ length-append was.children.items (child ∷ []) ∙ omega arith in
       let few : unmade kind (suc (length was.children.items)) now.stack.items ≤ suc (unmade kind (length was.children.items) was.stack.items) = grows kind in
       fewer-room arena kind (n + unmade kind (length now.children.items) now.stack.items) (suc n + unmade kind (length was.children.items) was.stack.items)
@@ -136,9 +136,9 @@ module _ {K V : Type 0} where
       before : ℕ
       before = length was.children.items
 
-      opens : (kind : NodeType) → now.stack.items ≡ was.stack.items ++ record { behind = behind; first = before } ∷ [] → unmade kind (suc before) now.stack.items ≤ suc (unmade kind before was.stack.items)
+      opens : (kind : NodeType) → now.stack.items ≡ was.stack.items ++ record { child_depth = following; first = before } ∷ [] → unmade kind (suc before) now.stack.items ≤ suc (unmade kind before was.stack.items)
       opens kind stack =
-          let split = ap (unmade kind (suc before)) stack ∙ unmade-behind kind (suc before) was.stack.items (record { behind = behind; first = before }) in
+          let split = ap (unmade kind (suc before)) stack ∙ unmade-after kind (suc before) was.stack.items (record { child_depth = following; first = before }) in
           let few = one-most kind (suc (suc before - before)) in
           omega (arith, split, few)
 
@@ -149,4 +149,4 @@ module _ {K V : Type 0} where
           omega (arith, same, few)
 
       grows : (kind : NodeType) → unmade kind (suc before) now.stack.items ≤ suc (unmade kind before was.stack.items)
-      grows kind = elim (leb_tells behind (begin_of 0 was.stack.items)) [ inl there ↦ stays kind (adds.stack ∙ rw there.0 refl) | inr deeper ↦ opens kind (adds.stack ∙ rw deeper.0 refl) ]
+      grows kind = elim (leb_tells following (begin_of 0 was.stack.items)) [ inl there ↦ stays kind (adds.stack ∙ rw there.0 refl) | inr deeper ↦ opens kind (adds.stack ∙ rw deeper.0 refl) ]

@@ -6,15 +6,17 @@ use Rattle.std.specs.declared.ops.Bound.TheVariants.{Excluded, Unbounded}
 use Rattle.art_nodes.proofs.Common.{InnerNode, child_at, first_child, last_child, children_between, with_child, with_children, Name}
 use Rattle.art_nodes.specs.declared.kind.NodeType.TheVariants.{Leaf}
 use Rattle.art_nodes.specs.declared.leaf.LeafNode.{LeafNode}
-use Rattle.art_arena.proofs.Common.{Arena, inner_held, held_as, as_leaf, held_at, node_at, links_at, Cell, pair, branches, leaf_name, UpdatesAt, Holds, Frame, AreBelow, plug, path_to, frame_cell, leaves_before, leaves_after, cells_before, cells_after, IsKindOf, first_slot, last_slot, AreLinked, IsPart, IsSubtree, IsNodesBeside, IsTreeBeside, Shape, Branches, leaf_at, no_branch, branch, LeafAt, name_of, children_at, join, width, leaves, leaves_in, cells, cells_in, AreUnder, all_left, all_right, copies-append, Holds-same, Holds-write, leaves_in-join, cells_in-join, width-join, leaves-plug, length-children, with_child-opening, IsNodesBeside-plug, inner_of, branch-first, branch-last, has_last, AreUnder-here, nodes-update, links-kept, AreLinked-same}
+use Rattle.art_arena.proofs.Common.{Arena, inner_held, held_as, as_leaf, held_at, node_at, links_at, Cell, pair, branches, leaf_name, UpdatesAt, Holds, Frame, AreBelow, plug, path_to, frame_cell, leaves_before, leaves_after, cells_before, cells_after, IsKindOf, first_slot, last_slot}
+use Rattle.art_arena.proofs.Common.{AreLinked, IsPart, IsSubtree, IsNodesBeside, IsTreeBeside, Shape, Branches, leaf_at, no_branch, branch, LeafAt, name_of, children_at, join, width, leaves, leaves_in, cells, cells_in, AreUnder, all_left, all_right, copies-append, Holds-same, Holds-write}
+use Rattle.art_arena.proofs.Common.{leaves_in-join, cells_in-join, width-join, leaves-plug, length-children, with_child-opening, IsNodesBeside-plug, inner_of, branch-first, branch-last, has_last, AreUnder-here, nodes-update, links-kept, AreLinked-same}
 use Rattle.art_operations.proofs.FreedSizes.{at_most_one}
 use Rattle.art_operations.proofs.Terms.{AwaitsLeaf}
-use Rattle.art_operations.proofs.Door.{read_at}
+use Rattle.art_operations.proofs.NodesRead.{read_at}
 use Rattle.art_operations.proofs.NewLeaves.{first_of_longer, last_of_longer}
 
 -- appended lists, grouped in another way
-regroup_behind : {X : Type 0} (xs bs ts rs cs ds : List X) (n l : X) → xs ++ (n ∷ (bs ++ (l ∷ (((ts ++ rs) ++ cs) ++ ds)))) ≡ (xs ++ (n ∷ (bs ++ (l ∷ [])))) ++ (ts ++ (rs ++ (cs ++ ds)))
-regroup_behind xs bs ts rs cs ds n l = simp append_assoc
+regroup_after : {X : Type 0} (xs bs ts rs cs ds : List X) (n l : X) → xs ++ (n ∷ (bs ++ (l ∷ (((ts ++ rs) ++ cs) ++ ds)))) ≡ (xs ++ (n ∷ (bs ++ (l ∷ [])))) ++ (ts ++ (rs ++ (cs ++ ds)))
+regroup_after xs bs ts rs cs ds n l = simp append_assoc
 
 pub regroup_front : {X : Type 0} (xs bs ts cs : List X) (n : X) → xs ++ (n ∷ ((bs ++ ts) ++ cs)) ≡ (xs ++ (n ∷ bs)) ++ (ts ++ cs)
 regroup_front xs bs ts cs n = simp append_assoc
@@ -28,9 +30,9 @@ module _ {K V : Type 0} where
       none None h = cc
       none (Some leaf) h = cc
 
-  none-behind : (kids : Branches K V) → first_child (children_at kids) ≡ None → kids ≡ no_branch
-  none-behind no_branch e = refl
-  none-behind (branch b s rest) e = absurd (cc)
+  none-after : (kids : Branches K V) → first_child (children_at kids) ≡ None → kids ≡ no_branch
+  none-after no_branch e = refl
+  none-after (branch b s rest) e = absurd (cc)
 
   -- the node of a frame with nothing at its place
   abbrev pub open_node : ℕ → Frame K V → InnerNode
@@ -56,13 +58,13 @@ module _ {K V : Type 0} (bytes : K → List ℕ) where
     | inr less ↦ absurd (omega (arith, less.1, under.0, above))
   ]
 
-  -- the children above an opening are the branches behind it
-  pub children_behind : (path : List ℕ) (b : ℕ) (before after : Branches K V) → AreBelow b before → AreUnder bytes path (b + 1) after
+  -- the children above an opening are the branches after it
+  pub children_after : (path : List ℕ) (b : ℕ) (before after : Branches K V) → AreBelow b before → AreUnder bytes path (b + 1) after
       → children_between (Excluded b) Unbounded (children_at (join before after)) ≡ children_at after
-  children_behind path b no_branch after below under = none_above path b (b + 1) after under (omega arith)
-  children_behind path b (branch c s before) after below under = elim (leb_tells (suc b) c) [
+  children_after path b no_branch after below under = none_above path b (b + 1) after under (omega arith)
+  children_after path b (branch c s before) after below under = elim (leb_tells (suc b) c) [
     | inl more ↦ absurd (omega (arith, more.1, below.0))
-    | inr less ↦ rw less.0 (children_behind path b before after below.1 under)
+    | inr less ↦ rw less.0 (children_after path b before after below.1 under)
   ]
 
   none_below : (path : List ℕ) (b low : ℕ) (after : Branches K V) → AreUnder bytes path low after → b + 1 ≤ low → children_between Unbounded (Excluded b) (children_at after) ≡ []
@@ -118,20 +120,20 @@ module _ {K V : Type 0} (bytes : K → List ℕ) (P : ℕ) {rest : List (Name ×
   has_few most (inl few) = omega (arith, few, as_many)
   has_few most (inr some) = let none = rw none_under_byte at some in absurd (cc)
 
-  behind : children_between (Excluded byte) Unbounded (open_node P f).children ≡ children_at f.after
-  behind = subst (λ b. children_between (Excluded b) Unbounded (children_at (join f.before f.after)) ≡ children_at f.after) awaits.byte_is (children_behind bytes (path_to outer ++ f.prefix) f.byte f.before f.after awaits.below awaits.after_under)
+  following : children_between (Excluded byte) Unbounded (open_node P f).children ≡ children_at f.after
+  following = subst (λ b. children_between (Excluded b) Unbounded (children_at (join f.before f.after)) ≡ children_at f.after) awaits.byte_is (children_after bytes (path_to outer ++ f.prefix) f.byte f.before f.after awaits.below awaits.after_under)
 
   in_front : children_between Unbounded (Excluded byte) (open_node P f).children ≡ children_at f.before
   in_front = subst (λ b. children_between Unbounded (Excluded b) (children_at (join f.before f.after)) ≡ children_at f.before) awaits.byte_is (children_in_front bytes (path_to outer ++ f.prefix) f.byte f.before f.after awaits.below awaits.after_under)
 
   -- what was read of the node is so of it
-  seen_behind : (seen : InnerNode) → held_at arena node ≡ Some (inner_held seen) → (r : Option (ℕ × Name)) → r ≡ first_child (children_between (Excluded byte) Unbounded seen.children) → r ≡ first_child (children_at f.after)
-  seen_behind seen there r e = read_at (λ m. first_child (children_between (Excluded byte) Unbounded m.children)) (held_at arena node) (open_node P f) seen node-held there r e ∙ ap first_child behind
+  seen_after : (seen : InnerNode) → held_at arena node ≡ Some (inner_held seen) → (r : Option (ℕ × Name)) → r ≡ first_child (children_between (Excluded byte) Unbounded seen.children) → r ≡ first_child (children_at f.after)
+  seen_after seen there r e = read_at (λ m. first_child (children_between (Excluded byte) Unbounded m.children)) (held_at arena node) (open_node P f) seen node-held there r e ∙ ap first_child following
 
   seen_in_front : (seen : InnerNode) → held_at arena node ≡ Some (inner_held seen) → (r : Option (ℕ × Name)) → r ≡ last_child (children_between Unbounded (Excluded byte) seen.children) → r ≡ last_child (children_at f.before)
   seen_in_front seen there r e = read_at (λ m. last_child (children_between Unbounded (Excluded byte) m.children)) (held_at arena node) (open_node P f) seen node-held there r e ∙ ap last_child in_front
 
-  -- a child is the root of a subtree, whose first leaf comes first behind the place, or whose last one comes last in front of it
+  -- a child is the root of a subtree, whose first leaf comes first after the place, or whose last one comes last in front of it
   pub record IsNext (child : Name) : Type 0 where
     pub path : List ℕ
     pub part : Shape K V
@@ -140,12 +142,12 @@ module _ {K V : Type 0} (bytes : K → List ℕ) (P : ℕ) {rest : List (Name ×
 
   pub next : (seen : InnerNode) → held_at arena node ≡ Some (inner_held seen) → (r : Option (ℕ × Name)) → r ≡ first_child (children_between (Excluded byte) Unbounded seen.children) → (c : ℕ × Name) → r ≡ Some c → IsNext c.1
   next seen there_seen r e c found =
-      let b = branch-first f.after c (sym (seen_behind seen there_seen r e) ∙ found) in
+      let b = branch-first f.after c (sym (seen_after seen there_seen r e) ∙ found) in
       let under = subst (AreUnder bytes (path_to outer ++ f.prefix) (f.byte + 1)) b.2 awaits.after_under in
       let there = subst (λ xs. Holds (node_at arena) (cells_before P outer f.name ++ ((f.name, branches (open_node P f)) ∷ (cells_in P f.before ++ ((leaf_name l.slot, pair l.key l.value) ∷ ((xs ++ cells_after P outer) ++ rest))))))
       (ap (cells_in P) b.2) awaits.holds in
       let part = part-within P (node_at arena) _ (cells_in P b.1 ++ (cells_after P outer ++ rest)) b.0
-      (subst (Holds (node_at arena)) (regroup_behind (cells_before P outer f.name) (cells_in P f.before) (cells P b.0) (cells_in P b.1) (cells_after P outer) rest _ _) there) in
+      (subst (Holds (node_at arena)) (regroup_after (cells_before P outer f.name) (cells_in P f.before) (cells P b.0) (cells_in P b.1) (cells_after P outer) rest _ _) there) in
       record {
         path = (path_to outer ++ f.prefix) ++ c.0 ∷ [];
         part = b.0;
@@ -181,7 +183,7 @@ module _ {K V : Type 0} (bytes : K → List ℕ) (P : ℕ) {rest : List (Name ×
   pub some_child : (seen : InnerNode) → held_at arena node ≡ Some (inner_held seen) → (p n : Option (ℕ × Name)) → p ≡ last_child (children_between Unbounded (Excluded byte) seen.children)
       → n ≡ first_child (children_between (Excluded byte) Unbounded seen.children) → p ≡ None → n ≡ None → ⊥
   some_child seen there p n before after none none_after =
-      let alone : f.after ≡ no_branch = none-behind f.after (sym (seen_behind seen there n after) ∙ none_after) in
+      let alone : f.after ≡ no_branch = none-after f.after (sym (seen_after seen there n after) ∙ none_after) in
       let wide : 2 ≤ width f.before + width f.after = awaits.two in
       let narrow : width f.after ≡ 0 = ap width alone in
       let some = rw (sym (seen_in_front seen there p before) ∙ none) at (has_last f.before (omega (arith, wide, narrow))) in absurd (cc)

@@ -3,7 +3,8 @@ use Rattle.std.proofs.Common.{◌≡◌, ◌≢◌, ℕ, suc, ◌+◌, ◌<◌, 
 use Rattle.std.proofs.lemmas.Bool.{cond-true, cond-false}
 use Rattle.art_bytes.proofs.Common.{BeginsWith, Conflict}
 use Rattle.art_nodes.proofs.Common.{child_at}
-use Rattle.art_arena.proofs.Common.{AreAround, AreBelow, AreUnder, Shape, Branches, Frame, Tree, drop-front, fill, plug, path_to, join, branch, no_branch, inner_at, leaf_at, erase, erase_in, children_at, one_byte, is_before, IsPlace, LeafAt, key_of, leaves, leaves_after, leaves_before, leaves-plug, items, items-erase, some_leaf, all_left, all_right, pairs_of, passing, begins_with, begins_true, begins_false, bytes_from_same}
+use Rattle.art_arena.proofs.Common.{AreAround, AreBelow, AreUnder, Shape, Branches, Frame, Tree, drop-front, fill, plug, path_to, join, branch, no_branch, inner_at, leaf_at, erase, erase_in, children_at, one_byte, is_before, IsPlace, LeafAt, key_of, leaves, leaves_after, leaves_before}
+use Rattle.art_arena.proofs.Common.{leaves-plug, items, items-erase, some_leaf, all_left, all_right, pairs_of, passing, begins_with, begins_true, begins_false, bytes_from_same}
 use Rattle.art_arena.proofs.tree.Distinct.{same_bytes}
 use Rattle.art_arena.specs.declared.ends.End.TheVariants.{First, Last}
 use Rattle.art_arena.proofs.Terms.{Stops, differs, ends, end_path, pass, passes, way_end, way_of}
@@ -64,7 +65,7 @@ module _ {K V : Type 0} where
   above-none byte (branch b s before) below = rw (le-ltb byte b (omega (arith, below.0))) (above-none byte before below.1)
 
 module _ {K V : Type 0} (bytes : K → List ℕ) (key : List ℕ) where
-  -- behind the frames of a place the way goes on in the part that stands there
+  -- after the frames of a place the way goes on in the part that stands there
   way-below : (ctx : List (Frame K V)) (part : Shape K V) → AreAround bytes ctx → BeginsWith (path_to ctx) key → way_end (erase (plug ctx part)) key ≡ way_end (erase part) (drop (length (path_to ctx)) key)
   way-below [] part around begins = refl
   way-below (f ∷ outer) part around (more, e) =
@@ -89,8 +90,14 @@ module _ {K V : Type 0} (bytes : K → List ℕ) (key : List ℕ) where
         → (way_end (tree.inner prefix children) (drop (length path) key) ≡ (tree.inner prefix children, drop (length path) key))
         × (near_reads (tree.inner prefix children, drop (length path) key) ≡ length (end_path (if nat_lt parted.new_byte parted.old_byte then First else Last) (tree.inner prefix children)))
     parted-ends prefix children parted part =
-        let apart : pass prefix (drop (length path) key) ≡ differs = subst (λ p. pass p (drop (length path) key) ≡ differs) (sym part.old_is) (subst (λ k. pass (part.front ++ parted.old_byte ∷ part.old_rest) k ≡ differs) (sym part.new_is) (pass_differs part.front part.old_rest part.new_rest parted.old_byte parted.new_byte part.differs)) in
-        let before : is_before (drop (length path) key) prefix ≡ nat_lt parted.new_byte parted.old_byte = subst (λ p. is_before (drop (length path) key) p ≡ nat_lt parted.new_byte parted.old_byte) (sym part.old_is) (subst (λ k. is_before k (part.front ++ parted.old_byte ∷ part.old_rest) ≡ nat_lt parted.new_byte parted.old_byte) (sym part.new_is) (before_byte part.front part.old_rest part.new_rest parted.old_byte parted.new_byte part.differs)) in
+        let apart : pass prefix (drop (length path) key)
+        ≡ differs = subst (λ p. pass p (drop (length path) key) ≡ differs) (sym part.old_is)
+        (subst (λ k. pass (part.front ++ parted.old_byte ∷ part.old_rest) k ≡ differs) (sym part.new_is)
+        (pass_differs part.front part.old_rest part.new_rest parted.old_byte parted.new_byte part.differs)) in
+        let before : is_before (drop (length path) key) prefix
+        ≡ nat_lt parted.new_byte parted.old_byte = subst (λ p. is_before (drop (length path) key) p ≡ nat_lt parted.new_byte parted.old_byte)
+        (sym part.old_is) (subst (λ k. is_before k (part.front ++ parted.old_byte ∷ part.old_rest) ≡ nat_lt parted.new_byte parted.old_byte)
+        (sym part.new_is) (before_byte part.front part.old_rest part.new_rest parted.old_byte parted.new_byte part.differs)) in
         (rw apart refl, rw (near_reads, apart, before) refl)
 
     pub missing-stops : (n : _) (prefix : List ℕ) (kids : Branches K V) (byte : ℕ) → child_at (children_at kids) byte ≡ None → BeginsWith ((path ++ prefix) ++ byte ∷ []) key → Stops bytes key path (inner_at n prefix kids)

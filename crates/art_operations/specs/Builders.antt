@@ -13,19 +13,19 @@ use Rattle.art_operations.specs.inner.Spines.{Level, AreOpen, IsEmptySpine, open
 use Rattle.art_operations.specs.inner.Spines.{opened}
 use Rattle.art_operations.specs.inner.Unmade.{HasRoomAround}
 use Rattle.art_operations.specs.declared.build.PushRefused.{PushRefused}
-use Rattle.art_operations.specs.declared.build.PushRefused.TheVariants.{NotBehind, Memory}
+use Rattle.art_operations.specs.declared.build.PushRefused.TheVariants.{NotAfter, Memory}
 use Rattle.art_operations.specs.declared.build.TreeBuilder.{TreeBuilder}
 use Rattle.art_operations.specs.declared.build.spine.Spine.{Spine}
 
--- a refusal hands this key and this value back, and it is for the place exactly where this isn't behind all
+-- a refusal hands this key and this value back, and it is for the place exactly where this isn't after all
 abbrev pub IsPushRefused : {K V : Type 0} → K → V → Type 0 → PushRefused K V → Type 0
-IsPushRefused key value IsBehind (NotBehind k v) = (k ≡ key) × (v ≡ value) × (IsBehind → ⊥)
-IsPushRefused key value IsBehind (Memory k v) = (k ≡ key) × (v ≡ value) × IsBehind
+IsPushRefused key value IsAfter (NotAfter k v) = (k ≡ key) × (v ≡ value) × (IsAfter → ⊥)
+IsPushRefused key value IsAfter (Memory k v) = (k ≡ key) × (v ≡ value) × IsAfter
 
 module _ {K V : Type 0} (bytes : K → List ℕ) where
-  -- the key goes behind those of all pairs: each parts from it, and goes on by a smaller byte
-  abbrev pub GoesBehind : List ℕ → List (K × V) → Type 0
-  GoesBehind key pairs = AllByRecursion (λ p. IsBefore (bytes p.0) key) pairs
+  -- the key goes after those of all pairs: each parts from it, and goes on by a smaller byte
+  abbrev pub IsAfterAll : List ℕ → List (K × V) → Type 0
+  IsAfterAll key pairs = AllByRecursion (λ p. IsBefore (bytes p.0) key) pairs
 
   module _ (P : ℕ) (arena : Arena K V) where
     -- The arena holds the parts of the tree that are made, with the last leaf, and nothing else. The leaves are linked

@@ -1,7 +1,8 @@
 -- What is freed, and what stays.
-use Rattle.std.specs.Prelude.{◌≡◌, ℕ, Bool, false, if◌then◌else◌, List, [], ◌∷◌, ◌++◌, map, Option, Some, None}
+use Rattle.std.specs.Prelude.{◌≡◌, ℕ, ◌+◌, Bool, false, if◌then◌else◌, List, [], ◌∷◌, ◌++◌, map, Option, Some, None}
 use Rattle.art_nodes.specs.Name.{Name}
-use Rattle.art_arena.specs.arena.Arena.{Arena, node_at, links_at, held_at}
+use Rattle.art_nodes.specs.declared.kind.NodeType.TheVariants.{Leaf}
+use Rattle.art_arena.specs.arena.Arena.{Arena, node_at, links_at, held_at, HasRoomOf}
 use Rattle.art_arena.specs.arena.Cells.{Cell, pair, leaf_name, copies, Holds}
 use Rattle.art_arena.specs.arena.Linked.{AreLinked, first_slot, last_slot}
 use Rattle.art_arena.specs.arena.Shapes.{Shape, Branches, leaf_at, inner_at, no_branch, branch, LeafAt, name_of}
@@ -15,6 +16,10 @@ module _ {K V : Type 0} where
   -- each name that isn't one of these cells' has the node that it had, a leaf its links too
   abbrev pub KeepsAllBut : List (Name × Cell K V) → Arena K V → Arena K V → Type 0
   KeepsAllBut cs old new = (n : Name) → copies n cs ≡ 0 → held_at new n ≡ held_at old n
+
+  -- there is room for so many more leaves than before
+  abbrev pub FreesLeaves : ℕ → Arena K V → Arena K V → Type 0
+  FreesLeaves count old new = (n : ℕ) → HasRoomOf old Leaf n → HasRoomOf new Leaf (n + count)
 
 module _ {K V : Type 0} (P : ℕ) where
   -- the cells that the shape's nodes take, those of its leaves among them or not

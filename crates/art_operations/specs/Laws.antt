@@ -32,7 +32,7 @@ HasFewInnerNodes X = (key : X → List ℕ) (pairs : List X) → AscendsByKey ke
     → (test : ℕ → Bool) → inner_count test (tree_of key pairs) ≤ length pairs - 1
 
 -- Whatever number of bytes the keys of a canonical tree have at most, its counts are few by it: those of a key's place,
--- of an end of a range, of a range, and of the part behind a front.
+-- of an end of a range, of a range, and of the part with a front.
 abbrev pub CountsAreFew : (X : Type 0) → Type 0
 CountsAreFew X = (key : X → List ℕ) (t : Tree X) → IsCanonical key [] t → (longest : ℕ)
     → AllByRecursion (λ x. length (key x) ≤ longest) (items t) → (P : ℕ)

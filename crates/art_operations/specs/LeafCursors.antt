@@ -10,7 +10,7 @@ use Rattle.art_arena.specs.arena.Cells.{Cell}
 use Rattle.art_arena.specs.arena.Linked.{first_slot, last_slot}
 use Rattle.art_arena.specs.arena.Shapes.{LeafAt, pairs_of, key_of}
 use Rattle.art_arena.specs.tree.Order.{AscendsByKey}
-use Rattle.art_operations.specs.Builders.{GoesBehind}
+use Rattle.art_operations.specs.Builders.{IsAfterAll}
 use Rattle.art_operations.specs.KeyedLists.{with_key}
 use Rattle.art_operations.specs.LeafLists.{HoldsLeaves}
 use Rattle.art_operations.specs.Pairs.{with_pair_put}
@@ -32,7 +32,7 @@ module _ {K V : Type 0} (arena : Arena K V) (cursor : LeafCursor) where
     pub before : last_slot None front ≡ cursor.before
     pub after : first_slot back None ≡ cursor.after
 
-  -- a leaf of this pair stands now before the cursor, behind the first part
+  -- a leaf of this pair stands now before the cursor, after the first part
   abbrev pub HasInserted : K → V → List (LeafAt K V) → List (LeafAt K V) → Type 0
   HasInserted key value front back =
       (slot : ℕ) × StandsBetween (front ++ record { slot = slot; key = key; value = value } ∷ []) back
@@ -45,7 +45,7 @@ module _ {K V : Type 0} (arena : Arena K V) (cursor : LeafCursor) where
       × StandsBetween rest back
 
 -- The last leaves of the list, so many, stand in the other arena now, under new names, linked from this one on. The
--- cursor stands behind the others.
+-- cursor stands after the others.
 pub record HasMoved {K V : Type 0} (from : Arena K V) (cursor : LeafCursor) (to : Arena K V) (first : Option ℕ)
     (count : ℕ) (ls : List (LeafAt K V)) : Type 0 where
   pub left : List (LeafAt K V)
@@ -70,22 +70,22 @@ module _ {K V : Type 0} (arena : Arena K V) (cursor : LeafCursor) where
     -- and the keys of all before it come before this one
     pub record StandsBelow (pairs : List (K × V)) (key : List ℕ) : Type 0 where
       pub among : StandsInList pairs
-      pub passed : GoesBehind bytes key (pairs_of among.front)
+      pub passed : IsAfterAll bytes key (pairs_of among.front)
 
-    -- and those of all behind it come after this one: the cursor stands at the place of the key, which none has
+    -- and those of all after it come after this one: the cursor stands at the place of the key, which none has
     pub record StandsAtPlace (pairs : List (K × V)) (key : List ℕ) : Type 0 where
       pub below : StandsBelow pairs key
       pub above : AllByRecursion (λ p. IsBefore key (bytes p.0)) (pairs_of below.among.back)
 
     -- the pairs have this one now in the place of the one that is answered, if one had its key; the cursor stands
-    -- behind it
+    -- after it
     pub record HasPutIn (key : K) (value : V) (old : Option (K × V)) (pairs : List (K × V)) : Type 0 where
       pub old_is : cons_option old [] ≡ with_key (key_of bytes) (bytes key) pairs
       pub among : StandsInList (with_pair_put bytes key value pairs)
-      pub passed : (next : List ℕ) → IsBefore (bytes key) next → GoesBehind bytes next (pairs_of among.front)
+      pub passed : (next : List ℕ) → IsBefore (bytes key) next → IsAfterAll bytes next (pairs_of among.front)
 
     -- these pairs, which ascend, can be put in from there on: the keys of all before the cursor come before the first
     pub record StandsAhead (pairs left : List (K × V)) : Type 0 where
       pub among : StandsInList pairs
       pub ahead : (p : K × V) (rest : List (K × V)) → left ≡ p ∷ rest
-          → GoesBehind bytes (bytes p.0) (pairs_of among.front)
+          → IsAfterAll bytes (bytes p.0) (pairs_of among.front)

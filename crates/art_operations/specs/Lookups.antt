@@ -9,7 +9,7 @@ use Rattle.art_nodes.specs.declared.prefix_match.PessimisticMismatch.{Pessimisti
 use Rattle.art_operations.specs.declared.lookup.PrefixMatchBehavior.{PrefixMatchBehavior}
 use Rattle.art_operations.specs.declared.lookup.PrefixMatchBehavior.TheVariants.{Pessimistic, Optimistic}
 
--- how prefixes are matched behind one of so many bytes, of which a header stores `P`
+-- how prefixes are matched after one of so many bytes, of which a header stores `P`
 abbrev pub behavior_after : ℕ → PrefixMatchBehavior → ℕ → PrefixMatchBehavior
 behavior_after P Optimistic len = Optimistic
 behavior_after P Pessimistic len = if nat_le len P then Pessimistic else Optimistic

@@ -2,7 +2,7 @@
 use Rattle.std.specs.Prelude.{◌≡◌, ◌≢◌, ℕ, List, ◌∷◌, ◌++◌, length}
 use Rattle.art_operations.specs.declared.meeting.Parted.{Parted}
 
--- they have different bytes behind a common front of so many bytes
+-- they have different bytes after a common front of so many bytes
 pub record PartAt (old new : List ℕ) (parted : Parted) : Type 0 where
   pub front : List ℕ
   pub old_rest : List ℕ

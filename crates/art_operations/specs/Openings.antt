@@ -80,7 +80,7 @@ PlaceReads longest old new = new ≤ old + 2 * (longest + 1)
 abbrev pub EndReads : ℕ → ℕ → ℕ → Type 0
 EndReads longest old new = new + 1 ≤ old + 3 * (longest + 2)
 
--- both ends of a range, or of the part behind a prefix: six times as many at most
+-- both ends of a range, or of the part with a prefix: six times as many at most
 abbrev pub SpanReads : ℕ → ℕ → ℕ → Type 0
 SpanReads longest old new = new ≤ old + 6 * (longest + 2)
 

@@ -28,7 +28,7 @@ module _ {K V : Type 0} (bytes : K → List ℕ) (key : List ℕ) where
   abbrev pub AllConflict : List (LeafAt K V) → Type 0
   AllConflict ls = AllByRecursion (λ l. Conflict key (bytes l.key)) ls
 
-  -- what the key meets in the part at its place, behind this path: another byte within the prefix, or within the key
+  -- what the key meets in the part at its place, under this path: another byte within the prefix, or within the key
   -- of a leaf; no child under its next byte; or a leaf with the key
   abbrev pub MeetsAt : List ℕ → Shape K V → InsertKind → Type 0
   MeetsAt path s (kind.MismatchPrefix name parted) =
@@ -41,7 +41,7 @@ module _ {K V : Type 0} (bytes : K → List ℕ) (key : List ℕ) where
       × (child_at (children_at kids) byte ≡ None) × BeginsWith ((path ++ prefix) ++ byte ∷ []) key
   MeetsAt path s (kind.Exact slot) = (k : K) × (v : V) × (s ≡ leaf_at slot k v) × (bytes k ≡ key)
 
-  -- the place of the key: a part of the tree that stands behind a front of the key, and what the key meets there
+  -- the place of the key: a part of the tree that stands after a front of the key, and what the key meets there
   pub record IsPoint (s : Shape K V) (point : InsertPoint) : Type 0 where
     pub named : name_of s ≡ point.root
     pub ctx : List (Frame K V)
@@ -49,7 +49,7 @@ module _ {K V : Type 0} (bytes : K → List ℕ) (key : List ℕ) where
     pub toward : IsToward bytes key s ctx part (steps_of point.path) point.key_bytes_used
     pub meets : MeetsAt (path_to ctx) part point.insert_kind
 
-  -- the part of the tree that has this name stands behind a front of the key, at the end of these last steps, and each
+  -- the part of the tree that has this name stands after a front of the key, at the end of these last steps, and each
   -- of its leaves has a key in conflict with this one
   pub record IsInTheWay (s : Shape K V) (root name : Name) (last : List Step) : Type 0 where
     pub named : name_of s ≡ root

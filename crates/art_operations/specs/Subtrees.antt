@@ -42,7 +42,7 @@ module _ {K V : Type 0} (bytes : K → List ℕ) where
     abbrev pub leaves_without : List (LeafAt K V) → List (LeafAt K V)
     leaves_without ls = without_front (λ l. bytes l.key) front ls
 
-    -- the part, behind a front of the prefix, has the leaves whose keys begin with the prefix, from the first to the
+    -- the part, after a front of the prefix, has the leaves whose keys begin with the prefix, from the first to the
     -- last, and no others
     pub record IsSubtreePoint (s : Shape K V) (point : SubtreeDeletePoint) : Type 0 where
       pub named : name_of s ≡ point.root

@@ -1,5 +1,5 @@
 pub mod Meetings
-pub mod Ways
+pub mod SearchEnds
 pub mod Edits
 pub mod Splits
 pub mod Unmade

@@ -34,7 +34,7 @@ use art_nodes::{LeafNode, OpaqueNodePtr};
 use std::cmp::Ordering;
 use std::ops::Bound;
 
-// A leaf beside the place of a key: before it are smaller keys, behind it greater ones. How its own compares.
+// A leaf beside the place of a key: before it are smaller keys, after it greater ones. How its own compares.
 #[derive(Clone, Copy)]
 struct Nearest {
     leaf: LeafPtr,

@@ -1,11 +1,11 @@
-//! A tree that is built of ascending pairs, each of which goes behind the last. An inner node is made once, when no
+//! A tree that is built of ascending pairs, each of which goes after the last. An inner node is made once, when no
 //! child of it can come any more. So it has the kind of its children's number at once, and no place is looked for. A
 //! builder may go on from a tree: what stands on the way to its last leaf is then to be made once more.
 ghost use Rattle.std.specs.Prelude.{◌≡◌, ◌≤◌, ◌+◌, ◌∷◌, ◌++◌, ℕ, suc, List, [], None, IfErr, IsOk, OnErr, OnOk};
 ghost use Rattle.art_nodes.specs.declared.kind.NodeType.TheVariants.{Leaf};
 ghost use Rattle.art_arena.specs.arena.Arena.{HasRoom, HasRoomOf, KeepsRoomOf, SameNodes};
 ghost use Rattle.art_arena.specs.arena.Rooms.{SameLeaves, UsesRoomOf};
-ghost use Rattle.art_operations.specs.Builders.{Builds, GoesBehind, HasRoomBeside, HasRoomToPush};
+ghost use Rattle.art_operations.specs.Builders.{Builds, IsAfterAll, HasRoomBeside, HasRoomToPush};
 ghost use Rattle.art_operations.specs.Builders.{IsPushRefused};
 ghost use Rattle.art_operations.specs.LeafNames.{HasLeavesOf};
 ghost use Rattle.art_operations.specs.Pairs.{HasPairs};
@@ -28,7 +28,7 @@ use std::alloc::{AllocError, Global};
 // For so many pairs room is made at once, or for as many as there are.
 const MOST_AT_ONCE: usize = 32;
 
-/// A tree in the making, in an arena of its own. Its pairs ascend, and each new one goes behind the last.
+/// A tree in the making, in an arena of its own. Its pairs ascend, and each new one goes after the last.
 #[derive(Drop)]
 pub struct TreeBuilder {
     spine: Spine,
@@ -40,8 +40,8 @@ pub struct TreeBuilder {
 /// Why a pair was not taken. The error returns it.
 #[derive(Debug, Drop)]
 pub enum PushRefused<K, V> {
-    /// The key doesn't go behind the last: it comes before it, has its bytes, or one of both is a prefix of the other.
-    NotBehind {
+    /// The key doesn't go after the last: it comes before it, has its bytes, or one of both is a prefix of the other.
+    NotAfter {
         /// The key.
         key: K,
         /// The value.
@@ -70,11 +70,11 @@ impl TreeBuilder {
         }
     }
 
-    /// Takes a pair, whose key must go behind the last one: from each key it must part, and go on by a greater byte.
+    /// Takes a pair, whose key must go after the last one: from each key it must part, and go on by a greater byte.
     ///
     /// Fails if it doesn't, or if out of memory. The error returns the pair, and nothing changed: the builder has the
     /// pairs that it had, and room stays. The first pair is always taken if the arena has room for its leaf. So is each
-    /// other that goes behind the last, if `reserve` made room for it, too. A pair that is taken uses the room of one.
+    /// other that goes after the last, if `reserve` made room for it, too. A pair that is taken uses the room of one.
     pub fn push<K: AsBytes + Drop, V: Drop, const PREFIX_LEN: usize>(
         &mut self,
         arena: &mut NodeArena<K, V, PREFIX_LEN>,
@@ -85,14 +85,14 @@ impl TreeBuilder {
         ensures ok { OnOk result ((pairs : List (K × V)) → Builds K.bytes PREFIX_LEN arena.old self.old pairs
             → Builds K.bytes PREFIX_LEN arena.new self.new (pairs ++ (key, value) ∷ [])) }
         ensures refused { IfErr result (λ e. (pairs : List (K × V)) → Builds K.bytes PREFIX_LEN arena.old self.old pairs
-            → IsPushRefused key value (GoesBehind K.bytes (K.bytes key) pairs) e) }
+            → IsPushRefused key value (IsAfterAll K.bytes (K.bytes key) pairs) e) }
         ensures kept { OnErr result (SameNodes arena.old arena.new) }
         ensures left { OnErr result ((pairs : List (K × V)) → Builds K.bytes PREFIX_LEN arena.old self.old pairs
             → Builds K.bytes PREFIX_LEN arena.new self.new pairs) }
         ensures names { HasLeavesOf K.bytes arena.new arena.old }
         ensures succeeds { self.old.last ≡ None → HasRoomOf arena.old Leaf 1 → IsOk result }
         ensures with_room { HasRoomToPush self.old 1 → HasRoomOf arena.old Leaf 1 → (pairs : List (K × V))
-            → Builds K.bytes PREFIX_LEN arena.old self.old pairs → GoesBehind K.bytes (K.bytes key) pairs
+            → Builds K.bytes PREFIX_LEN arena.old self.old pairs → IsAfterAll K.bytes (K.bytes key) pairs
             → IsOk result }
         ensures uses { OnOk result ((n : ℕ) → HasRoomToPush self.old (suc n) → HasRoomToPush self.new n) }
         ensures room { (n : ℕ) → HasRoomBeside arena.old self.old (n + 2) → HasRoomBeside arena.new self.new n }
@@ -107,12 +107,12 @@ impl TreeBuilder {
         };
         let met = meet(arena.as_key_ref(last).as_bytes(), key.as_bytes());
         let Meeting::Parts(parted) = met else {
-            return Err(PushRefused::NotBehind { key, value });
+            return Err(PushRefused::NotAfter { key, value });
         };
         if parted.new_byte < parted.old_byte {
-            return Err(PushRefused::NotBehind { key, value });
+            return Err(PushRefused::NotAfter { key, value });
         }
-        let Ok(()) = self.make_room(arena) else {
+        let Ok(()) = self.reserve_one(arena) else {
             return Err(PushRefused::Memory { key, value });
         };
         match store_last(arena, Some(last), key, value) {
@@ -141,7 +141,7 @@ impl TreeBuilder {
         ensures ok { OnOk result ((pairs : List (K × V)) → Builds K.bytes PREFIX_LEN arena.old self.old pairs
             → Builds K.bytes PREFIX_LEN arena.new self.new (pairs ++ (key, value) ∷ [])) }
         ensures refused { IfErr result (λ e. (pairs : List (K × V)) → Builds K.bytes PREFIX_LEN arena.old self.old pairs
-            → IsPushRefused key value (GoesBehind K.bytes (K.bytes key) pairs) e) }
+            → IsPushRefused key value (IsAfterAll K.bytes (K.bytes key) pairs) e) }
         ensures kept { OnErr result (SameNodes arena.old arena.new) }
         ensures left { OnErr result ((pairs : List (K × V)) → Builds K.bytes PREFIX_LEN arena.old self.old pairs
             → Builds K.bytes PREFIX_LEN arena.new self.new pairs) }
@@ -166,8 +166,8 @@ impl TreeBuilder {
         }
     }
 
-    // Makes room for a pair behind the last one, its leaf aside, where there is none.
-    fn make_room<K: AsBytes, V, const PREFIX_LEN: usize>(
+    // Makes room for a pair after the last one, its leaf aside, where there is none.
+    fn reserve_one<K: AsBytes, V, const PREFIX_LEN: usize>(
         &mut self,
         arena: &mut NodeArena<K, V, PREFIX_LEN>,
     ) -> Result<(), AllocError>

@@ -6,11 +6,11 @@
 //! which is freed for it. So the way down to that one is gone only once.
 ghost use Rattle.std.specs.Prelude.{◌≡◌, ◌<◌, ◌++◌, ◌-◌, ◌^◌, min, Bool, List, IfSome, IfNone, length};
 ghost use Rattle.art_nodes.specs.Name.{Name};
-ghost use Rattle.art_arena.specs.arena.Arena.{node_at, KeepsRoom, SameNodes};
+ghost use Rattle.art_arena.specs.arena.Arena.{node_at, leaf_capacity, KeepsRoom, SameNodes};
 ghost use Rattle.art_arena.specs.arena.Cells.{Cell, Holds};
 ghost use Rattle.art_arena.specs.arena.Shapes.{Shape, cells, leaves};
 ghost use Rattle.art_operations.specs.Frees.{cells_with, inner_cells, leaf_cells, HoldsBeside, HoldsInnerBeside};
-ghost use Rattle.art_operations.specs.Frees.{HoldsRun, KeepsAllBut};
+ghost use Rattle.art_operations.specs.Frees.{FreesLeaves, HoldsRun, KeepsAllBut};
 ghost use Rattle.art_operations.specs.inner.Freeing.{FreesRoot, HasFreedOne, HoldsBoth, HoldsOneLess, HoldsPart};
 ghost use Rattle.art_operations.specs.inner.Freeing.{IsBottom, IsChildIn};
 ghost use Rattle.art_operations.specs.Whichever.{HasSome, OfEach};
@@ -70,6 +70,7 @@ fn free_node<K: Drop, V: Drop, const PREFIX_LEN: usize>(
     ensures freed { OfEach (HoldsPart PREFIX_LEN with_leaves arena.old node)
         (λ s rest. FreesRoot with_leaves arena.old arena.new s) }
     ensures room { KeepsRoom arena.old arena.new }
+    ensures capacity { leaf_capacity arena.new ≡ leaf_capacity arena.old }
 {
     if let Some(leaf) = node.cast::<KindLeaf>() {
         if with_leaves {
@@ -99,6 +100,7 @@ fn hang<K: Drop, V: Drop, const PREFIX_LEN: usize>(
         → KeepsAllBut (cells_with PREFIX_LEN with_leaves s ++ cells_with PREFIX_LEN with_leaves t) arena.old
         arena.new }
     ensures room { KeepsRoom arena.old arena.new }
+    ensures capacity { leaf_capacity arena.new ≡ leaf_capacity arena.old }
 {
     let bottom = find_bottom(arena, below);
     free_node(arena, bottom.node, with_leaves);
@@ -148,6 +150,7 @@ fn free_one<K: Drop, V: Drop, const PREFIX_LEN: usize>(
     ensures kept { OfEach (HoldsPart PREFIX_LEN with_leaves arena.old root)
         (λ s rest. KeepsAllBut (cells_with PREFIX_LEN with_leaves s) arena.old arena.new) }
     ensures room { KeepsRoom arena.old arena.new }
+    ensures capacity { leaf_capacity arena.new ≡ leaf_capacity arena.old }
 {
     if root.is::<KindLeaf>() {
         free_node(arena, root, with_leaves);
@@ -194,6 +197,7 @@ fn free_nodes<K: Drop, V: Drop, const PREFIX_LEN: usize>(
     ensures kept { OfEach (HoldsPart PREFIX_LEN with_leaves arena.old root)
         (λ s rest. KeepsAllBut (cells_with PREFIX_LEN with_leaves s) arena.old arena.new) }
     ensures room { KeepsRoom arena.old arena.new }
+    ensures capacity { leaf_capacity arena.new ≡ leaf_capacity arena.old }
 {
     let mut current = root;
     let mut below = u8::MAX;
@@ -232,6 +236,7 @@ pub(crate) fn free_tree<K: Drop, V: Drop, const PREFIX_LEN: usize>(
     ensures kept { OfEach (HoldsBeside PREFIX_LEN arena.old root)
         (λ s rest. KeepsAllBut (cells PREFIX_LEN s) arena.old arena.new) }
     ensures room { KeepsRoom arena.old arena.new }
+    ensures leaf_room { FreesLeaves result.leaves arena.old arena.new }
 {
     let before = arena.leaf_count();
     let nodes = free_nodes(arena, root, true);
@@ -256,6 +261,7 @@ pub fn deallocate_tree<K: Drop, V: Drop, const PREFIX_LEN: usize>(
     ensures kept { OfEach (HoldsBeside PREFIX_LEN arena.old root)
         (λ s rest. KeepsAllBut (cells PREFIX_LEN s) arena.old arena.new) }
     ensures room { KeepsRoom arena.old arena.new }
+    ensures leaf_room { FreesLeaves result arena.old arena.new }
 {
     free_tree(arena, root).leaves
 }

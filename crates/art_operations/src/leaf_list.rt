@@ -2,13 +2,13 @@
 //! leaves between two neighbours, gives a leaf another pair, and takes leaves out. `rebuild` then makes the inner
 //! nodes.
 ghost use Rattle.std.specs.Prelude.{◌≡◌, ◌≢◌, ◌<◌, ◌≤◌, ℕ, List, [], length, None, Some, Option, IsSome, IfOk, IsOk};
-ghost use Rattle.std.specs.Prelude.{OnErr, OnOk};
+ghost use Rattle.std.specs.Prelude.{OnErr, OnOk, OnSome};
 ghost use Rattle.art_nodes.specs.Name.{Name};
 ghost use Rattle.art_nodes.specs.declared.kind.NodeType.TheVariants.{Leaf};
 ghost use Rattle.art_arena.specs.arena.Arena.{leaf_held, held_at, links_at, node_at, Allocates, HasRoomOf, KeepsRoomOf};
 ghost use Rattle.art_arena.specs.arena.Arena.{SameCells, SameNodes, WritesLinks};
 ghost use Rattle.art_arena.specs.arena.Cells.{leaf_name, pair, UpdatesAt};
-ghost use Rattle.art_arena.specs.arena.Rooms.{SameLeaves, UsesRoomOf};
+ghost use Rattle.art_arena.specs.arena.Rooms.{FreesRoomOf, SameLeaves, UsesRoomOf};
 ghost use Rattle.art_arena.specs.arena.Shapes.{key_of, LeafAt};
 ghost use Rattle.art_operations.specs.Insertions.{HandsPairBack};
 ghost use Rattle.art_operations.specs.KeyedLists.{HasKey, IsBlocked};
@@ -57,7 +57,7 @@ fn set_previous<K, V, const PREFIX_LEN: usize>(
     arena.as_mut::<LeafNode<K, V>>(leaf).set_previous(previous);
 }
 
-/// Stores a leaf behind the last one of a list, or the first of all. Inner nodes may stand over the list.
+/// Stores a leaf after the last one of a list, or the first of all. Inner nodes may stand over the list.
 ///
 /// Fails if out of memory. The error returns the pair, and nothing changed.
 pub(crate) fn store_last<K, V, const PREFIX_LEN: usize>(
@@ -112,8 +112,8 @@ impl LeafCursor {
     }
 
     /// Drops the inner nodes of the tree below a root, or of none, which an arena holds alone, and makes a cursor
-    /// behind its last leaf. The leaves stand as they stood, linked in key order. Room that was there stays.
-    pub fn behind_leaves<K: AsBytes + Drop, V: Drop, const PREFIX_LEN: usize>(
+    /// after its last leaf. The leaves stand as they stood, linked in key order. Room that was there stays.
+    pub fn after_leaves<K: AsBytes + Drop, V: Drop, const PREFIX_LEN: usize>(
         arena: &mut NodeArena<K, V, PREFIX_LEN>,
         root: Option<OpaqueNodePtr>,
     ) -> Self
@@ -169,7 +169,7 @@ impl LeafCursor {
         }
     }
 
-    // Lets the leaf behind the cursor lead back to this one.
+    // Lets the leaf after the cursor lead back to this one.
     fn lead_back<K, V, const PREFIX_LEN: usize>(
         &self,
         arena: &mut NodeArena<K, V, PREFIX_LEN>,
@@ -216,7 +216,7 @@ impl LeafCursor {
         }
     }
 
-    /// Stores a leaf at the cursor, which stands behind it then. Every other leaf keeps its name and its pair.
+    /// Stores a leaf at the cursor, which stands after it then. Every other leaf keeps its name and its pair.
     ///
     /// Fails if out of memory. The error returns the pair, and nothing changed.
     pub fn insert<K, V, const PREFIX_LEN: usize>(
@@ -252,6 +252,7 @@ impl LeafCursor {
         ensures value { OfEach (StandsBetween arena.old self.old) (HasRemoved arena.new self.new result) }
         ensures none_new { KeepsCells arena.new arena.old }
         ensures room_of { KeepsRoomOf arena.old arena.new }
+        ensures leaf_room { OnSome result (FreesRoomOf Leaf arena.old arena.new) }
     {
         let leaf = self.before?;
         let node = arena.deallocate_node_ptr::<LeafNode<K, V>>(leaf);
@@ -263,7 +264,7 @@ impl LeafCursor {
         Some(node.into_entry())
     }
 
-    // Gives the leaf behind the cursor another pair, and steps over it. Returns the pair that it had.
+    // Gives the leaf after the cursor another pair, and steps over it. Returns the pair that it had.
     fn replace<K, V, const PREFIX_LEN: usize>(
         &mut self,
         arena: &mut NodeArena<K, V, PREFIX_LEN>,
@@ -272,7 +273,7 @@ impl LeafCursor {
         value: V,
     ) -> (K, V)
         requires list { HasSome (StandsBetween arena.old self.old) }
-        requires behind { self.old.after ≡ Some leaf }
+        requires after { self.old.after ≡ Some leaf }
         ensures replaced { OfEach (StandsBetween arena.old self.old)
             (HasReplaced arena.new self.new leaf key value result) }
         ensures was { node_at arena.old (leaf_name leaf) ≡ Some (pair result.0 result.1) }
@@ -290,7 +291,7 @@ impl LeafCursor {
         old.into_entry()
     }
 
-    // Steps over the leaves whose keys are less. Returns the leaf behind them if its key has these bytes.
+    // Steps over the leaves whose keys are less. Returns the leaf after them if its key has these bytes.
     fn pass<K: AsBytes, V, const PREFIX_LEN: usize>(
         &mut self,
         arena: &NodeArena<K, V, PREFIX_LEN>,
@@ -316,7 +317,7 @@ impl LeafCursor {
 
     /// Puts a pair into the list at the place of its key, which is not before the cursor. A leaf whose key has the same
     /// bytes takes the pair and keeps its name, and its old pair is returned. Otherwise a leaf is stored. The cursor
-    /// stands behind it then. No other leaf changes its name or its pair.
+    /// stands after it then. No other leaf changes its name or its pair.
     ///
     /// Pairs whose keys ascend are put in by one walk along the list.
     ///
@@ -352,15 +353,15 @@ impl LeafCursor {
     {
         match self.pass(arena, key.as_bytes()) {
             Some(leaf) => Ok(Some(self.replace(arena, leaf, key, value))),
-            None => {
-                self.insert(arena, key, value)?;
-                Ok(None)
-            }
+            None => match self.insert(arena, key, value) {
+                Ok(()) => Ok(None),
+                Err(refused) => Err(refused),
+            },
         }
     }
 }
 
-// Moves the last leaf of a list, behind which a cursor stands, to the front of another arena's list, which begins with
+// Moves the last leaf of a list, after which a cursor stands, to the front of another arena's list, which begins with
 // this leaf. It returns the new first leaf.
 fn move_leaf<K: Drop, V: Drop, const PREFIX_LEN: usize>(
     from: &mut NodeArena<K, V, PREFIX_LEN>,
@@ -387,8 +388,8 @@ fn move_leaf<K: Drop, V: Drop, const PREFIX_LEN: usize>(
     start.first()
 }
 
-/// Moves so many of the last leaves of a list, behind which a cursor stands, into an arena that holds nothing. It
-/// returns the first of them there. Those that stay keep their names and pairs, and the cursor stands behind them.
+/// Moves so many of the last leaves of a list, after which a cursor stands, into an arena that holds nothing. It
+/// returns the first of them there. Those that stay keep their names and pairs, and the cursor stands after them.
 ///
 /// The caller allocated room for as many leaves. So it never fails.
 pub fn move_leaves<K: Drop, V: Drop, const PREFIX_LEN: usize>(

@@ -45,7 +45,7 @@ pub use lookup::{
 };
 pub use minmax::{maximum_unchecked, maximum_with, minimum_unchecked, minimum_with};
 pub use pairs::{
-    find_place, find_place_over, insert_pair, put_over, put_pair, take_end, take_pair,
+    find_place, find_place_over, insert_at, insert_over, insert_pair, take_end, take_pair,
 };
 pub use prefix_insert::point::{OverwritePoint, PrefixInsertPoint, search_for_prefix_insert_point};
 pub use prefix_insert::result::PrefixInsertResult;

@@ -19,8 +19,8 @@ pub enum PrefixMatchBehavior {
     Optimistic,
 }
 
-// What lies behind so many of these bytes: nothing where there are no more.
-fn behind(bytes: &[u8], depth: usize) -> &[u8]
+// What lies after so many of these bytes: nothing where there are no more.
+fn rest_after(bytes: &[u8], depth: usize) -> &[u8]
     ensures { result.now ≡ drop depth bytes.now }
 {
     if depth < bytes.len() {
@@ -78,7 +78,7 @@ impl PrefixMatchBehavior {
     {
         match self {
             PrefixMatchBehavior::Pessimistic => {
-                behind(leaf.key_ref().as_bytes(), depth) == behind(key, depth)
+                rest_after(leaf.key_ref().as_bytes(), depth) == rest_after(key, depth)
             }
             PrefixMatchBehavior::Optimistic => leaf.compare_full_key(key),
         }
@@ -96,7 +96,7 @@ impl PrefixMatchBehavior {
     {
         let front = leaf.key_ref().as_bytes();
         match self {
-            PrefixMatchBehavior::Pessimistic => behind(key, depth).starts_with(behind(
+            PrefixMatchBehavior::Pessimistic => rest_after(key, depth).starts_with(rest_after(
                 front, depth,
             )),
             PrefixMatchBehavior::Optimistic => key.starts_with(front),

@@ -1,8 +1,11 @@
 //! Insertion and deletion, told by the pairs that an arena has: commands and maps stand on these.
 ghost use Rattle.std.specs.Prelude.{◌≡◌, ◌+◌, List, [], Some, None, IfErr, IfNone, IfOk, IfSome, IsOk, OnErr, OnOk};
+ghost use Rattle.std.specs.Prelude.{OnSome};
+ghost use Rattle.art_nodes.specs.declared.kind.NodeType.TheVariants.{Leaf};
 ghost use Rattle.art_nodes.specs.Name.{Name};
 ghost use Rattle.art_arena.specs.arena.Arena.{node_at, HasRoom, KeepsNodes, KeepsRoomOf, SameNodes, UsesRoom};
 ghost use Rattle.art_arena.specs.arena.Cells.{Cell, HoldsOnly};
+ghost use Rattle.art_arena.specs.arena.Rooms.{FreesRoomOf};
 ghost use Rattle.art_arena.specs.arena.Shapes.{key_of};
 ghost use Rattle.art_arena.specs.tree.Shrinks.{Shrinks};
 ghost use Rattle.art_operations.specs.Insertions.{HandsPairBack, IsForConflict, IsPairRefused};
@@ -17,7 +20,9 @@ use crate::delete::point::{end_point, search_for_delete_point};
 use crate::delete::result::DeleteResult;
 use crate::insert::at_stop::insert_at_stop;
 use crate::insert::leaf::store_leaf;
-use crate::insert::point::{InsertPoint, PrefixConflict, find_insert_point, stop_of, way_at};
+use crate::insert::point::{
+    InsertPoint, PrefixConflict, find_insert_point, find_stop, search_end_at,
+};
 use crate::insert::result::{InsertParentNodeChange, InsertRefused, InsertResult, PairRefused};
 use crate::prefix_insert::point::{PrefixInsertPoint, search_for_prefix_insert_point};
 use crate::prefix_insert::result::PrefixInsertResult;
@@ -52,7 +57,7 @@ pub fn find_place<K: AsBytes, V, const PREFIX_LEN: usize>(
 }
 
 // Stores the first pair.
-fn put_first<K: AsBytes, V, const PREFIX_LEN: usize>(
+fn insert_first<K: AsBytes, V, const PREFIX_LEN: usize>(
     arena: &mut NodeArena<K, V, PREFIX_LEN>,
     key: K,
     value: V,
@@ -82,7 +87,7 @@ fn put_first<K: AsBytes, V, const PREFIX_LEN: usize>(
 ///
 /// Fails if out of memory. The error returns the key and the value, and nothing changed.
 #[inline(always)]
-pub fn put_pair<K: AsBytes, V, const PREFIX_LEN: usize>(
+pub fn insert_at<K: AsBytes, V, const PREFIX_LEN: usize>(
     arena: &mut NodeArena<K, V, PREFIX_LEN>,
     place: Option<InsertPoint>,
     key: K,
@@ -106,12 +111,12 @@ pub fn put_pair<K: AsBytes, V, const PREFIX_LEN: usize>(
 {
     match place {
         Some(point) => point.apply(arena, key, value),
-        None => put_first(arena, key, value),
+        None => insert_first(arena, key, value),
     }
 }
 
 // The refusal of a pair for which no memory was found.
-fn no_memory<K, V>(refused: InsertRefused<K, V>) -> PairRefused<K, V>
+fn memory_refusal<K, V>(refused: InsertRefused<K, V>) -> PairRefused<K, V>
     ensures { IsPairRefused refused.key refused.value ⊥ result × (IsForConflict result → ⊥) }
 {
     PairRefused::Memory {
@@ -120,7 +125,7 @@ fn no_memory<K, V>(refused: InsertRefused<K, V>) -> PairRefused<K, V>
     }
 }
 
-/// Inserts a key and its value at the place of the key: what `find_place` and `put_pair` do, in one descent and with no
+/// Inserts a key and its value at the place of the key: what `find_place` and `insert_at` do, in one descent, with no
 /// place named in between. It returns a pair that has the key already, whose leaf the new one takes: that never fails.
 /// Whatever stands beside the tree is unchanged.
 ///
@@ -153,20 +158,20 @@ pub fn insert_pair<K: AsBytes, V, const PREFIX_LEN: usize>(
         (λ pairs rest. HasKey (key_of K.bytes) (K.bytes key) pairs → KeepsRoomOf arena.old arena.new) }
 {
     let Some(top) = root else {
-        return match put_first(arena, key, value) {
+        return match insert_first(arena, key, value) {
             Ok(put) => Ok(put),
-            Err(refused) => Err(no_memory(refused)),
+            Err(refused) => Err(memory_refusal(refused)),
         };
     };
     let bytes = key.as_bytes();
-    let stop = stop_of(arena, top, bytes);
-    let way = way_at(arena, stop.node, bytes, stop.depth);
+    let stop = find_stop(arena, top, bytes);
+    let way = search_end_at(arena, stop.node, bytes, stop.depth);
     if way.is_conflict() {
         return Err(PairRefused::Conflict { key, value });
     }
     match insert_at_stop(arena, top, stop, way, key, value) {
         Ok(put) => Ok(put),
-        Err(refused) => Err(no_memory(refused)),
+        Err(refused) => Err(memory_refusal(refused)),
     }
 }
 
@@ -192,7 +197,7 @@ pub fn find_place_over<K: AsBytes, V, const PREFIX_LEN: usize>(
 /// leaf: that never fails. Whatever stands beside the tree is unchanged.
 ///
 /// Fails if out of memory. The error returns the key and the value, and nothing changed.
-pub fn put_over<K: AsBytes + Drop, V: Drop, const PREFIX_LEN: usize>(
+pub fn insert_over<K: AsBytes + Drop, V: Drop, const PREFIX_LEN: usize>(
     arena: &mut NodeArena<K, V, PREFIX_LEN>,
     place: Option<PrefixInsertPoint>,
     key: K,
@@ -218,7 +223,7 @@ pub fn put_over<K: AsBytes + Drop, V: Drop, const PREFIX_LEN: usize>(
     match place {
         Some(over) => over.apply(arena, key, value),
         None => Ok(PrefixInsertResult {
-            insert_result: put_first(arena, key, value)?,
+            insert_result: insert_first(arena, key, value)?,
             leafs_removed: 0,
         }),
     }
@@ -247,6 +252,7 @@ pub fn take_pair<K: AsBytes, V, const PREFIX_LEN: usize>(
         (λ pairs rest. HasKey (key_of K.bytes) key.now pairs × Shrinks (key_of K.bytes) pairs key.now)) }
     ensures succeeds { HasRoom arena.old 1 → IsOk result }
     ensures room { UsesRoom 1 arena.old arena.new }
+    ensures leaf_room { IfOk result (λ taken. OnSome taken (FreesRoomOf Leaf arena.old arena.new)) }
     ensures kept_room { OnErr result (KeepsRoomOf arena.old arena.new) }
     ensures none_room { IfOk result (λ taken. IfNone taken (KeepsRoomOf arena.old arena.new)) }
 {
@@ -285,6 +291,7 @@ pub fn take_end<K: AsBytes, V, const PREFIX_LEN: usize>(
         (λ pairs rest. ShrinksAtEnd K.bytes end pairs)) }
     ensures succeeds { HasRoom arena.old 1 → IsOk result }
     ensures room { UsesRoom 1 arena.old arena.new }
+    ensures leaf_room { IfOk result (λ taken. OnSome taken (FreesRoomOf Leaf arena.old arena.new)) }
     ensures kept_room { OnErr result (KeepsRoomOf arena.old arena.new) }
     ensures none_room { IfOk result (λ taken. IfNone taken (KeepsRoomOf arena.old arena.new)) }
 {

@@ -6,11 +6,11 @@ ghost use Rattle.art_operations.specs.KeyedLists.{IsBlocked};
 ghost use Rattle.art_operations.specs.Overwrites.{removed_by};
 ghost use Rattle.art_operations.specs.Pairs.{CanPut, HasPairs};
 ghost use Rattle.art_operations.specs.Runs.{HoldsClonesOf, IsCloned};
-ghost use Rattle.art_operations.specs.inner.Runs.{HasClones, IsCarriedOut, IsDone};
+ghost use Rattle.art_operations.specs.inner.Runs.{HasClones, IsExecuted, IsDone};
 
 use crate::clone::clone_unchecked;
 use crate::insert::point::InsertPoint;
-use crate::pairs::{find_place, find_place_over, put_over, put_pair, take_pair};
+use crate::pairs::{find_place, find_place_over, insert_at, insert_over, take_pair};
 use crate::prefix_insert::result::PrefixInsertResult;
 use art_arena::NodeArena;
 use art_bytes::AsBytes;
@@ -67,7 +67,7 @@ fn cloned<K: Clone, V: Clone>(key: &K, value: &V) -> Result<(K, V), AllocError>
 }
 
 // Stores a pair at the place that was found for its key.
-fn insert_at<K: AsBytes + Drop, V: Drop, const PREFIX_LEN: usize>(
+fn insert_at_place<K: AsBytes + Drop, V: Drop, const PREFIX_LEN: usize>(
     arena: &mut NodeArena<K, V, PREFIX_LEN>,
     root: Option<OpaqueNodePtr>,
     place: Option<InsertPoint>,
@@ -80,7 +80,7 @@ fn insert_at<K: AsBytes + Drop, V: Drop, const PREFIX_LEN: usize>(
         → (IsBlocked (key_of K.bytes) (K.bytes key) pairs → ⊥)
         → IsDone K.bytes PREFIX_LEN arena.new pairs (Command.Insert key value) result }
 {
-    let put = match put_pair(arena, place, key, value) {
+    let put = match insert_at(arena, place, key, value) {
         Ok(put) => put,
         Err(_) => return Change {
             root,
@@ -112,7 +112,7 @@ fn insert<K: AsBytes + Clone, V: Clone, const PREFIX_LEN: usize>(
         × HasClones K.bytes PREFIX_LEN arena.old (IsCloned K.is_clone n) (IsCloned V.is_clone n) root pairs }
     ensures { (n : ℕ) (pairs : List (K × V))
         → HasClones K.bytes PREFIX_LEN arena.old (IsCloned K.is_clone n) (IsCloned V.is_clone n) root pairs
-        → IsCarriedOut K.bytes PREFIX_LEN arena.new (IsCloned K.is_clone n) (IsCloned V.is_clone n) pairs
+        → IsExecuted K.bytes PREFIX_LEN arena.new (IsCloned K.is_clone n) (IsCloned V.is_clone n) pairs
         (Command.Insert key.now value.now) result }
 {
     // By value an option of a name counts as moved, so a copy goes in.
@@ -125,7 +125,7 @@ fn insert<K: AsBytes + Clone, V: Clone, const PREFIX_LEN: usize>(
         },
     };
     match cloned(key, value) {
-        Ok((key, value)) => insert_at(arena, root, place, key, value),
+        Ok((key, value)) => insert_at_place(arena, root, place, key, value),
         Err(_) => Change {
             root,
             answer: Answer::Memory,
@@ -160,7 +160,7 @@ fn overwrite<K: AsBytes + Drop, V: Drop, const PREFIX_LEN: usize>(
     // By value an option of a name counts as moved, so a copy goes in.
     let before = root;
     let place = find_place_over(arena, before, key.as_bytes());
-    match put_over(arena, place, key, value) {
+    match insert_over(arena, place, key, value) {
         Ok(put) => change_of(&put),
         Err(_) => Change {
             root,
@@ -181,7 +181,7 @@ fn prefix_insert<K: AsBytes + Clone, V: Clone, const PREFIX_LEN: usize>(
         × HasClones K.bytes PREFIX_LEN arena.old (IsCloned K.is_clone n) (IsCloned V.is_clone n) root pairs }
     ensures { (n : ℕ) (pairs : List (K × V))
         → HasClones K.bytes PREFIX_LEN arena.old (IsCloned K.is_clone n) (IsCloned V.is_clone n) root pairs
-        → IsCarriedOut K.bytes PREFIX_LEN arena.new (IsCloned K.is_clone n) (IsCloned V.is_clone n) pairs
+        → IsExecuted K.bytes PREFIX_LEN arena.new (IsCloned K.is_clone n) (IsCloned V.is_clone n) pairs
         (Command.PrefixInsert key.now value.now) result }
 {
     match cloned(key, value) {
@@ -231,7 +231,7 @@ fn clone_tree<K: AsBytes + Clone, V: Clone, const PREFIX_LEN: usize>(
     requires pairs { (pairs : List (K × V)) × HasPairs K.bytes PREFIX_LEN arena.old root pairs }
     ensures { (n : ℕ) (pairs : List (K × V))
         → HasClones K.bytes PREFIX_LEN arena.old (IsCloned K.is_clone n) (IsCloned V.is_clone n) root pairs
-        → IsCarriedOut K.bytes PREFIX_LEN arena.new (IsCloned K.is_clone (suc n)) (IsCloned V.is_clone (suc n)) pairs
+        → IsExecuted K.bytes PREFIX_LEN arena.new (IsCloned K.is_clone (suc n)) (IsCloned V.is_clone (suc n)) pairs
         Command.Clone result }
 {
     let answer = Answer::Done(0);
@@ -261,7 +261,7 @@ fn clone_tree<K: AsBytes + Clone, V: Clone, const PREFIX_LEN: usize>(
 }
 
 // Carries out one command.
-fn carry_out<K: AsBytes + Clone, V: Clone, const PREFIX_LEN: usize>(
+fn execute<K: AsBytes + Clone, V: Clone, const PREFIX_LEN: usize>(
     alloc: Global,
     arena: &mut NodeArena<K, V, PREFIX_LEN>,
     root: Option<OpaqueNodePtr>,
@@ -272,7 +272,7 @@ fn carry_out<K: AsBytes + Clone, V: Clone, const PREFIX_LEN: usize>(
         × HasClones K.bytes PREFIX_LEN arena.old (IsCloned K.is_clone n) (IsCloned V.is_clone n) root pairs }
     ensures { (n : ℕ) (pairs : List (K × V))
         → HasClones K.bytes PREFIX_LEN arena.old (IsCloned K.is_clone n) (IsCloned V.is_clone n) root pairs
-        → IsCarriedOut K.bytes PREFIX_LEN arena.new (IsCloned K.is_clone (with_clone command.now n))
+        → IsExecuted K.bytes PREFIX_LEN arena.new (IsCloned K.is_clone (with_clone command.now n))
         (IsCloned V.is_clone (with_clone command.now n)) pairs command.now result }
 {
     match command {
@@ -305,7 +305,7 @@ pub fn run<K: AsBytes + Clone, V: Clone, const PREFIX_LEN: usize>(
     let mut arena = NodeArena::new(alloc);
     let mut root = None;
     for command in commands {
-        let change = carry_out(alloc, &mut arena, root, command);
+        let change = execute(alloc, &mut arena, root, command);
         root = change.root;
         answers.push_reserved(change.answer);
     }

@@ -18,7 +18,7 @@ stored_of (pair k v) = []
 stored_of (branches node) = node.header.stored
 
 module _ {K V : Type 0} (bytes : K → List ℕ) where
-  -- the shape behind so many bytes, its prefixes read from first keys
+  -- the shape after so many bytes, its prefixes read from first keys
   abbrev mutual
     pub fill : ℕ → Shape K V → Shape K V
     fill d (leaf_at slot k v) = leaf_at slot k v

@@ -7,7 +7,8 @@ use Rattle.std.proofs.lemmas.List.{map-append, take-take, take_all, length-take-
 use Rattle.art_nodes.proofs.Common.{Name, InnerNode, IsAscendingFrom, names_of, first_child}
 use Rattle.art_nodes.specs.declared.kind.NodeType.TheVariants.{Leaf}
 use Rattle.art_nodes.specs.declared.leaf.LeafNode.{LeafNode}
-use Rattle.art_arena.proofs.Common.{Arena, Held, leaf_held, inner_held, held_at, cell_of, node_at, slots_of, Cell, pair, branches, leaf_name, copies, AreHeld, IsPart, Shape, Branches, leaf_at, inner_at, no_branch, branch, name_of, children_at, width, cells, cells_in, node_of, IsKindOf, copies-append, cell_children, same_cell, cells_few, nodes_below, nodes_below-held, total, all_left, all_right, all_append}
+use Rattle.art_arena.proofs.Common.{Arena, Held, leaf_held, inner_held, held_at, cell_of, node_at, slots_of, Cell, pair, branches, leaf_name, copies, AreHeld, IsPart, Shape, Branches, leaf_at, inner_at, no_branch, branch, name_of, children_at, width, cells, cells_in, node_of, IsKindOf}
+use Rattle.art_arena.proofs.Common.{copies-append, cell_children, same_cell, cells_few, nodes_below, nodes_below-held, total, all_left, all_right, all_append}
 use Rattle.art_walks.proofs.Terms.{Place, HasKinds, HaveKinds, placed, first_key, first_key_in, Fits, FitIn, HasShape, LeafHasKey, StandsAsTold, FitBelow, FitAt, ChildFits, Await, Opens}
 use Rattle.art_walks.proofs.Fillings.{first_key-same, fits-same, prefix_len_of, stored_of}
 

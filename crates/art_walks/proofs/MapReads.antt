@@ -7,7 +7,8 @@ use Rattle.std.proofs.lemmas.Bool.Decides.{eqb_tells}
 use Rattle.std.proofs.lemmas.List.{length-map}
 use Rattle.art_nodes.proofs.Common.{Name}
 use Rattle.art_nodes.specs.declared.leaf.LeafNode.{LeafNode}
-use Rattle.art_arena.proofs.Common.{Arena, begins_with, begins_of, begins_same, begins_true, other_key, same_key, takes_equal, takes_front, cell_of, held_at, leaf_held, links_at, node_at, leaf_name, HasNoFront, LandsAt, ReadsPath, TakesFronts, passing, AreLinked, KeysWithin, Shape, LeafAt, erase, key_of, leaves, pairs_of, Step, Stores, Tree, tree_of, canonical-erase, items-erase, leaves_of, located-fails, located-passes, passing-located, nodes-subtree}
+use Rattle.art_arena.proofs.Common.{Arena, begins_with, begins_of, begins_same, begins_true, other_key, same_key, takes_equal, takes_front, cell_of, held_at, leaf_held, links_at, node_at, leaf_name, HasNoFront, LandsAt, ReadsPath, TakesFronts, passing, AreLinked, KeysWithin, Shape, LeafAt}
+use Rattle.art_arena.proofs.Common.{erase, key_of, leaves, pairs_of, Step, Stores, Tree, tree_of, canonical-erase, items-erase, leaves_of, located-fails, located-passes, passing-located, nodes-subtree}
 use Rattle.art_arena.specs.arena.Descents.{located_where}
 use Rattle.art_arena.specs.arena.Reads.{ReadsExactly}
 use Rattle.art_arena.specs.arena.Found.{located}
@@ -136,7 +137,7 @@ module _ {K V : Type 0} (arena : Arena K V) (ends : Ends) (a b : ℕ) (is : ends
         subst (λ e. IsWalk (links_at arena) e ls) (sym (more other.1 step.0 (next_of (held_at arena (leaf_name a)) leaf _ step.2 there))) step.3
   ]
 
-  -- the span goes on behind its first pair
+  -- the span goes on after its first pair
   pub span-step : (pairs : List (K × V)) (p : K × V) (left : List (K × V)) → IsSpanOf arena pairs ends (p ∷ left) → (p ≡ (leaf.key, leaf.value)) × IsSpanOf arena pairs next left
   span-step pairs p left span = go span.run.leaves span.run.walk span.run.stored span.pairs_are
     where

@@ -4,7 +4,8 @@ use Rattle.std.proofs.lemmas.Bool.Decides.{eqb_tells}
 use Rattle.std.proofs.lemmas.List.{length-map}
 use Rattle.art_nodes.proofs.Common.{Name}
 use Rattle.art_nodes.specs.declared.leaf.LeafNode.{LeafNode}
-use Rattle.art_arena.proofs.Common.{Arena, leaf_held, held_at, node_at, links_at, links_of, cell_of, Cell, UpdatesAt, pair, leaf_name, AreLinked, first_slot, last_slot, times, LeafAt, Links, pairs_of, AreLinked-frame, AreLinked-left, AreLinked-right, ends_with-first, eqb-self, times-append, cell_held}
+use Rattle.art_arena.proofs.Common.{Arena, leaf_held, held_at, node_at, links_at, links_of, cell_of, Cell, UpdatesAt, pair, leaf_name, AreLinked, first_slot, last_slot, times, LeafAt, Links, pairs_of, AreLinked-frame, AreLinked-left, AreLinked-right, ends_with-first, eqb-self}
+use Rattle.art_arena.proofs.Common.{times-append, cell_held}
 use Rattle.art_arena.specs.declared.ends.End.{End}
 use Rattle.art_arena.specs.declared.ends.End.TheVariants.{First, Last}
 use Rattle.art_walks.proofs.Terms.{Ends, HasEnds, AreStored, IsCounted, IsRest, pairs_along, start_of}

@@ -1,4 +1,4 @@
--- How many leaves a run has, told by its ends, and what is left behind a step at either end.
+-- How many leaves a run has, told by its ends, and what is left after a step at either end.
 use Rattle.std.proofs.Common.{◌≡◌, ℕ, zero, suc, ◌+◌, ◌<◌, ◌≤◌, cond, eqb, true, false, List, [], ◌∷◌, ◌++◌, length, Option, Some, None, IsSome, refl, sym, ap, ap₂, subst, ◌∙◌, inl, inr, arith, length-append}
 use Rattle.std.proofs.lemmas.Bool.Decides.{eqb_tells}
 use Rattle.std.proofs.lemmas.List.{map-append}
@@ -8,7 +8,7 @@ use Rattle.art_nodes.specs.declared.leaf.LeafNode.{LeafNode}
 use Rattle.art_arena.proofs.Common.{Arena, leaf_held, held_at, node_at, links_at, slots_of, AreHeld, Cell, leaf_name, pair, AreLinked, last_slot, times, LeafAt, pairs_of, AreLinked-right, eqb-self, occurrences, few, slots_as, slots_in, slots_within, all_left, all_right, cell_held, holds_pair}
 use Rattle.art_arena.specs.declared.ends.End.{End}
 use Rattle.art_arena.specs.declared.ends.End.TheVariants.{First, Last}
-use Rattle.art_walks.proofs.Terms.{Ends, IsWalk, AreStored, IsCounted, ends_behind, leaves_left, pairs_along, pairs_left, run_length, start_of}
+use Rattle.art_walks.proofs.Terms.{Ends, IsWalk, AreStored, IsCounted, ends_after, leaves_left, pairs_along, pairs_left, run_length, start_of}
 use Rattle.art_walks.proofs.Counted.{EndsWalk, counted-pairs, no-ends}
 use Rattle.art_walks.proofs.RunSteps.{ends_there, once_in}
 
@@ -67,7 +67,7 @@ module _ {K V : Type 0} (arena : Arena K V) where
   long (suc fuel) before l (m ∷ ms) zs last linked once ends low =
       let rest = long fuel (Some l.slot) m ms zs last linked.1 (λ n. omega (arith, once n)) ends (omega (arith, low)) in
       let apart : eqb l.slot last ≡ false = differs (ends_there (m ∷ ms) last ends) (once l.slot) in
-      let there : ends_behind (links_at arena l.slot) last ≡ Some (m.slot, last) = ap (λ o. ends_behind o last) linked.0 in
+      let there : ends_after (links_at arena l.slot) last ≡ Some (m.slot, last) = ap (λ o. ends_after o last) linked.0 in
       rw (apart, there) (ap suc rest)
     where
       differs : 1 ≤ times last (m ∷ ms) → times l.slot (l ∷ m ∷ ms) ≤ 1 → eqb l.slot last ≡ false
@@ -105,7 +105,7 @@ module _ {K V : Type 0} (arena : Arena K V) where
   pairs-end First l ys = refl
   pairs-end Last l ys = map-append (λ (l : LeafAt K V). (l.key, l.value)) ys (l ∷ [])
 
-  -- what holds behind a step that took a leaf at an end
+  -- what holds after a step that took a leaf at an end
   pub record Stepped (end : End) (old new : Ends) (slot : ℕ) : Type 0 where
     pub held : IsSome (held_at arena (leaf_name slot))
     pub kept : IsCounted arena new (leaves_left arena new)
@@ -113,7 +113,7 @@ module _ {K V : Type 0} (arena : Arena K V) where
     pub read : (k : K) (v : V) → ((l : LeafNode K V) → held_at arena (leaf_name slot) ≡ Some (leaf_held l) → k ≡ l.key) → ((l : LeafNode K V) → held_at arena (leaf_name slot) ≡ Some (leaf_held l) → v ≡ l.value)
         → pairs_left arena old ≡ put_at end (k, v) (pairs_left arena new)
 
-  -- and behind one where none was left
+  -- and after one where none was left
   pub record Ended (old new : Ends) : Type 0 where
     pub kept : IsCounted arena new (leaves_left arena new)
     pub was : pairs_left arena old ≡ []

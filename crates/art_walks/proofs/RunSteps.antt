@@ -106,7 +106,7 @@ module _ {K V : Type 0} where
       let one : ◌≡◌ {A = ℕ} (cond (eqb l.slot y.slot) 1 0) 1 = rw same (ap {B = ℕ} (λ b. cond b 1 0) (eqb-self l.slot)) in
       absurd (omega (arith, times-here ys [] l, one, once))
 
-  -- there is a last leaf behind another
+  -- there is a last leaf after another
   pub some-last : (slot : ℕ) (ys : List (LeafAt K V)) → (last : ℕ) × (last_slot (Some slot) ys ≡ Some last)
   some-last slot [] = (slot, refl)
   some-last slot (y ∷ ys) = some-last y.slot ys

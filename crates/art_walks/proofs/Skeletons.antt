@@ -25,7 +25,7 @@ module _ {K V : Type 0} where
     cells_all [] = []
     cells_all (s ∷ more) = cells P s ++ cells_all more
 
-    -- shapes below the children of a node, one for each, and what stands behind them
+    -- shapes below the children of a node, one for each, and what stands after them
     pub record StandBelow (at : Name → Option (Cell K V)) (children : List (ℕ × Name)) (all rest : List (Shape K V)) : Type 0 where
       pub kids : Branches K V
       pub children_are : children_at kids ≡ children

@@ -3,7 +3,7 @@ pub use Rattle.art_walks.specs.Faults.{FaultMeansNoTree, HasDeadName, HasLoop, H
 pub use Rattle.art_walks.specs.MapReads.{IsSameMap, IsSpan, IsSpanOf, PairsWithin, ReadsPairs, ReadsTree, of_tree, ReadsPathOf, path_length}
 pub use Rattle.art_walks.specs.Runs.{Ends, HasEnds, IsWalk}
 pub use Rattle.art_walks.specs.Stats.{AreCounts, in_range, no_nodes}
-pub use Rattle.art_walks.specs.Walked.{AreStored, IsCounted, IsRest, ends_behind, leaves_left, pairs_along, pairs_left, pairs_with, run_length, start_of}
+pub use Rattle.art_walks.specs.Walked.{AreStored, IsCounted, IsRest, ends_after, leaves_left, pairs_along, pairs_left, pairs_with, run_length, start_of}
 pub use Rattle.art_walks.specs.declared.checker.keys.Place.{Place}
 pub use Rattle.art_walks.specs.declared.malformed.MalformedTreeError.{MalformedTreeError}
 pub use Rattle.art_walks.specs.declared.malformed.MalformedTreeError.TheVariants.{DeadName, EmptyTreeWithLen, LeafSiblingWrongOrder, LoopFound, Memory, PrefixMismatch, WrongChildrenCount, WrongSiblingLinks}

@@ -3,7 +3,8 @@ use Rattle.std.proofs.Common.{◌≡◌, ◌≢◌, ℕ, suc, ◌+◌, List, [],
 use Rattle.std.specs.List.{AllByRecursion}
 use Rattle.std.specs.Result.{IsErrAnd}
 use Rattle.art_walks.proofs.Terms.{MalformedTreeError, child_in, led_to, HasOtherKeys, HasOtherLinks, meets, AreOnce, HasKinds, HaveKinds, cell_names, IsSkeleton, Fits, AreLinkedSlots, leaf_slots, in_range, count_kind}
-use Rattle.art_arena.proofs.Common.{Arena, held_at, node_at, Cell, pair, AreHeld, IsKindOf, Tree, items, nodes_with, LeafAt, pairs_of, Shape, Branches, leaf_at, inner_at, no_branch, branch, name_of, children_at, join, leaves, erase, cells, cells_in, node_of, Links, AreLinked, IsPart, Means, cells_in-join, items-erase, all_left, all_right, cell_held, slot_list}
+use Rattle.art_arena.proofs.Common.{Arena, held_at, node_at, Cell, pair, AreHeld, IsKindOf, Tree, items, nodes_with, LeafAt, pairs_of, Shape, Branches, leaf_at, inner_at, no_branch, branch, name_of, children_at, join, leaves, erase, cells, cells_in, node_of, Links, AreLinked, IsPart}
+use Rattle.art_arena.proofs.Common.{Means, cells_in-join, items-erase, all_left, all_right, cell_held, slot_list}
 use Rattle.art_nodes.proofs.Common.{Name, child_at}
 use Rattle.art_nodes.specs.declared.kind.NodeType.{NodeType}
 use Rattle.art_nodes.specs.declared.kind.NodeType.TheVariants.{Leaf}

@@ -2,7 +2,8 @@
 use Rattle.std.proofs.Common.{◌≡◌, ◌≢◌, ◌⊎◌, ℕ, ◌+◌, ◌<◌, ◌≤◌, cond, List, [], ◌∷◌, ◌++◌, length, Option, Some, None, inl, inr, refl, sym, ap, ap₂, subst, ◌∙◌, arith, true}
 use Rattle.std.proofs.lemmas.Bool.Decides.{eqb_tells}
 use Rattle.art_nodes.proofs.Common.{Name, InnerNode, child_at}
-use Rattle.art_arena.proofs.Common.{Cell, pair, branches, copies, same_name, leaf_name, IsKindOf, IsUnder, AreUnder, AreHeld, cell_children, Tree, Shape, Branches, leaf_at, inner_at, no_branch, branch, name_of, children_at, join, cells, cells_in, node_of, Links, IsSubtree, Means, copies-append, same_name-self, cells_in-join, length-children, nodes_below, nodes_below-held, means-subtree, subtree-branch}
+use Rattle.art_arena.proofs.Common.{Cell, pair, branches, copies, same_name, leaf_name, IsKindOf, IsUnder, AreUnder, AreHeld, cell_children, Tree, Shape, Branches, leaf_at, inner_at, no_branch, branch, name_of, children_at, join, cells, cells_in, node_of, Links, IsSubtree, Means}
+use Rattle.art_arena.proofs.Common.{copies-append, same_name-self, cells_in-join, length-children, nodes_below, nodes_below-held, means-subtree, subtree-branch}
 use Rattle.art_walks.proofs.Terms.{HasKinds, HaveKinds, MalformedTreeError, DeadName, LoopFound, WrongChildrenCount, PrefixMismatch, LeafSiblingWrongOrder, WrongSiblingLinks, EmptyTreeWithLen, Memory, child_in, onward, led_to, HasLoop, Stands, FaultMeansNoTree}
 
 pub onward-some : (next : Name → Option Name) (o : Option Name) (m : Name) → onward next o ≡ Some m → (c : Name) × (o ≡ Some c) × (next c ≡ Some m)

@@ -13,10 +13,10 @@ abbrev pub start_of : Ends → Option ℕ
 start_of None = None
 start_of (Some ends) = Some ends.0
 
--- what is left of a run behind its first leaf, which has these links, up to its last
-abbrev pub ends_behind : Option Links → ℕ → Ends
-ends_behind None last = None
-ends_behind (Some links) last = option_map (λ next. (next, last)) links.next
+-- what is left of a run after its first leaf, which has these links, up to its last
+abbrev pub ends_after : Option Links → ℕ → Ends
+ends_after None last = None
+ends_after (Some links) last = option_map (λ next. (next, last)) links.next
 
 module _ {K V : Type 0} where
   -- the pair of a leaf, and then those from the next one on
@@ -58,7 +58,7 @@ module _ {K V : Type 0} where
   run_length zero arena ends = 0
   run_length (suc n) arena None = 0
   run_length (suc n) arena (Some ends) =
-      suc (if ends.0 == ends.1 then 0 else run_length n arena (ends_behind (links_at arena ends.0) ends.1))
+      suc (if ends.0 == ends.1 then 0 else run_length n arena (ends_after (links_at arena ends.0) ends.1))
 
   -- the leaves that are still to come between these ends
   abbrev pub leaves_left : Arena K V → Ends → ℕ

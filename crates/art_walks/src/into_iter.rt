@@ -7,7 +7,7 @@ ghost use Rattle.std.specs.Map.Iter.{TakesFirst, TakesLast};
 ghost use Rattle.art_arena.specs.arena.Shapes.{pairs_of};
 ghost use Rattle.art_walks.specs.Walked.{IsCounted};
 
-use crate::ahead::Ahead;
+use crate::prefetch::Prefetcher;
 use crate::raw_iterator::RawIterator;
 use art_arena::NodeArena;
 use art_bytes::AsBytes;
@@ -26,7 +26,7 @@ pub struct IntoIter<K, V, const PREFIX_LEN: usize> {
     leaves: RawIterator,
     len: usize,
     root: Option<OpaqueNodePtr>,
-    ahead: Ahead,
+    ahead: Prefetcher,
 }
 
 impl<K, V, const PREFIX_LEN: usize> Model for IntoIter<K, V, PREFIX_LEN> {
@@ -52,7 +52,7 @@ impl<K, V, const PREFIX_LEN: usize> IntoIter<K, V, PREFIX_LEN> {
         requires { IsCounted arena leaves len }
         ensures { (run : IsCounted arena leaves len) → result ≡ pairs_of run.leaves }
     {
-        let ahead = Ahead::new();
+        let ahead = Prefetcher::new();
         IntoIter {
             arena,
             leaves,
@@ -75,7 +75,7 @@ impl<K: AsBytes + Drop, V: Drop, const PREFIX_LEN: usize> Iterator for IntoIter<
         let (first, last) = self.leaves.ends()?;
         self.ahead.step(&self.arena, self.root, self.leaves);
         let leaf = self.arena.deallocate_node_ptr::<LeafNode<K, V>>(first);
-        self.leaves = RawIterator::behind(first, last, leaf.next());
+        self.leaves = RawIterator::after(first, last, leaf.next());
         self.len -= 1;
         Some(leaf.into_entry())
     }

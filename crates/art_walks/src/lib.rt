@@ -3,7 +3,6 @@
 //! `specs/`.
 #![tactic(auto)]
 
-mod ahead;
 mod bounds;
 mod checker;
 mod into_iter;
@@ -11,18 +10,19 @@ mod iter;
 pub mod laws;
 mod malformed;
 mod map_reader;
+mod prefetch;
 mod range;
 mod raw_iterator;
 mod stats;
 mod visitor;
 
-pub use ahead::Ahead;
 pub use bounds::bounds_are_valid;
 pub use checker::WellFormedChecker;
 pub use into_iter::{IntoIter, IntoKeys, IntoValues};
 pub use iter::{Iter, Keys, Values};
 pub use malformed::MalformedTreeError;
 pub use map_reader::{MapReader, ReadSpan};
+pub use prefetch::Prefetcher;
 pub use range::{Prefix, Range, SubtreeIter};
 pub use raw_iterator::RawIterator;
 pub use stats::WellFormedTreeStats;

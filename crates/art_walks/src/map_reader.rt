@@ -304,7 +304,7 @@ impl<'a, K: AsBytes, V, const PREFIX_LEN: usize> MapReader<'a, K, V, PREFIX_LEN>
         }
     }
 
-    /// Returns the next pair of a span, which goes on behind it. It returns `None` if the span has nothing more to
+    /// Returns the next pair of a span, which goes on after it. It returns `None` if the span has nothing more to
     /// give. One node is read for a pair, its leaf, and none if there is no pair.
     ///
     /// The span has to be one of this map: what this reader or another of the same map returned, or what this call left
@@ -333,7 +333,7 @@ impl<'a, K: AsBytes, V, const PREFIX_LEN: usize> MapReader<'a, K, V, PREFIX_LEN>
     {
         let (first, last) = span.leaves.ends()?;
         let leaf = self.reader.visit_leaf(first);
-        span.leaves = RawIterator::behind(first, last, leaf.next());
+        span.leaves = RawIterator::after(first, last, leaf.next());
         Some(leaf.entry_ref())
     }
 }

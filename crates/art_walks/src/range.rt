@@ -5,7 +5,7 @@ ghost use Rattle.std.specs.Map.Iter.{TakesFirst, TakesLast, deref_pair};
 ghost use Rattle.art_arena.specs.arena.Shapes.{pairs_of};
 ghost use Rattle.art_walks.specs.Walked.{IsCounted};
 
-use crate::ahead::Ahead;
+use crate::prefetch::Prefetcher;
 use crate::raw_iterator::RawIterator;
 use art_arena::NodeArena;
 use art_bytes::AsBytes;
@@ -23,7 +23,7 @@ pub struct Range<'a, K, V, const PREFIX_LEN: usize, M: 'a = NodeArena<K, V, PREF
     arena: &'a NodeArena<K, V, PREFIX_LEN>,
     leaves: RawIterator,
     root: Option<OpaqueNodePtr>,
-    pub(crate) ahead: Ahead,
+    pub(crate) ahead: Prefetcher,
     mark: PhantomData<M>,
 }
 
@@ -52,7 +52,7 @@ impl<'a, K: AsBytes, V, const PREFIX_LEN: usize> Range<'a, K, V, PREFIX_LEN> {
             arena,
             leaves,
             root,
-            ahead: Ahead::new(),
+            ahead: Prefetcher::new(),
             mark: PhantomData,
         }
     }
@@ -68,7 +68,7 @@ impl<'a, K, V, const PREFIX_LEN: usize> Clone for Range<'a, K, V, PREFIX_LEN> {
             arena: self.arena,
             leaves: self.leaves,
             root: self.root,
-            ahead: self.ahead.another(),
+            ahead: self.ahead.duplicate(),
             mark: PhantomData,
         })
     }

@@ -5,7 +5,7 @@ ghost use Rattle.art_arena.specs.arena.Shapes.{LeafAt};
 ghost use Rattle.art_walks.specs.Runs.{IsWalk};
 
 use art_arena::{LeafPtr, NodeArena};
-use art_nodes::{LeafNode, known};
+use art_nodes::{LeafNode, assume_proved};
 use std::marker::Model;
 
 /// A run of neighbours among the linked leaves of an arena, which may be empty. It borrows nothing, and each call names
@@ -50,7 +50,7 @@ impl RawIterator {
     }
 
     // The run from one leaf to another without the first, which links to this one.
-    pub(crate) fn behind(first: LeafPtr, last: LeafPtr, next: Option<LeafPtr>) -> Self
+    pub(crate) fn after(first: LeafPtr, last: LeafPtr, next: Option<LeafPtr>) -> Self
         ensures alone { first ≡ last → result ≡ None }
         ensures more { first ≢ last → (slot : ℕ) → next ≡ Some slot → result ≡ Some (slot, last) }
     {
@@ -71,7 +71,7 @@ impl RawIterator {
         }
     }
 
-    /// Returns the first leaf of the run, which goes on behind it. It returns `None` if the run is empty, and leaves it
+    /// Returns the first leaf of the run, which goes on after it. It returns `None` if the run is empty, and leaves it
     /// so. The run has to be one of neighbours in this arena.
     pub fn next<K, V, const PREFIX_LEN: usize>(
         &mut self,
@@ -92,7 +92,7 @@ impl RawIterator {
         match leaf.next() {
             Some(next) => self.ends = Some((next, last)),
             None => {
-                known(false);
+                assume_proved(false);
                 unreachable!()
             }
         }
@@ -119,7 +119,7 @@ impl RawIterator {
         match leaf.previous() {
             Some(previous) => self.ends = Some((first, previous)),
             None => {
-                known(false);
+                assume_proved(false);
                 unreachable!()
             }
         }

@@ -113,18 +113,18 @@ module _ {C : Type 0} where
   pub Holds-turn : (at : Name → Option C) (xs ys zs ws : List (Name × C)) → Holds at (xs ++ (ys ++ (zs ++ ws))) → Holds at (xs ++ (zs ++ (ys ++ ws)))
   Holds-turn at xs ys zs ws holds =
       let Q = λ (c : Name × C). at c.0 ≡ Some c.1 in
-      let behind_xs = all_right Q xs (ys ++ (zs ++ ws)) holds.held in
-      let behind_ys = all_right Q ys (zs ++ ws) behind_xs in
+      let after_xs = all_right Q xs (ys ++ (zs ++ ws)) holds.held in
+      let after_ys = all_right Q ys (zs ++ ws) after_xs in
       record {
         held = all_append Q xs (zs ++ (ys ++ ws)) (all_left Q xs (ys ++ (zs ++ ws)) holds.held)
-            (all_append Q zs (ys ++ ws) (all_left Q zs ws behind_ys) (all_append Q ys ws (all_left Q ys (zs ++ ws) behind_xs) (all_right Q zs ws behind_ys)));
+            (all_append Q zs (ys ++ ws) (all_left Q zs ws after_ys) (all_append Q ys ws (all_left Q ys (zs ++ ws) after_xs) (all_right Q zs ws after_ys)));
         once = λ n.
             let same : copies n (xs ++ (zs ++ (ys ++ ws))) ≡ copies n (xs ++ (ys ++ (zs ++ ws))) =
             omega (arith, copies-append n xs (zs ++ (ys ++ ws)), copies-append n zs (ys ++ ws), copies-append n ys ws, copies-append n xs (ys ++ (zs ++ ws)), copies-append n ys (zs ++ ws), copies-append n zs ws) in
             same ∙ holds.once n;
       }
 
-  -- those that stand in front may stand behind
+  -- those that stand in front may stand after
   pub Holds-swap : (at : Name → Option C) (xs ys : List (Name × C)) → Holds at (xs ++ ys) → Holds at (ys ++ xs)
   Holds-swap at xs ys holds =
       let Q = λ (c : Name × C). at c.0 ≡ Some c.1 in

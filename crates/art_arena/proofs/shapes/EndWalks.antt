@@ -4,7 +4,8 @@ use Rattle.std.proofs.lemmas.List.{drop-drop}
 use Rattle.art_bytes.proofs.Common.{BeginsWith, begins_append, begins_step}
 use Rattle.art_nodes.proofs.Common.{InnerNode, Name}
 use Rattle.art_nodes.specs.declared.kind.NodeType.TheVariants.{Leaf}
-use Rattle.art_arena.proofs.Terms.{Arena, Held, inner_held, held_at, node_at, slots_of, Shape, Branches, LeafAt, leaf_at, inner_at, name_of, branch, join, leaves, leaves_in, erase, erase_in, end_path, ReadsExactly, IsUnder, AreUnder, leaf_name, pair, ReadsPath, KeysWithin, path_of, path_in, Frame, IsSubtree, IsPlace, Step, steps_to, end_slot, end_child, IsLeafPlace, End, First, Last}
+use Rattle.art_arena.proofs.Terms.{Arena, Held, inner_held, held_at, node_at, slots_of, Shape, Branches, LeafAt, leaf_at, inner_at, name_of, branch, join, leaves, leaves_in, erase, erase_in, end_path, ReadsExactly, IsUnder, AreUnder, leaf_name, pair, ReadsPath, KeysWithin, path_of}
+use Rattle.art_arena.proofs.Terms.{path_in, Frame, IsSubtree, IsPlace, Step, steps_to, end_slot, end_child, IsLeafPlace, End, First, Last}
 use Rattle.art_arena.proofs.tree.Order.{all_left, all_right}
 use Rattle.art_arena.proofs.tree.Sizes.{path_length}
 use Rattle.art_arena.proofs.shapes.Finding.{counted_more, path_in-step}

@@ -14,14 +14,14 @@ use Rattle.art_arena.proofs.Terms.{path_of, path_in, Shape, Branches, leaf_at, i
 use Rattle.art_arena.proofs.tree.Order.{all_append, all_left, all_right, all_weaker}
 use Rattle.art_arena.proofs.tree.Filters.{filter-map}
 use Rattle.art_arena.proofs.tree.Fronts.{begins_trans}
-use Rattle.art_arena.proofs.shapes.Passing.{byte_behind}
+use Rattle.art_arena.proofs.shapes.Passing.{byte_following}
 use Rattle.art_arena.proofs.shapes.Places.{leaves-begin}
 
--- a key that goes on behind the path by one byte is no front of one that goes on by another, or that ends with it
+-- a key that goes on after the path by one byte is no front of one that goes on by another, or that ends with it
 pub other_byte : (path key other : List ℕ) (c b : ℕ) → BeginsWith (path ++ c ∷ []) other → get_or key (length path) 0 ≡ b → c ≢ b → BeginsWith other key → ⊥
 other_byte path key other c b h here differs front =
     let s = begins_step path c key (begins_trans (path ++ c ∷ []) other key h front) in
-    let read : get_or key (length path) 0 ≡ c = ap (λ k. get_or k (length path) 0) s.1 ∙ byte_behind path s.0 c in
+    let read : get_or key (length path) 0 ≡ c = ap (λ k. get_or k (length path) 0) s.1 ∙ byte_following path s.0 c in
     differs (sym read ∙ here)
 
 pub shorter : (path key other : List ℕ) (c : ℕ) → BeginsWith (path ++ c ∷ []) other → length key ≤ length path → BeginsWith other key → ⊥

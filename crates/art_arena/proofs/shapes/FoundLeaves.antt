@@ -4,7 +4,8 @@ use Rattle.std.proofs.lemmas.List.{map-append}
 use Rattle.std.proofs.lemmas.Slice.Eq.{bytes_eq-Decides}
 use Rattle.art_nodes.proofs.Common.{Name}
 use Rattle.art_nodes.specs.declared.leaf.LeafNode.{LeafNode}
-use Rattle.art_arena.proofs.Terms.{Tree, items, begins_with, Cell, pair, leaf_name, AreHeld, Shape, Branches, leaf_at, inner_at, no_branch, branch, LeafAt, leaves, leaves_in, cells, Links, first_slot, IsSubtree, Means, Step, steps_to, Located, located, located_in, located_with_key, TakesFronts, passing, leaf_where, located_where, LandsAt, HasNoFront}
+use Rattle.art_arena.proofs.Terms.{Tree, items, begins_with, Cell, pair, leaf_name, AreHeld, Shape, Branches, leaf_at, inner_at, no_branch, branch, LeafAt, leaves, leaves_in, cells, Links, first_slot, IsSubtree, Means, Step, steps_to, Located, located, located_in, located_with_key}
+use Rattle.art_arena.proofs.Terms.{TakesFronts, passing, leaf_where, located_where, LandsAt, HasNoFront}
 use Rattle.art_arena.proofs.tree.Filters.{filter-map}
 use Rattle.art_arena.proofs.tree.Tenants.{begins_true}
 use Rattle.art_arena.proofs.shapes.Places.{held-below}

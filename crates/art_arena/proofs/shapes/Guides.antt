@@ -7,12 +7,13 @@ use Rattle.art_arena.specs.tree.Trees as tree
 use Rattle.art_bytes.proofs.Common.{BeginsWith, begins_append, begins_step}
 use Rattle.art_nodes.proofs.Common.{InnerNode, child_at, Name}
 use Rattle.art_nodes.specs.declared.leaf.LeafNode.{LeafNode}
-use Rattle.art_arena.proofs.Terms.{Arena, cell_of, held_at, leaf_held, node_at, Cell, branches, pair, leaf_name, GoesOn, GoesNoFurther, IsGuide, GuidesBelow, IsAtDepth, IsSubtree, prefix_of, first_slot, IsReadAt, KeysWithin, Tree, path_of, path_in, led_on, path_to_guide, way_of, end_path, erase, erase_in, End, First, Shape, Branches, leaf_at, inner_at, no_branch, branch, join, name_of, children_at, leaves, IsUnder, AreUnder}
+use Rattle.art_arena.proofs.Terms.{Arena, cell_of, held_at, leaf_held, node_at, Cell, branches, pair, leaf_name, GoesOn, GoesNoFurther, IsGuide, GuidesBelow, IsAtDepth, IsSubtree, prefix_of, first_slot, IsReadAt, KeysWithin, Tree, path_of, path_in, led_on, path_to_guide, way_of, end_path}
+use Rattle.art_arena.proofs.Terms.{erase, erase_in, End, First, Shape, Branches, leaf_at, inner_at, no_branch, branch, join, name_of, children_at, leaves, IsUnder, AreUnder}
 use Rattle.std.specs.List.{AllByRecursion}
 use Rattle.art_arena.proofs.tree.Shrinks.{same_front}
 use Rattle.art_arena.proofs.shapes.EndWalks.{within_branch}
 use Rattle.art_arena.proofs.shapes.Finding.{Avoid, avoid-above, avoid-below, avoid-missing, dropped, path_in-ended, path_in-missing, path_in-step}
-use Rattle.art_arena.proofs.shapes.Passing.{byte_behind, next_byte}
+use Rattle.art_arena.proofs.shapes.Passing.{byte_following, next_byte}
 use Rattle.art_arena.proofs.shapes.OneMeaning.{same_shape}
 use Rattle.art_arena.proofs.shapes.Places.{around, inner-there, leaf-there, leaves-begin, split}
 use Rattle.art_arena.proofs.shapes.Prefixes.{drop-front, first_leaf}
@@ -25,7 +26,7 @@ module _ {K V : Type 0} (key guide : List ℕ) where
   guide_path path (leaf_at slot k v) h = h
   guide_path path (inner_at n prefix kids) h = begins_append path prefix guide h.0
 
-  -- and with the prefix of an inner node behind it
+  -- and with the prefix of an inner node after it
   pub guide_prefix : (path : List ℕ) (s : Shape K V) (n : Name) (prefix : List ℕ) (kids : Branches K V) → s ≡ inner_at n prefix kids → IsGuide key guide path s → BeginsWith (path ++ prefix_of s) guide
   guide_prefix path (leaf_at slot k v) n prefix kids is h = absurd (cc)
   guide_prefix path (inner_at m other f) n prefix kids is h = h.0
@@ -41,7 +42,7 @@ module _ {K V : Type 0} (key guide : List ℕ) where
   guides_avoid bytes front b (branch c s rest) here avoid = (
     λ begins.
         let on = begins_step front c key begins in
-        absurd (avoid.0 (sym (byte_behind front on.0 c) ∙ sym (ap (λ k. get_or k (length front) 0) on.1) ∙ here)),
+        absurd (avoid.0 (sym (byte_following front on.0 c) ∙ sym (ap (λ k. get_or k (length front) 0) on.1) ∙ here)),
     guides_avoid bytes front b rest here avoid.1,
   )
 
@@ -83,7 +84,7 @@ led_ends : {X : Type 0} (t : Tree X) (nodes : List (Tree X)) → nodes ≡ [] �
 led_ends t nodes e = rw e refl
 
 module _ {K V : Type 0} (bytes : K → List ℕ) (P : ℕ) (at : Name → Option (Cell K V)) (key : List ℕ) where
-  -- Below this name stands a part of this one, behind so many bytes of the key. A guide below it is one below the whole.
+  -- Below this name stands a part of this one, after so many bytes of the key. A guide below it is one below the whole.
   pub record IsAlong (path : List ℕ) (s : Shape K V) (current : Name) (used : ℕ) : Type 0 where
     pub below : List ℕ
     pub part : Shape K V
@@ -101,7 +102,7 @@ module _ {K V : Type 0} (bytes : K → List ℕ) (P : ℕ) (at : Name → Option
     up = λ guide h. h;
     within = λ longest short. short;
     passed = 0;
-    led = omega (arith, ap (λ d. length (path_to_guide (erase s) (drop d key))) stands.behind);
+    led = omega (arith, ap (λ d. length (path_to_guide (erase s) (drop d key))) stands.path_len);
   }
 
   pub start_none : (path : List ℕ) (s : Shape K V) (root : Name) (depth : ℕ) (stands : IsAtDepth bytes P at root depth path s) → (along-start path s root depth stands).passed ≡ 0
@@ -125,13 +126,13 @@ module _ {K V : Type 0} (bytes : K → List ℕ) (P : ℕ) (at : Name → Option
           prefix = i.prefix;
           kids = i.kids;
           is = is;
-          front_len = omega (arith, length-append path i.prefix, stands.behind, ap (λ (m : InnerNode). m.header.prefix_len) i.node_is);
+          front_len = omega (arith, length-append path i.prefix, stands.path_len, ap (λ (m : InnerNode). m.header.prefix_len) i.node_is);
           kids_are = ap (λ (m : InnerNode). m.children) i.node_is;
           subtree = subst (IsSubtree bytes P at n path) is stands.subtree;
         }
 
-    behind_prefix : drop (length here.prefix) (drop (length path) key) ≡ drop (depth + node.header.prefix_len) key
-    behind_prefix =
+    after_prefix : drop (length here.prefix) (drop (length path) key) ≡ drop (depth + node.header.prefix_len) key
+    after_prefix =
         let len : length path + length here.prefix ≡ depth + node.header.prefix_len = omega (arith, here.front_len, length-append path here.prefix) in
         drop-drop (length here.prefix) (length path) key ∙ ap (λ d. drop d key) len
 
@@ -139,7 +140,7 @@ module _ {K V : Type 0} (bytes : K → List ℕ) (P : ℕ) (at : Name → Option
     pub led-ends : GoesNoFurther key depth node → length (path_to_guide (erase s) (drop (length path) key)) ≡ length (end_path First (erase s))
     led-ends ends =
         ap (λ t. length (path_to_guide (erase t) (drop (length path) key))) here.is
-        ∙ led_ends (erase (inner_at n here.prefix here.kids)) (path_in (erase_in here.kids) (drop (length here.prefix) (drop (length path) key))) (ap (path_in (erase_in here.kids)) behind_prefix ∙ none ends)
+        ∙ led_ends (erase (inner_at n here.prefix here.kids)) (path_in (erase_in here.kids) (drop (length here.prefix) (drop (length path) key))) (ap (path_in (erase_in here.kids)) after_prefix ∙ none ends)
         ∙ ap (λ t. length (end_path First (erase t))) (sym here.is)
       where
         b : ℕ
@@ -184,7 +185,7 @@ module _ {K V : Type 0} (bytes : K → List ℕ) (P : ℕ) (at : Name → Option
           part = sp.here;
           stands = record {
             subtree = subst (λ m. IsSubtree bytes P at m (front ++ b ∷ []) sp.here) sp.named below.subtree;
-            behind = omega (arith, length-append front (b ∷ []), h.front_len, goes.next_is);
+            path_len = omega (arith, length-append front (b ∷ []), h.front_len, goes.next_is);
           };
           up = λ guide g.
               subst (IsGuide key guide path) (sym h.is) (
@@ -200,7 +201,7 @@ module _ {K V : Type 0} (bytes : K → List ℕ) (P : ℕ) (at : Name → Option
               let more =
               ap (λ t. length (path_to_guide (erase t) (drop (length path) key))) h.is
               ∙ led_more (erase (inner_at n h.prefix h.kids)) (erase sp.here) (drop next key) (path_in (erase_in h.kids) (drop (length h.prefix) (drop (length path) key)))
-              (ap (path_in (erase_in h.kids)) behind_prefix ∙ ap₂ (λ f k. path_in (erase_in f) k) sp.kids_are rest ∙ path_in-step bytes key sp.before b sp.here sp.after (drop next key) a.below) in
+              (ap (path_in (erase_in h.kids)) after_prefix ∙ ap₂ (λ f k. path_in (erase_in f) k) sp.kids_are rest ∙ path_in-step bytes key sp.before b sp.here sp.after (drop next key) a.below) in
               omega (arith, more);
         }
 
@@ -218,10 +219,10 @@ module _ {K V : Type 0} (bytes : K → List ℕ) (P : ℕ) (at : Name → Option
         let a = around bytes front 0 sp.before b sp.here sp.after (subst (AreUnder bytes front 0) sp.kids_are h.subtree.under.1) in
         let below = subtree-branch bytes P at n path h.prefix h.kids sp.before b sp.here sp.after h.subtree sp.kids_are in
         let prefix_is : prefix_of s ≡ h.prefix = ap prefix_of h.is in
-        let nb = next_byte path h.prefix key depth b stands.behind (subst (λ p. BeginsWith ((path ++ p) ++ b ∷ []) key) prefix_is begins) in
+        let nb = next_byte path h.prefix key depth b stands.path_len (subst (λ p. BeginsWith ((path ++ p) ++ b ∷ []) key) prefix_is begins) in
         let rest : drop (depth + node.header.prefix_len) key ≡ b ∷ drop next key =
         dropped (depth + node.header.prefix_len) key (omega (arith, goes.within, goes.next_is)) ∙ ap₂ (λ c n. c ∷ drop n key) goes.byte_is (sym goes.next_is) in
-        let len : depth + length h.prefix ≡ depth + node.header.prefix_len = omega (arith, h.front_len, length-append path h.prefix, stands.behind) in
+        let len : depth + length h.prefix ≡ depth + node.header.prefix_len = omega (arith, h.front_len, length-append path h.prefix, stands.path_len) in
         let cut : b ∷ nb.0 ≡ b ∷ drop next key =
         sym (drop-front h.prefix (b ∷ nb.0)) ∙ ap (drop (length h.prefix)) (sym nb.1) ∙ drop-drop (length h.prefix) depth key ∙ ap (λ d. drop d key) len ∙ rest in
         let tail : nb.0 ≡ drop next key = cc in
@@ -229,7 +230,7 @@ module _ {K V : Type 0} (bytes : K → List ℕ) (P : ℕ) (at : Name → Option
           part = sp.here;
           stands_there = subst (λ p. IsAtDepth bytes P at child next ((path ++ p) ++ b ∷ []) sp.here) (sym prefix_is) (record {
             subtree = subst (λ m. IsSubtree bytes P at m (front ++ b ∷ []) sp.here) sp.named below.subtree;
-            behind = omega (arith, length-append front (b ∷ []), h.front_len, goes.next_is);
+            path_len = omega (arith, length-append front (b ∷ []), h.front_len, goes.next_is);
           });
           goes_on =
               subst (λ t. way_of (erase t) (drop depth key) ≡ (erase t, drop depth key) ∷ way_of (erase sp.here) (drop next key)) (sym h.is)
@@ -252,7 +253,7 @@ module _ {K V : Type 0} (bytes : K → List ℕ) (P : ℕ) (at : Name → Option
         up = λ guide h. along.up guide (more.up guide h);
         within = λ longest short. more.within longest (along.within longest short);
         passed = along.passed + more.passed;
-        led = omega (arith, along.led, ap (λ d. length (path_to_guide (erase along.part) (drop d key))) along.stands.behind, more.led);
+        led = omega (arith, along.led, ap (λ d. length (path_to_guide (erase along.part) (drop d key))) along.stands.path_len, more.led);
       }
 
   pub goes_more : (path : List ℕ) (s : Shape K V) (current : Name) (used : ℕ) (along : IsAlong path s current used) (node : InnerNode) (there : at current ≡ Some (branches node))
@@ -266,10 +267,10 @@ module _ {K V : Type 0} (bytes : K → List ℕ) (P : ℕ) (at : Name → Option
       let is = leaf-there P at along.part k v along.stands.subtree.part.held (ap at along.stands.subtree.part.named ∙ there) in
       omega (arith, along.led, ap (λ t. length (path_to_guide (erase t) (drop used key))) is)
 
-  -- what stands behind so many bytes of the key under a name is one part
+  -- what stands after so many bytes of the key under a name is one part
   pub guide_any : (n : Name) (depth : ℕ) (p q : List ℕ) (s t : Shape K V) → IsAtDepth bytes P at n depth p s → IsAtDepth bytes P at n depth q t → BeginsWith p key → BeginsWith q key → (guide : List ℕ) → IsGuide key guide p s → IsGuide key guide q t
   guide_any n depth p q s t a b on on_too guide h =
-      let len : length p ≡ length q = a.behind ∙ sym b.behind in
+      let len : length p ≡ length q = a.path_len ∙ sym b.path_len in
       let paths = same_front p q key on on_too len in
       let shapes = same_shape bytes P at p q s t len a.subtree.under b.subtree.under a.subtree.part.held b.subtree.part.held (a.subtree.part.named ∙ sym b.subtree.part.named) in
       subst (λ x. IsGuide key guide x t) paths (subst (IsGuide key guide p) shapes h)
@@ -286,7 +287,7 @@ module _ {K V : Type 0} (bytes : K → List ℕ) (P : ℕ) (arena : Arena K V) (
   -- or the path to a guide is that to the first leaf below
   pub read_led : GoesNoFurther key depth node → length (path_to_guide (erase s) (drop depth key)) ≡ length (end_path First (erase s))
   read_led ends =
-      ap (λ d. length (path_to_guide (erase s) (drop d key))) (sym at.stands.behind)
+      ap (λ d. length (path_to_guide (erase s) (drop d key))) (sym at.stands.path_len)
       ∙ led-ends bytes P (node_at arena) key root depth path s at.stands node (ap cell_of at.held) ends
 
   -- and the first leaf below is a guide
@@ -304,4 +305,4 @@ module _ {K V : Type 0} (bytes : K → List ℕ) (P : ℕ) (arena : Arena K V) (
 
   -- a path to it has no more bytes than the longest key below it
   pub read_deep : (longest : ℕ) → KeysWithin bytes longest (leaves s) → depth ≤ longest
-  read_deep longest short = subst (λ d. d ≤ longest) at.stands.behind (deep_within bytes path s at.stands.subtree.under longest short)
+  read_deep longest short = subst (λ d. d ≤ longest) at.stands.path_len (deep_within bytes path s at.stands.subtree.under longest short)

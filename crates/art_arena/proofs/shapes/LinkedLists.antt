@@ -93,7 +93,9 @@ module _ {K V : Type 0} where
       omega (arith, one)
 
   -- the next slot of the last leaf changes
-  pub relink_end : (old new : ℕ → Option Links) (xs : List (LeafAt K V)) (p : ℕ) (was after : Option ℕ) → ((n : ℕ) → times n xs ≤ 1) → last_slot None xs ≡ Some p → AreLinked old None xs was → ((links : Links) → old p ≡ Some links → UpdatesAt old new p (Some (record links { next = after }))) → AreLinked new None xs after
+  pub relink_end : (old new : ℕ → Option Links) (xs : List (LeafAt K V)) (p : ℕ) (was after : Option ℕ) → ((n : ℕ) → times n xs ≤ 1) → last_slot None xs
+      ≡ Some p → AreLinked old None xs was → ((links : Links) → old p ≡ Some links → UpdatesAt old new p (Some (record links { next = after })))
+      → AreLinked new None xs after
   relink_end old new xs p was after once last linked updates =
       let e = ends_with-first xs p last in
       let zs = e.0 in
@@ -301,8 +303,8 @@ module _ {K V : Type 0} (old new : ℕ → Option Links) where
     pub kept-before : ((was : Links) → old at ≡ Some was → KeepsOtherLinks old new was.previous leaf (Some at)) → KeepsLinksOutside old new (xs ++ m ∷ l ∷ ys)
     kept-before kept = kept-between xs (l ∷ ys) m (rw (is, new_is) (kept _ (link_there old xs l ys at linked is)))
 
-    pub kept-behind : ((was : Links) → old at ≡ Some was → KeepsOtherLinks old new (Some at) leaf was.next) → KeepsLinksOutside old new ((xs ++ l ∷ []) ++ m ∷ ys)
-    kept-behind kept = kept-between (xs ++ l ∷ []) ys m (rw (last_slot-append None xs (l ∷ []), is, new_is) (kept _ (link_there old xs l ys at linked is)))
+    pub kept-after : ((was : Links) → old at ≡ Some was → KeepsOtherLinks old new (Some at) leaf was.next) → KeepsLinksOutside old new ((xs ++ l ∷ []) ++ m ∷ ys)
+    kept-after kept = kept-between (xs ++ l ∷ []) ys m (rw (last_slot-append None xs (l ∷ []), is, new_is) (kept _ (link_there old xs l ys at linked is)))
 
 -- a run of leaves, told by its first and its last one
 module _ {K V : Type 0} (links : ℕ → Option Links) (xs run ys : List (LeafAt K V)) (linked : AreLinked links None (xs ++ (run ++ ys)) None) where
@@ -375,5 +377,5 @@ alone xs l ys p is once =
 pub not_before : {K V : Type 0} (xs : List (LeafAt K V)) (l : LeafAt K V) (ys : List (LeafAt K V)) (p : ℕ) → l.slot ≡ p → ((n : ℕ) → times n (xs ++ l ∷ ys) ≤ 1) → last_slot None xs ≢ Some p
 not_before xs l ys p is once = last-apart xs p (omega (arith, alone xs l ys p is once))
 
-pub not_behind : {K V : Type 0} (xs : List (LeafAt K V)) (l : LeafAt K V) (ys : List (LeafAt K V)) (p : ℕ) → l.slot ≡ p → ((n : ℕ) → times n (xs ++ l ∷ ys) ≤ 1) → first_slot ys None ≢ Some p
-not_behind xs l ys p is once = first-apart ys p (omega (arith, alone xs l ys p is once))
+pub not_after : {K V : Type 0} (xs : List (LeafAt K V)) (l : LeafAt K V) (ys : List (LeafAt K V)) (p : ℕ) → l.slot ≡ p → ((n : ℕ) → times n (xs ++ l ∷ ys) ≤ 1) → first_slot ys None ≢ Some p
+not_after xs l ys p is once = first-apart ys p (omega (arith, alone xs l ys p is once))

@@ -12,7 +12,7 @@ use Rattle.art_arena.proofs.shapes.Erased.{count-erase, canonical_in-erase}
 use Rattle.art_arena.proofs.shapes.CellLists.{cell_children, same_cell}
 
 module _ {K V : Type 0} (bytes : K → List ℕ) (P : ℕ) (at : Name → Option (Cell K V)) where
-  -- two prefixes of one length, behind paths of one length, under which the same keys stand
+  -- two prefixes of one length, after paths of one length, under which the same keys stand
   same_prefix : (p q a b : List ℕ) → length p ≡ length q → length a ≡ length b → (kids : Branches K V) → 1 ≤ width kids
       → AreUnder bytes (p ++ a) 0 kids → AreUnder bytes (q ++ b) 0 kids → a ≡ b
   same_prefix p q a b same_path same_len kids some under over =

@@ -6,32 +6,32 @@ use Rattle.art_arena.proofs.Terms.{Arena, inner_held, cell_of, held_at, node_at,
 use Rattle.art_arena.proofs.shapes.Places.{InnerThere, inner-there}
 use Rattle.art_arena.proofs.shapes.Prefixes.{drop-front}
 
--- the key behind the path to it
-pub behind : (path key : List ℕ) (depth : ℕ) → length path ≡ depth → BeginsWith path key → key ≡ path ++ drop depth key
-behind path key depth len (rest, e) =
+-- the key after the path to it
+pub following : (path key : List ℕ) (depth : ℕ) → length path ≡ depth → BeginsWith path key → key ≡ path ++ drop depth key
+following path key depth len (rest, e) =
     let same : drop depth key ≡ rest = ap (λ d. drop d key) (sym len) ∙ ap (drop (length path)) e ∙ drop-front path rest in
     e ∙ ap (λ r. path ++ r) (sym same)
 
-pub byte_behind : (q more : List ℕ) (c : ℕ) → get_or (q ++ c ∷ more) (length q) 0 ≡ c
-byte_behind [] more c = refl
-byte_behind (y ∷ q) more c = byte_behind q more c
+pub byte_following : (q more : List ℕ) (c : ℕ) → get_or (q ++ c ∷ more) (length q) 0 ≡ c
+byte_following [] more c = refl
+byte_following (y ∷ q) more c = byte_following q more c
 
--- the key's byte behind a prefix
+-- the key's byte after a prefix
 pub next_byte : (path prefix key : List ℕ) (depth b : ℕ) → length path ≡ depth → BeginsWith ((path ++ prefix) ++ b ∷ []) key → (r : List ℕ) × (drop depth key ≡ prefix ++ b ∷ r)
 next_byte path prefix key depth b len (r, e) =
     let spelled : key ≡ path ++ (prefix ++ b ∷ r) = e ∙ append_assoc (path ++ prefix) (b ∷ []) r ∙ append_assoc path prefix (b ∷ r) in
     (r, ap (λ d. drop d key) (sym len) ∙ ap (drop (length path)) spelled ∙ drop-front path (prefix ++ b ∷ r))
 
--- a list that is longer than its front has a byte behind it
+-- a list that is longer than its front has a byte after it
 pub byte_follows : (front list more : List ℕ) → list ≡ front ++ more → length front < length list → (b : ℕ) × (r : List ℕ) × (list ≡ front ++ b ∷ r)
 byte_follows front list [] e longer = absurd (omega (arith, longer, ap length e, length-append front []))
 byte_follows front list (b ∷ r) e longer = (b, r, e)
 
--- a key's byte behind a front of it
+-- a key's byte after a front of it
 byte_at : (q key : List ℕ) (b : ℕ) → BeginsWith q key → length q < length key → get_or key (length q) 0 ≡ b → BeginsWith (q ++ b ∷ []) key
 byte_at q key b (more, e) longer is =
     let f = byte_follows q key more e longer in
-    let same : f.0 ≡ b = sym (byte_behind q f.1 f.0) ∙ sym (ap (λ k. get_or k (length q) 0) f.2) ∙ is in
+    let same : f.0 ≡ b = sym (byte_following q f.1 f.0) ∙ sym (ap (λ k. get_or k (length q) 0) f.2) ∙ is in
     begins_from_step q b f.1 key (f.2 ∙ ap (λ c. q ++ c ∷ f.1) same)
 
 -- from a leaf no key goes on
@@ -50,12 +50,12 @@ module _ {K V : Type 0} (bytes : K → List ℕ) (P : ℕ) (arena : Arena K V) (
   len = ap (λ (n : InnerNode). n.header.prefix_len) here.node_is ∙ ap (λ t. length (prefix_of t)) (sym here.is)
 
   whole_len : length (path ++ prefix_of s) ≡ depth + inner.header.prefix_len
-  whole_len = omega (arith, length-append path (prefix_of s), at.behind, len)
+  whole_len = omega (arith, length-append path (prefix_of s), at.path_len, len)
 
-  -- it goes on behind a prefix whose bytes it has
-  pub goes_behind : BeginsWith (prefix_of s) (drop depth key) → (b : ℕ) (child : Name) (next : ℕ) → GoesOn key depth inner b child next → BeginsWith ((path ++ prefix_of s) ++ b ∷ []) key
-  goes_behind (more, e) b child next goes =
-      let on : BeginsWith (path ++ prefix_of s) key = (more, behind path key depth at.behind begins ∙ ap (λ r. path ++ r) e ∙ sym (append_assoc path (prefix_of s) more)) in
+  -- it goes on after a prefix whose bytes it has
+  pub goes_past : BeginsWith (prefix_of s) (drop depth key) → (b : ℕ) (child : Name) (next : ℕ) → GoesOn key depth inner b child next → BeginsWith ((path ++ prefix_of s) ++ b ∷ []) key
+  goes_past (more, e) b child next goes =
+      let on : BeginsWith (path ++ prefix_of s) key = (more, following path key depth at.path_len begins ∙ ap (λ r. path ++ r) e ∙ sym (append_assoc path (prefix_of s) more)) in
       byte_at (path ++ prefix_of s) key b on (omega (arith, whole_len, goes.within, goes.next_is)) (ap (λ i. get_or key i 0) whole_len ∙ goes.byte_is)
 
   -- or it goes no further
@@ -63,7 +63,7 @@ module _ {K V : Type 0} (bytes : K → List ℕ) (P : ℕ) (arena : Arena K V) (
   ends_there none n prefix kids is byte on =
       let st = begins_step (path ++ prefix) byte key on in
       let same_len : length (path ++ prefix) ≡ depth + inner.header.prefix_len = ap (λ t. length (path ++ prefix_of t)) (sym is) ∙ whole_len in
-      let at_byte : get_or key (depth + inner.header.prefix_len) 0 ≡ byte = ap (λ i. get_or key i 0) (sym same_len) ∙ ap (λ k. get_or k (length (path ++ prefix)) 0) st.1 ∙ byte_behind (path ++ prefix) st.0 byte in
+      let at_byte : get_or key (depth + inner.header.prefix_len) 0 ≡ byte = ap (λ i. get_or key i 0) (sym same_len) ∙ ap (λ k. get_or k (length (path ++ prefix)) 0) st.1 ∙ byte_following (path ++ prefix) st.0 byte in
       let both = sym here.is ∙ is in
       let same_kids : here.kids ≡ kids = cc in
       let kids_are : inner.children ≡ children_at kids = ap (λ (m : InnerNode). m.children) here.node_is ∙ ap children_at same_kids in
@@ -75,10 +75,10 @@ module _ {K V : Type 0} (bytes : K → List ℕ) (P : ℕ) (arena : Arena K V) (
   pub passed : BeginsWith (prefix_of s) (drop depth key) → {X : Type 0} (r : Option X) (byte depth_of : X → ℕ) (child : X → Name) → MatchOption r (GoesNoFurther key depth inner) (λ x. GoesOn key depth inner (byte x) (child x) (depth_of x))
       → MatchOption r (Stops bytes key path s) (λ x. BeginsWith ((path ++ prefix_of s) ++ byte x ∷ []) key)
   passed front None byte depth_of child none = ends_there none
-  passed front (Some x) byte depth_of child goes = goes_behind front (byte x) (child x) (depth_of x) goes
+  passed front (Some x) byte depth_of child goes = goes_past front (byte x) (child x) (depth_of x) goes
 
   -- where the prefix has other bytes it goes no further
   pub mismatch_stops : (BeginsWith (prefix_of s) (drop depth key) → ⊥) → Stops bytes key path s
   mismatch_stops differs n prefix kids is byte on =
-      let next = next_byte path prefix key depth byte at.behind on in
+      let next = next_byte path prefix key depth byte at.path_len on in
       absurd (differs (subst (λ t. BeginsWith (prefix_of t) (drop depth key)) (sym is) (byte ∷ next.0, next.1)))

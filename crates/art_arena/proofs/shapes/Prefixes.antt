@@ -48,9 +48,9 @@ pub record Read (depth len : ℕ) (prefix key : List ℕ) : Type 0 where
   pub part : take len (drop depth key) ≡ prefix
 
 pub read : (path prefix key : List ℕ) (depth len : ℕ) → length path ≡ depth → len ≡ length prefix → BeginsWith (path ++ prefix) key → Read depth len prefix key
-read path prefix key depth len behind same (rest, e) =
+read path prefix key depth len following same (rest, e) =
     let spelled : key ≡ path ++ (prefix ++ rest) = e ∙ append_assoc path prefix rest in
-    let dropped : drop depth key ≡ prefix ++ rest = ap (λ d. drop d key) (sym behind) ∙ ap (drop (length path)) spelled ∙ drop-front path (prefix ++ rest) in
+    let dropped : drop depth key ≡ prefix ++ rest = ap (λ d. drop d key) (sym following) ∙ ap (drop (length path)) spelled ∙ drop-front path (prefix ++ rest) in
     record {
       within = omega (arith, ap length spelled, length-append path (prefix ++ rest), length-append prefix rest);
       part = ap (λ n. take n (drop depth key)) same ∙ ap (take (length prefix)) dropped ∙ take-front prefix rest;
@@ -119,7 +119,7 @@ agreeing_inside (x ∷ p) (y ∷ r) n = elim (eqb_tells x y) [
 cmp_self : (a : ℕ) → nat_cmp a a ≡ Equal
 cmp_self a = let n = le-ltb a a (omega arith) in let e = eq-eqb a a refl in rw (n, e) refl
 
--- what goes on behind a prefix that the key doesn't begin with compares as the prefix does
+-- what goes on after a prefix that the key doesn't begin with compares as the prefix does
 cmp_more : (p more r : List ℕ) → (BeginsWith p r → ⊥) → bytes_cmp (p ++ more) r ≡ bytes_cmp p r
 cmp_more [] more r n = absurd (n (r, refl))
 cmp_more (a ∷ p) more [] n = refl
@@ -152,13 +152,13 @@ module _ {K V : Type 0} (bytes : K → List ℕ) where
   pub mismatches : (key path : List ℕ) (depth : ℕ) (s : Shape K V) (matched : ℕ) (order : Ordering)
       → length path ≡ depth → AllByRecursion (λ l. BeginsWith (path ++ prefix_of s) (bytes l.key)) (leaves s) → (BeginsWith (prefix_of s) (drop depth key) → ⊥)
       → matched ≡ agreeing (prefix_of s) (drop depth key) → order ≡ bytes_cmp (prefix_of s) (drop depth key) → Mismatches bytes key path s matched order
-  mismatches key path depth s matched order behind begin apart agrees compares = record {
-    agrees = rw behind agrees;
+  mismatches key path depth s matched order following begin apart agrees compares = record {
+    agrees = rw following agrees;
     inside = omega (arith, agreeing_inside (prefix_of s) (drop depth key) apart, agrees);
-    compares = rw behind compares;
+    compares = rw following compares;
     apart = λ e. apart (cmp_equal (prefix_of s) (drop depth key) (sym compares ∙ e));
     leaves_beside = λ on_path. all_weaker _ _ (λ l st.
-        let rest : drop depth key ≡ on_path.0 = ap (λ d. drop d key) (sym behind) ∙ ap (drop (length path)) on_path.1 ∙ drop-front path on_path.0 in
+        let rest : drop depth key ≡ on_path.0 = ap (λ d. drop d key) (sym following) ∙ ap (drop (length path)) on_path.1 ∙ drop-front path on_path.0 in
         let left : bytes l.key ≡ path ++ (prefix_of s ++ st.0) = st.1 ∙ append_assoc path (prefix_of s) st.0 in
         let right : key ≡ path ++ drop depth key = on_path.1 ∙ ap (λ r. path ++ r) (sym rest) in
         ap (λ k. bytes_cmp k key) left ∙ ap (λ k. bytes_cmp (path ++ (prefix_of s ++ st.0)) k) right

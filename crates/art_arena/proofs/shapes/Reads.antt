@@ -5,7 +5,8 @@ use Rattle.art_bytes.proofs.Common.{BeginsWith, begins_append}
 use Rattle.art_nodes.proofs.Common.{InnerNode, Name}
 use Rattle.art_nodes.specs.declared.kind.NodeType.TheVariants.{Leaf}
 use Rattle.art_nodes.specs.declared.leaf.LeafNode.{LeafNode}
-use Rattle.art_arena.proofs.Terms.{Arena, cell_of, held_at, leaf_held, node_at, leaf_name, Frame, plug, leaves_before, leaves_after, ReadsPath, end_slot, end_child, first_slot, IsSubtree, prefix_of, IsReadAt, KeysWithin, ReadsAtLeast, ReadsExactly, ReadsToFirst, guide_cost, is_cut, path_to_guide, leaf_at, inner_at, Shape, LeafAt, end_path, erase, leaves, path_of, Tree, End, First}
+use Rattle.art_arena.proofs.Terms.{Arena, cell_of, held_at, leaf_held, node_at, leaf_name, Frame, plug, leaves_before, leaves_after, ReadsPath, end_slot, end_child, first_slot, IsSubtree, prefix_of, IsReadAt, KeysWithin, ReadsAtLeast, ReadsExactly, ReadsToFirst, guide_cost, is_cut}
+use Rattle.art_arena.proofs.Terms.{path_to_guide, leaf_at, inner_at, Shape, LeafAt, end_path, erase, leaves, path_of, Tree, End, First}
 use Rattle.art_arena.specs.tree.Trees as tree
 use Rattle.art_arena.proofs.tree.Order.{all_left, all_right}
 use Rattle.art_arena.proofs.shapes.Contexts.{leaves-plug}
@@ -83,7 +84,7 @@ module _ {K V : Type 0} (bytes : K → List ℕ) (P : ℕ) (arena : Arena K V) (
     pub read_some : IsSome (end_child end node.children)
     read_some = subst (λ (n : InnerNode). IsSome (end_child end n.children)) same step.some
 
-    -- the child at its end: its own end is the same, and it stands behind a longer path
+    -- the child at its end: its own end is the same, and it stands after a longer path
     pub record ReadChild (c : ℕ × Name) : Type 0 where
       pub below : List ℕ
       pub part : Shape K V
@@ -102,13 +103,13 @@ module _ {K V : Type 0} (bytes : K → List ℕ) (P : ℕ) (arena : Arena K V) (
           part = on.part;
           subtree = on.subtree;
           same_end = on.same_end;
-          deeper = omega (arith, on.deeper, on.reads, at.stands.behind);
+          deeper = omega (arith, on.deeper, on.reads, at.stands.path_len);
           within = on.within;
           led = omega (arith, on.led, on.reads);
           long = λ k begins. omega (arith, on.long k begins, on.reads);
         }
 
-  -- the nodes of the path of the first leaf's key below the first child are those behind this node
+  -- the nodes of the path of the first leaf's key below the first child are those after this node
   pub read_first : (c : ℕ × Name) (child : ReadChild First c) (name : ℕ) (landed : LeafNode K V) (old new : ℕ)
       → first_slot (leaves s) None ≡ Some name → held_at arena (leaf_name name) ≡ Some (leaf_held landed)
       → ReadsPath (drop (length child.below) (bytes landed.key)) child.part old new → ReadsToFirst bytes arena path s old new

@@ -3,7 +3,8 @@ use Rattle.std.proofs.Common.{◌≡◌, ◌≢◌, ℕ, ◌+◌, ◌<◌, ◌�
 use Rattle.art_nodes.proofs.Common.{InnerNode, first_child, last_child, Name}
 use Rattle.art_nodes.specs.declared.kind.NodeType.TheVariants.{Leaf}
 use Rattle.art_nodes.specs.declared.leaf.LeafNode.{LeafNode}
-use Rattle.art_arena.proofs.Terms.{IsKindOf, Cell, pair, branches, copies, AreHeld, Arena, Held, leaf_held, inner_held, cell_of, held_at, node_at, slots_of, Shape, Branches, leaf_at, inner_at, no_branch, branch, LeafAt, name_of, children_at, join, leaves, leaves_in, cells, cells_in, IsUnder, AreUnder, width, prefix_of, IsSubtree}
+use Rattle.art_arena.proofs.Terms.{IsKindOf, Cell, pair, branches, copies, AreHeld, Arena, Held, leaf_held, inner_held, cell_of, held_at, node_at, slots_of, Shape, Branches, leaf_at, inner_at, no_branch, branch, LeafAt, name_of, children_at, join, leaves, leaves_in, cells, cells_in}
+use Rattle.art_arena.proofs.Terms.{IsUnder, AreUnder, width, prefix_of, IsSubtree}
 use Rattle.art_arena.proofs.tree.Order.{all_left, all_right}
 use Rattle.std.specs.List.{AllByRecursion}
 use Rattle.std.proofs.lemmas.List.{append-nil}
@@ -74,7 +75,7 @@ module _ {K V : Type 0} (bytes : K → List ℕ) where
       let first = some_leaf ((path ++ prefix) ++ b ∷ []) t under.1.1 in
       (first.0, first.1 ++ leaves_in rest, ap (λ xs. xs ++ leaves_in rest) first.2)
 
-  -- each key below begins with the path, and behind it the prefix
+  -- each key below begins with the path, and after it the prefix
   pub leaves_begin_prefix : (path : List ℕ) (s : Shape K V) → IsUnder bytes path s → AllByRecursion (λ l. BeginsWith (path ++ prefix_of s) (bytes l.key)) (leaves s)
   leaves_begin_prefix path (leaf_at slot k v) under = (rw append-nil under, tt)
   leaves_begin_prefix path (inner_at n prefix kids) under = leaves_in-begin bytes (path ++ prefix) 0 kids under.1

@@ -4,7 +4,8 @@ use Rattle.std.specs.List.{AllByRecursion}
 use Rattle.art_bytes.proofs.Common.{BeginsWith, Conflict, IsBefore, before_at, begins_append, begins_step, conflict_not_before, conflict_turned}
 use Rattle.art_nodes.proofs.Common.{Name}
 use Rattle.art_nodes.specs.declared.kind.NodeType.TheVariants.{Leaf}
-use Rattle.art_arena.proofs.Terms.{IsKindOf, IsTreeBeside, IsIn, Cell, leaf_name, same_name, UpdatesAt, copies, Shape, Branches, leaf_at, inner_at, no_branch, branch, LeafAt, width, leaves, leaves_in, cells, cells_in, IsUnder, AreUnder, Links, times, IsList, IsBeside, Frame, path_to, leaves_before, leaves_after, AreAround, AreBelow, IsPlace, HasConflict, NoConflict}
+use Rattle.art_arena.proofs.Terms.{IsKindOf, IsTreeBeside, IsIn, Cell, leaf_name, same_name, UpdatesAt, copies, Shape, Branches, leaf_at, inner_at, no_branch, branch, LeafAt, width, leaves, leaves_in, cells, cells_in, IsUnder, AreUnder, Links, times, IsList, IsBeside, Frame, path_to}
+use Rattle.art_arena.proofs.Terms.{leaves_before, leaves_after, AreAround, AreBelow, IsPlace, HasConflict, NoConflict}
 use Rattle.art_arena.proofs.tree.Order.{all_append, all_weaker}
 use Rattle.art_arena.proofs.tree.Insert.{in_left, in_right}
 use Rattle.art_arena.proofs.shapes.CellLists.{same_name_tells, copies-append, copies-vacant}
@@ -13,7 +14,7 @@ use Rattle.art_arena.proofs.shapes.Contexts.{leaves-plug}
 use Rattle.art_arena.proofs.shapes.Meanings.{nodes-part}
 use Rattle.art_arena.proofs.shapes.Places.{leaves-begin}
 
--- of two keys that go on behind a path by different bytes, the one with the smaller byte comes first
+-- of two keys that go on after a path by different bytes, the one with the smaller byte comes first
 pub smaller_byte_first : (path : List ℕ) (b c : ℕ) (k l : List ℕ) → b < c → BeginsWith (path ++ b ∷ []) k → BeginsWith (path ++ c ∷ []) l → IsBefore k l
 smaller_byte_first path b c k l less h i =
     let s = begins_step path b k h in
@@ -54,7 +55,7 @@ module _ {K V : Type 0} (bytes : K → List ℕ) (key : List ℕ) where
       (ctx-before outer around.4 (out_of f outer begins))
       (branches-before (path_to outer ++ f.prefix) f.byte 0 f.before around.1 around.2 begins)
 
-  -- and those behind it after
+  -- and those after it after
   pub ctx-after : (ctx : List (Frame K V)) → AreAround bytes ctx → BeginsWith (path_to ctx) key → AreAfter (leaves_after ctx)
   ctx-after [] around begins = tt
   ctx-after (f ∷ outer) around begins =

@@ -5,7 +5,8 @@ use Rattle.std.proofs.lemmas.Bool.Decides.{leb_tells}
 use Rattle.std.proofs.lemmas.List.{drop-drop}
 use Rattle.art_nodes.proofs.Common.{Name, InnerNode, child_at}
 use Rattle.art_nodes.specs.declared.leaf.LeafNode.{LeafNode}
-use Rattle.art_arena.proofs.Terms.{path_of, path_in, Cell, pair, branches, copies, AreHeld, Shape, Branches, leaf_at, inner_at, name_of, children_at, cells, erase, erase_in, leaves_in, Frame, path_to, cells_before, cells_after, IsSubtree, Step, steps_to, IsPlace, prefix_of, located, located_in, GoesOn, GoesNoFurther, GuidesBelow, IsGuide, TakesFronts, located_where, LandsAt, HasNoFront, OnWayTo, ReadsPath, Arena, Held, leaf_held, inner_held, held_at, cell_of, node_at}
+use Rattle.art_arena.proofs.Terms.{path_of, path_in, Cell, pair, branches, copies, AreHeld, Shape, Branches, leaf_at, inner_at, name_of, children_at, cells, erase, erase_in, leaves_in, Frame, path_to, cells_before, cells_after, IsSubtree, Step, steps_to, IsPlace, prefix_of, located}
+use Rattle.art_arena.proofs.Terms.{located_in, GoesOn, GoesNoFurther, GuidesBelow, IsGuide, TakesFronts, located_where, LandsAt, HasNoFront, OnWayTo, ReadsPath, Arena, Held, leaf_held, inner_held, held_at, cell_of, node_at}
 use Rattle.art_bytes.proofs.Common.{BeginsWith}
 use Rattle.art_arena.proofs.shapes.Guides.{guide_down}
 use Rattle.art_arena.proofs.shapes.LastSteps.{last_two}
@@ -132,12 +133,12 @@ module _ {K V : Type 0} (bytes : K → List ℕ) (key : List ℕ) (whole : Shape
         path-long : length path ≡ depth + node.header.prefix_len
         path-long = omega (arith, length-append (path_to way.ctx) here.prefix, way.depth_is, ap (λ n. n.header.prefix_len) here.node_is)
 
-        behind : drop (length here.prefix) (drop depth key) ≡ drop (depth + node.header.prefix_len) key
-        behind = drop-drop (length here.prefix) depth key ∙ ap (λ n. drop (depth + n.header.prefix_len) key) (sym here.node_is)
+        following : drop (length here.prefix) (drop depth key) ≡ drop (depth + node.header.prefix_len) key
+        following = drop-drop (length here.prefix) depth key ∙ ap (λ n. drop (depth + n.header.prefix_len) key) (sym here.node_is)
 
         -- the path of what is left of the key, in the part
         part-path : length (path_of (erase way.part) (drop depth key)) ≡ suc (length (path_in (erase_in here.kids) (drop (depth + node.header.prefix_len) key)))
-        part-path = ap (λ s. length (path_of (erase s) (drop depth key))) here.is ∙ ap (λ k. suc (length (path_in (erase_in here.kids) k))) behind
+        part-path = ap (λ s. length (path_of (erase s) (drop depth key))) here.is ∙ ap (λ k. suc (length (path_in (erase_in here.kids) k))) following
 
         -- the child to which it goes on
         way-down : (b : ℕ) (child : Name) (next : ℕ) → GoesOn key depth node b child next → Splits here.kids b child

@@ -9,7 +9,7 @@ use Rattle.art_arena.proofs.shapes.Reads.{cost_none}
 use Rattle.art_arena.proofs.shapes.WayReads.{IsYetToRead, left-ends, left-start, left-step, way-stops}
 
 module _ {X K V : Type 0} (bytes : K → List ℕ) (P : ℕ) (at : Name → Option (Cell K V)) (key : List ℕ) (s : Shape K V) (start : ℕ) where
-  -- the way has come to this name, behind so many bytes of the key; what is left of it is left there
+  -- the way has come to this name, after so many bytes of the key; what is left of it is left there
   pub record IsAlongWay (guide : Option X) (current : Name) (depth count : ℕ) : Type 0 where
     pub path : List ℕ
     pub part : Shape K V
@@ -21,7 +21,7 @@ module _ {X K V : Type 0} (bytes : K → List ℕ) (P : ℕ) (at : Name → Opti
   way-begins root tree = record {
     path = [];
     part = s;
-    stands = record { subtree = tree; behind = refl };
+    stands = record { subtree = tree; path_len = refl };
     begins = (key, refl);
     left = left-start P (erase s) key start;
   }
@@ -44,7 +44,7 @@ module _ {X K V : Type 0} (bytes : K → List ℕ) (P : ℕ) (at : Name → Opti
     pub way-ended : Stops bytes key way.path way.part → ReadsExactly (descent_reads P (erase s) key) start now
     way-ended stops =
         let last : way_of (erase way.part) (drop depth key) ≡ (erase way.part, drop depth key) ∷ [] =
-        subst (λ d. way_of (erase way.part) (drop d key) ≡ (erase way.part, drop d key) ∷ []) way.stands.behind (way-stops bytes key way.path way.part way.begins stops) in
+        subst (λ d. way_of (erase way.part) (drop d key) ≡ (erase way.part, drop d key) ∷ []) way.stands.path_len (way-stops bytes key way.path way.part way.begins stops) in
         left-ends P (erase s) key start old (erase way.part) (drop depth key) count mid now way.left last reads one
 
 -- a leaf has no prefix

@@ -8,7 +8,7 @@ use Rattle.art_arena.proofs.Terms.{Shape, Branches, leaf_at, inner_at, no_branch
 use Rattle.art_arena.specs.tree.Trees as tree
 use Rattle.art_arena.proofs.tree.Landing.{Passed, pass_says, end, other, on}
 use Rattle.art_arena.proofs.shapes.Finding.{Avoid, avoid-missing}
-use Rattle.art_arena.proofs.shapes.Passing.{behind}
+use Rattle.art_arena.proofs.shapes.Passing.{following}
 
 -- what a descent with this guide, if it has one, has still to read
 abbrev pub left_reads : {X Y : Type 0} → Option X → ℕ → Tree Y → List ℕ → ℕ
@@ -56,7 +56,7 @@ module _ {X Y : Type 0} (P : ℕ) (whole : Tree Y) (key : List ℕ) (start : ℕ
           let same : guide_reads P (way_of t k) ≡ guide_cost {X = X} None P t k = rw last refl in
           omega (arith, reads, one, total, same, ap length last)
 
--- the key has the prefix and a byte behind it
+-- the key has the prefix and a byte after it
 pub pass_on : (prefix : List ℕ) (b : ℕ) (r : List ℕ) → pass prefix (prefix ++ b ∷ r) ≡ passes b r
 pass_on [] b r = refl
 pass_on (a ∷ prefix) b r = cond-true _ _ _ (eq-eqb a a refl) ∙ pass_on prefix b r
@@ -87,7 +87,7 @@ module _ {K V : Type 0} where
     -- where the key goes no further, the way ends
     pub way-stops : (path : List ℕ) (s : Shape K V) → BeginsWith path key → Stops bytes key path s → way_of (erase s) (drop (length path) key) ≡ (erase s, drop (length path) key) ∷ []
     way-stops path (leaf_at slot k v) begins stops = refl
-    way-stops path (inner_at n prefix kids) begins stops = at (drop (length path) key) (behind path key (length path) refl begins) (pass_says prefix (drop (length path) key))
+    way-stops path (inner_at n prefix kids) begins stops = at (drop (length path) key) (following path key (length path) refl begins) (pass_says prefix (drop (length path) key))
       where
         at : (rest : List ℕ) → key ≡ path ++ rest → Passed prefix rest → way_of (erase (inner_at n prefix kids)) rest ≡ (erase (inner_at n prefix kids), rest) ∷ []
         at rest is (end p s f) = rw p refl

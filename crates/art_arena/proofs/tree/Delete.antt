@@ -41,13 +41,13 @@ list_cases k l = elim (cases_Bool (bytes_eq k l)) [
   | inr f ↦ inr (λ e. let g : true ≡ false = sym ((bytes_eq-Decides k l).1 e) ∙ f in cc)
 ]
 
--- whether k goes on behind the prefix
-pub goes_behind : (prefix k : List ℕ) → ((b : ℕ) × (r : List ℕ) × (k ≡ prefix ++ b ∷ r)) ⊎ ((b : ℕ) (r : List ℕ) → k ≡ prefix ++ b ∷ r → ⊥)
-goes_behind [] [] = inr (λ b r e. cc)
-goes_behind [] (b ∷ k) = inl (b, k, refl)
-goes_behind (a ∷ p) [] = inr (λ b r e. cc)
-goes_behind (a ∷ p) (c ∷ k) =
-    let rest = goes_behind p k in
+-- whether k goes on after the prefix
+pub goes_past : (prefix k : List ℕ) → ((b : ℕ) × (r : List ℕ) × (k ≡ prefix ++ b ∷ r)) ⊎ ((b : ℕ) (r : List ℕ) → k ≡ prefix ++ b ∷ r → ⊥)
+goes_past [] [] = inr (λ b r e. cc)
+goes_past [] (b ∷ k) = inl (b, k, refl)
+goes_past (a ∷ p) [] = inr (λ b r e. cc)
+goes_past (a ∷ p) (c ∷ k) =
+    let rest = goes_past p k in
     elim (cases_eq c a) [
       | inl e ↦ elim rest [ inl f ↦ inl (f.0, f.1, ap₂ (λ x l. x ∷ l) e f.2) | inr g ↦ inr (λ b r f. let h : k ≡ p ++ b ∷ r = cc in g b r h) ]
       | inr g ↦ inr (λ b r f. let h : c ≡ a = cc in g h)
@@ -173,7 +173,7 @@ module _ {X : Type 0} (key : X → List ℕ) where
     pub delete : (path : List ℕ) (t : Tree X) → IsCanonical key path t → (k rest : List ℕ) → k ≡ path ++ rest → Removal path k rest t
     delete path (leaf y) h k rest e = at_leaf path y h.0 k rest h.1 e (list_cases rest h.0)
     delete path (inner prefix cs) h k rest e =
-        elim (goes_behind prefix rest) [
+        elim (goes_past prefix rest) [
           | inl s ↦ up path prefix k s.0 s.1 rest cs s.2 h.0 (delete_in (path ++ prefix) cs h.1 k s.0 s.1 (e ∙ ap (λ m. path ++ m) s.2 ∙ sym (append_assoc path prefix (s.0 ∷ s.1))))
           | inr never ↦ absent (λ y i f. let d = deeper key (key y) (path ++ prefix) cs h.1 (y, i, refl) in
               never d.0 d.1 (cancel_front path rest (prefix ++ d.0 ∷ d.1) (sym e ∙ sym f ∙ d.2 ∙ append_assoc path prefix (d.0 ∷ d.1))))

@@ -153,19 +153,19 @@ two_steps : (steps (tree_of itself two_tenants) (tenant_1 (170 ∷ [])) ≡ 3)
 two_steps = (refl, (refl, refl))
 
 -- forty bytes aa and then 01, the same and then 02, twenty bytes aa and then bb: no stored prefix is as long as these fronts
-abbrev behind_many : ℕ → ℕ → List ℕ → List ℕ
-behind_many zero byte key = key
-behind_many (suc n) byte key = byte ∷ behind_many n byte key
+abbrev after_many : ℕ → ℕ → List ℕ → List ℕ
+after_many zero byte key = key
+after_many (suc n) byte key = byte ∷ after_many n byte key
 
 abbrev long_keys : List (List ℕ)
-long_keys = tenant_1 (behind_many 40 170 (1 ∷ [])) ∷ tenant_1 (behind_many 40 170 (2 ∷ [])) ∷ tenant_1 (behind_many 20 170 (187 ∷ [])) ∷ []
+long_keys = tenant_1 (after_many 40 170 (1 ∷ [])) ∷ tenant_1 (after_many 40 170 (2 ∷ [])) ∷ tenant_1 (after_many 20 170 (187 ∷ [])) ∷ []
 
 long_audit : (leaves long_keys ≡ 3) × ((inner_nodes (from 2 4) long_keys ≡ 2) × (inner_nodes any long_keys ≡ 2))
 long_audit = (refl, (refl, refl))
 
 -- keys that differ from stored ones within a front only
-long_lands : (lands (tree_of itself long_keys) (tenant_1 (behind_many 25 170 (204 ∷ behind_many 14 170 (1 ∷ [])))) ≡ Some splits_prefix)
-    × (lands (tree_of itself long_keys) (tenant_1 (behind_many 20 170 (204 ∷ behind_many 19 170 (1 ∷ [])))) ≡ Some (lacks_child 204))
+long_lands : (lands (tree_of itself long_keys) (tenant_1 (after_many 25 170 (204 ∷ after_many 14 170 (1 ∷ [])))) ≡ Some splits_prefix)
+    × (lands (tree_of itself long_keys) (tenant_1 (after_many 20 170 (204 ∷ after_many 19 170 (1 ∷ [])))) ≡ Some (lacks_child 204))
 long_lands = (refl, refl)
 
 -- all 256 bytes

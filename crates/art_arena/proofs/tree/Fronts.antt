@@ -35,7 +35,7 @@ one_byte q b c k h j =
 pub not_longer : (q : List ℕ) (b : ℕ) → BeginsWith (q ++ b ∷ []) q → ⊥
 not_longer q b h = let s = begins_step q b q h in let e : [] ≡ b ∷ s.0 = cancel_front q [] (b ∷ s.0) (append-nil q ∙ s.1) in cc
 
--- the byte behind a front
+-- the byte after a front
 
 pub after_front : (q : List ℕ) (b : ℕ) (r : List ℕ) → byte_after q (q ++ b ∷ r) ≡ Some b
 after_front [] b r = refl

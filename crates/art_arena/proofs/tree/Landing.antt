@@ -224,7 +224,7 @@ module _ {X : Type 0} (key : X → List ℕ) where
   pub path_finds : (t : Tree X) → IsCanonical key [] t → (k : List ℕ) (y : X) → IsIn y (items t) → BeginsWith (key y) k → last_leaf (path_of t k) ≡ Some y
   path_finds t h k y i s = finds k [] t h y i s k refl
 
--- a stored key and what goes on behind it have one path
+-- a stored key and what goes on after it have one path
 module _ {X : Type 0} (key : X → List ℕ) where
   mutual
     same_way : (k p : List ℕ) (t : Tree X) → IsCanonical key p t → (y : X) → IsIn y (items t) → (s : BeginsWith (key y) k) → (rest : List ℕ) → key y ≡ p ++ rest → path_of t (rest ++ s.0) ≡ path_of t rest

@@ -119,7 +119,7 @@ module _ {X : Type 0} (key : X → List ℕ) (k : List ℕ) where
       let walk = ap length (cond-false (eqb b c) (path_of t r) (path_in (child d u (child a w cs)) (b ∷ r)) (ne_eqb b c apart)) in
       ap Number (map-append (λ x. common_prefix k (key x)) (items t) (items_in (child d u (child a w cs)))) ∙ same ∙ omega (arith, walk, ih)
 
-  -- each key below goes on behind the path
+  -- each key below goes on after the path
   pub deeper : (q : List ℕ) (cs : Forest X) → AreCanonical key q cs → Stored (items_in cs) → (b : ℕ) × (r : List ℕ) × (k ≡ q ++ b ∷ r)
   deeper q no_child h s = absurd s.1
   deeper q (child c t cs) h s =

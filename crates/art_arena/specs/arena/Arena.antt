@@ -67,6 +67,10 @@ module _ {K V : Type 0} where
   abbrev pub leaves_held : Arena K V → ℕ
   leaves_held arena = slab_len arena.leaves
 
+  -- how many leaves fit with no allocation, those that are held among them
+  abbrev pub leaf_capacity : Arena K V → ℕ
+  leaf_capacity arena = arena.leaves.capacity
+
   -- the node stands now under the name, which was vacant, and all others as they did
   pub record Allocates (old new : Arena K V) (n : Name) (node : Held K V) : Type 0 where
     pub vacant : held_at old n ≡ None

@@ -19,7 +19,7 @@ use Rattle.art_arena.specs.arena.Steps.{Step, steps_to, steps_of}
 use Rattle.art_arena.specs.arena.Found.{Located, located}
 use Rattle.art_arena.specs.declared.descent.Landed.{Landed}
 
--- the key goes on from this inner node, which stands behind `depth` of its bytes: by this byte to this child, behind
+-- the key goes on from this inner node, which stands after `depth` of its bytes: by this byte to this child, after
 -- `next` bytes
 pub record GoesOn (key : List ℕ) (depth : ℕ) (node : InnerNode) (byte : ℕ) (child : Name) (next : ℕ) : Type 0 where
   pub next_is : next ≡ depth + node.header.prefix_len + 1
@@ -38,7 +38,7 @@ abbrev pub ReadsPath : {K V : Type 0} → List ℕ → Shape K V → ℕ → ℕ
 ReadsPath key s old new = new ≡ min (old + length (path_of (erase s) key)) (2 ^ 64 - 1)
 
 -- A guide stands for prefixes that aren't wholly stored. Wherever the key leads from here by all its bytes, the guide
--- begins with the path there, and with the whole prefix of the node there behind it.
+-- begins with the path there, and with the whole prefix of the node there after it.
 module _ {K V : Type 0} (key guide : List ℕ) where
   abbrev mutual
     pub IsGuide : List ℕ → Shape K V → Type 0
@@ -94,7 +94,7 @@ module _ {K V : Type 0} (bytes : K → List ℕ) where
   Lands key s None = HasNoFront key s
   Lands key s (Some landed) = LandsAt key s landed.name landed.leaf.now (steps_of landed.path)
 
-  -- the key goes no further from the part behind this path: it leaves the prefix, ends within it, or no child has its
+  -- the key goes no further from the part under this path: it leaves the prefix, ends within it, or no child has its
   -- next byte
   abbrev pub Stops : List ℕ → List ℕ → Shape K V → Type 0
   Stops key path s =

@@ -38,7 +38,7 @@ pub record AreHalves {K V : Type 0} (links : ℕ
   pub right : AreLinked links before ys None
   pub once : (n : ℕ) → times n xs + times n ys ≤ 1
 
--- the leaf with this slab key, which is in neither list, can be linked in between them: behind `previous`, before
+-- the leaf with this slab key, which is in neither list, can be linked in between them: after `previous`, before
 -- `next`
 pub record CanLink {K V : Type 0} (links : ℕ
     → Option Links) (xs ys : List (LeafAt K V)) (previous : Option ℕ) (leaf : ℕ) (next : Option ℕ) : Type 0 where

@@ -15,7 +15,7 @@ module _ {K V : Type 0} (P : ℕ) (at : Name → Option (Cell K V)) (root : Name
     pub once : (n : Name) → copies n (cells P s) ≤ 1
 
 module _ {K V : Type 0} (bytes : K → List ℕ) (P : ℕ) (at : Name → Option (Cell K V)) (root : Name) where
-  -- the arena has this shape below the name, which is canonical behind the path
+  -- the arena has this shape below the name, which is canonical under the path
   pub record IsSubtree (path : List ℕ) (s : Shape K V) : Type 0 where
     pub part : IsPart P at root s
     pub under : IsUnder bytes path s
@@ -23,7 +23,7 @@ module _ {K V : Type 0} (bytes : K → List ℕ) (P : ℕ) (at : Name → Option
   -- and the path has so many bytes
   pub record IsAtDepth (depth : ℕ) (path : List ℕ) (s : Shape K V) : Type 0 where
     pub subtree : IsSubtree path s
-    pub behind : length path ≡ depth
+    pub path_len : length path ≡ depth
 
   -- the arena's nodes are these and those of this shape, which is canonical, and it holds no other name
   pub record IsNodesBeside (rest : List (Name × Cell K V)) (s : Shape K V) : Type 0 where

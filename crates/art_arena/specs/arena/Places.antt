@@ -12,7 +12,7 @@ module _ {K V : Type 0} (bytes : K → List ℕ) where
     pub around : AreAround bytes ctx
     pub under : IsUnder bytes (path_to ctx) part
 
-  -- and it stands behind a front of the key of so many bytes, the last steps to it being these
+  -- and it stands after a front of the key of so many bytes, the last steps to it being these
   pub record IsToward (key : List ℕ) (whole : Shape K V) (ctx : List (Frame K V)) (part : Shape K V) (last : List Step)
       (depth : ℕ) : Type 0 where
     pub place : IsPlace whole ctx part

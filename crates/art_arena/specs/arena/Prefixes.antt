@@ -19,7 +19,7 @@ module _ {K V : Type 0} where
   lender P s = if nat_le (length (prefix_of s)) P then None else first_slot (leaves s) None
 
 module _ {K V : Type 0} (bytes : K → List ℕ) where
-  -- a key that leaves the prefix of this node behind the path, or ends inside it: so many bytes agree, and the prefix
+  -- a key that leaves the prefix of this node after the path, or ends inside it: so many bytes agree, and the prefix
   -- compares so with the rest of the key, as each leaf's key below does with a key that begins with the path
   pub record Mismatches (key path : List ℕ) (s : Shape K V) (matched : ℕ) (order : Ordering) : Type 0 where
     pub agrees : matched ≡ agreeing (prefix_of s) (drop (length path) key)

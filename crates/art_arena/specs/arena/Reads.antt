@@ -26,11 +26,11 @@ abbrev pub guide_cost : {X Y : Type 0} → Option X → ℕ → Tree Y → List 
 guide_cost (Some guide) P t k = 0
 guide_cost None P t k = if is_cut P t then length (path_to_guide t k) - 1 else 0
 
--- as many nodes were read as the key's path has behind the first of them; the greatest count stays
-abbrev pub ReadsBehind : {K V : Type 0} → List ℕ → Shape K V → ℕ → ℕ → Type 0
-ReadsBehind key s old new = new ≡ min (old + (length (path_of (erase s) key) - 1)) (2 ^ 64 - 1)
+-- as many nodes were read as the key's path has after the first of them; the greatest count stays
+abbrev pub ReadsAfter : {K V : Type 0} → List ℕ → Shape K V → ℕ → ℕ → Type 0
+ReadsAfter key s old new = new ≡ min (old + (length (path_of (erase s) key) - 1)) (2 ^ 64 - 1)
 
--- A descent that ends behind so many bytes of its key: a node for each of them, the node there, and one way down to a
+-- A descent that ends after so many bytes of its key: a node for each of them, the node there, and one way down to a
 -- leaf.
 abbrev pub DescentReads : ℕ → ℕ → ℕ → ℕ → Type 0
 DescentReads longest depth old new = new ≤ old + (depth + (longest + 1))
@@ -45,15 +45,15 @@ module _ {K V : Type 0} (bytes : K → List ℕ) where
   abbrev pub KeysWithin : ℕ → List (LeafAt K V) → Type 0
   KeysWithin longest ls = AllByRecursion (λ l. length (bytes l.key) ≤ longest) ls
 
-  -- the nodes behind the root of this part were read on the way to its first leaf, that leaf among them
+  -- the nodes after the root of this part were read on the way to its first leaf, that leaf among them
   abbrev pub ReadsToFirst : Arena K V → List ℕ → Shape K V → ℕ → ℕ → Type 0
   ReadsToFirst arena path s old new =
       (slot : ℕ) (leaf : LeafNode K V) → first_slot (leaves s) None ≡ Some slot
       → held_at arena (leaf_name slot) ≡ Some (leaf_held leaf)
-      → ReadsBehind (drop (length path) (bytes leaf.key)) s old new
+      → ReadsAfter (drop (length path) (bytes leaf.key)) s old new
 
   module _ (P : ℕ) (arena : Arena K V) (node : InnerNode) where
-    -- this inner node was read, and is the root of this part, which is canonical behind a path of so many bytes
+    -- this inner node was read, and is the root of this part, which is canonical under a path of so many bytes
     pub record IsReadAt (root : Name) (depth : ℕ) (path : List ℕ) (s : Shape K V) : Type 0 where
       pub stands : StoresAt bytes P arena root depth path s
       pub held : held_at arena root ≡ Some (inner_held node)

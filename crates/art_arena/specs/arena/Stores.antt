@@ -13,7 +13,7 @@ module _ {K V : Type 0} (bytes : K → List ℕ) (P : ℕ) (arena : Arena K V) (
   abbrev pub Stores : Shape K V → Type 0
   Stores s = IsSubtree bytes P (node_at arena) root [] s
 
-  -- the name is the root of this part, which is canonical behind the path
+  -- the name is the root of this part, which is canonical under the path
   abbrev pub StoresBelow : List ℕ → Shape K V → Type 0
   StoresBelow path s = IsSubtree bytes P (node_at arena) root path s
 

@@ -19,14 +19,14 @@ neighbour_fronts key (x ∷ y ∷ ys) = common_prefix (key x) (key y) ∷ neighb
 abbrev pub fronts_of : {X : Type 0} → (X → List ℕ) → List X → List (List ℕ)
 fronts_of key xs = distinct bytes_eq (neighbour_fronts key xs)
 
--- the byte behind the front, where k goes on behind it
+-- the byte after the front, where k goes on after it
 abbrev pub byte_after : List ℕ → List ℕ → Option ℕ
 byte_after [] [] = None
 byte_after [] (b ∷ k) = Some b
 byte_after (a ∷ front) [] = None
 byte_after (a ∷ front) (b ∷ k) = if a == b then byte_after front k else None
 
--- the bytes behind the front, one for each key that goes on behind it
+-- the bytes after the front, one for each key that goes on after it
 abbrev pub bytes_after : {X : Type 0} → (X → List ℕ) → List ℕ → List X → List ℕ
 bytes_after key front xs = filter_map (λ x. byte_after front (key x)) xs
 

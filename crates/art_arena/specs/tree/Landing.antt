@@ -3,7 +3,7 @@ use Rattle.std.specs.Prelude.{ℕ, ◌==◌, if◌then◌else◌, List, [], ◌�
 use Rattle.art_bytes.specs.Keys.{Conflict}
 use Rattle.art_arena.specs.tree.Trees.{Tree, Forest, leaf, inner, no_child, child}
 
--- how a key meets a prefix: it ends within it or with it, has another byte there, or goes on behind it by a byte and a
+-- how a key meets a prefix: it ends within it or with it, has another byte there, or goes on after it by a byte and a
 -- rest
 pub data Passing : Type 0 where
   ends : Passing

@@ -4,7 +4,7 @@ use Rattle.art_arena.specs.tree.Trees.{Tree, Forest, leaf, inner, no_child, chil
 use Rattle.art_arena.specs.tree.Landing.{ends, differs, passes, pass}
 use Rattle.art_arena.specs.tree.Tenants.{begins_with}
 
--- `rest` is what is left of the front behind the path to the tree
+-- `rest` is what is left of the front after the path to the tree
 abbrev mutual
   pub part_with_front : {X : Type 0} → (X → List ℕ) → List ℕ → Tree X → List ℕ → Option (Tree X)
   part_with_front key front (leaf x) rest = if begins_with front (key x) then Some (leaf x) else None

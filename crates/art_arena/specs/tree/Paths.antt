@@ -2,7 +2,7 @@
 use Rattle.std.specs.Prelude.{ℕ, ◌==◌, if◌then◌else◌, List, [], ◌∷◌, length, drop, Option, Some, None}
 use Rattle.art_arena.specs.tree.Trees.{Tree, Forest, leaf, inner, no_child, child}
 
--- From the root down: at an inner node by the byte of the key just behind the prefix, whatever the prefix's bytes are,
+-- From the root down: at an inner node by the byte of the key just after the prefix, whatever the prefix's bytes are,
 -- as long as there is such a byte and a child for it.
 abbrev mutual
   pub path_of : {X : Type 0} → Tree X → List ℕ → List (Tree X)

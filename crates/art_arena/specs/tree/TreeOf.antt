@@ -25,7 +25,7 @@ children_of tree [] = no_child
 children_of tree ((byte, xs) ∷ groups) = child byte (tree xs) (children_of tree groups)
 
 -- The tree of items whose keys share their first `depth` bytes: one item is a leaf; more are an inner node, whose
--- prefix is what all keys share behind the depth, with a child for each next byte. `fuel` is at least the number of
+-- prefix is what all keys share after the depth, with a child for each next byte. `fuel` is at least the number of
 -- items.
 abbrev pub tree_below : {X : Type 0} → (X → List ℕ) → ℕ → ℕ → List X → Tree X
 tree_below key zero depth xs = inner [] no_child

@@ -62,7 +62,7 @@ module _ {X : Type 0} where
   abbrev pub prefix_reads : ℕ → Tree X → ℕ
   prefix_reads P t = if is_cut P t then length (end_path First t) else 1
 
-  -- how many nodes stand behind the first of these whose prefix isn't wholly stored, on the path to the guide
+  -- how many nodes stand after the first of these whose prefix isn't wholly stored, on the path to the guide
   abbrev pub guide_reads : ℕ → List (Tree X × List ℕ) → ℕ
   guide_reads P [] = 0
   guide_reads P ((t, k) ∷ way) = if is_cut P t then length (path_to_guide t k) - 1 else guide_reads P way

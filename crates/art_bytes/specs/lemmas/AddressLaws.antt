@@ -14,7 +14,7 @@ use Rattle.art_bytes.specs.Mappings.{HaveFixedBytes}
 pub ipv4_bytes : HaveFixedBytes 4 (λ a. AreBytes (ipv4_octets a) × (length (ipv4_octets a) ≡ 4)) ipv4_octets
     (λ a b. slice_cmp nat_cmp a.octets b.octets)
 ipv4_bytes = record {
-  some = lit< tt;
+  positive = lit< tt;
   long = λ a h. h.1;
   fit = λ a h. h.0;
   one_value = λ a b ha hb e. λ i. record { octets = e i };
@@ -75,7 +75,7 @@ octets_read octets segments is e h = ap octets_of is ∙ octets_of-segments_of 8
 pub ipv6_bytes : HaveFixedBytes 16 (λ a. AreBytes (ipv6_octets a) × (length (ipv6_octets a) ≡ 16)) ipv6_octets
     (λ a b. slice_cmp nat_cmp a.segments b.segments)
 ipv6_bytes = record {
-  some = lit< tt;
+  positive = lit< tt;
   long = λ a h. h.1;
   fit = λ a h. h.0;
   one_value = λ a b ha hb e.

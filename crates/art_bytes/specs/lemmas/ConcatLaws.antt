@@ -8,7 +8,8 @@ use Rattle.std.specs.declared.cmp.Ordering.{Ordering}
 use Rattle.std.specs.declared.cmp.Ordering.TheVariants.{Less, Equal, Greater}
 use Rattle.std.specs.Ordering.{nat_cmp, ordering_then}
 use Rattle.std.specs.Cmp.Lexicographic.{slice_cmp}
-use Rattle.art_bytes.specs.Keys.{AreBytes, bytes_cmp}
+use Rattle.std.specs.Prelude.{Result, Ok, Err, OnErr, is_ok, if◌then◌else◌}
+use Rattle.art_bytes.specs.Keys.{AppendsFrontOf, AreBytes, bytes_cmp}
 use Rattle.art_bytes.specs.Mappings.{HaveFixedBytes}
 use Rattle.art_bytes.specs.Lists.{HaveListBytes}
 
@@ -39,6 +40,32 @@ bytes_cmp-append (x ∷ a) (y ∷ b) c d e =
     ap (λ o. ordering_then (nat_cmp x y) o) (bytes_cmp-append a b c d (omega arith))
     ∙ sym (then_then (nat_cmp x y) (bytes_cmp a b) (bytes_cmp c d))
 
+-- where an append of bytes fails, nothing is appended
+pub failed_append : {T E : Type 0} (r : Result T E) (old new all bytes : List ℕ)
+    → new ≡ (if is_ok r then old ++ all else old) → OnErr r (AppendsFrontOf bytes old new)
+failed_append (Ok x) old new all bytes is = tt
+failed_append (Err e) old new all bytes is = ([], (bytes, refl), is ∙ sym (append-nil old))
+
+-- a front of the first part is one of both
+pub first_front : (old new f g : List ℕ) → AppendsFrontOf f old new → AppendsFrontOf (f ++ g) old new
+first_front old new f g some =
+    (some.0, (some.1.0 ++ g, ap (λ b. b ++ g) some.1.1 ∙ append_assoc some.0 some.1.0 g), some.2)
+
+-- and so is the first part with a front of the last
+pub last_front : {T E : Type 0} (r : Result T E) (old mid new f g : List ℕ) → mid ≡ old ++ f
+    → OnErr r (AppendsFrontOf g mid new) → OnErr r (AppendsFrontOf (f ++ g) old new)
+last_front (Ok x) old mid new f g first fails = tt
+last_front (Err e) old mid new f g first fails = (
+  f ++ fails.0,
+  (fails.1.0, ap (λ b. f ++ b) fails.1.1 ∙ sym (append_assoc f fails.0 fails.1.0)),
+  fails.2 ∙ ap (λ b. b ++ fails.0) first ∙ append_assoc old f fails.0,
+)
+
+-- what is so holds of an error, too
+pub on_err : {T E P : Type 0} (r : Result T E) → P → OnErr r P
+on_err (Ok x) holds = tt
+on_err (Err e) holds = holds
+
 -- two parts, one after the other
 pub pair_bytes : {V W : Type 0} (m n : ℕ) (P : V → Type 0) (Q : W → Type 0) (f : V → List ℕ) (g : W → List ℕ)
     (first : V → V → Ordering) (second : W → W → Ordering)
@@ -46,7 +73,7 @@ pub pair_bytes : {V W : Type 0} (m n : ℕ) (P : V → Type 0) (Q : W → Type 0
     → HaveFixedBytes {V = V × W} (m + n) (λ p. P p.0 × Q p.1) (λ p. f p.0 ++ g p.1)
     (λ p q. ordering_then (first p.0 q.0) (second p.1 q.1))
 pair_bytes {V} {W} m n P Q f g first second front back = record {
-  some = let h = front.some in omega arith;
+  positive = let h = front.positive in omega arith;
   long = λ p h. length-append (f p.0) (g p.1) ∙ ap (λ k. k + length (g p.1)) (front.long p.0 h.0)
       ∙ ap (λ k. m + k) (back.long p.1 h.1);
   fit = λ p h. All-append (λ b. b < 256) (f p.0) (g p.1) (front.fit p.0 h.0) (back.fit p.1 h.1);
@@ -66,7 +93,7 @@ pub regrouped_bytes : {V N : Type 0} (group : V → N) (order : V → V → Orde
     → HaveFixedBytes width P bytes_of cmp
     → HaveFixedBytes width (λ v. P (group v)) (λ v. bytes_of (group v)) order
 regrouped_bytes group order width P bytes_of cmp same same_order laws = record {
-  some = laws.some;
+  positive = laws.positive;
   long = λ v h. laws.long (group v) h;
   fit = λ v h. laws.fit (group v) h;
   one_value = λ v w hv hw e. same v w (laws.one_value (group v) (group w) hv hw e);
@@ -104,7 +131,7 @@ module _ {V : Type 0} (width : ℕ) (P : V → Type 0) (f : V → List ℕ) (cmp
       let head = laws.long v hv.0 in
       let whole = ap length e ∙ length-append (f v ++ flat_map f vs) rest in
       let front = length-append (f v) (flat_map f vs) in
-      let some = laws.some in
+      let some = laws.positive in
       absurd (omega arith)
   cancel (v ∷ vs) (x ∷ xs) rest hv hx e =
       let parts = split_same (f x) (f v) (flat_map f xs) (flat_map f vs ++ rest)
@@ -117,10 +144,10 @@ module _ {V : Type 0} (width : ℕ) (P : V → Type 0) (f : V → List ℕ) (cmp
   one_list [] [] hx hy e = refl
   one_list [] (y ∷ ys) hx hy e =
       let head = laws.long y hy.0 in let whole = ap length e ∙ length-append (f y) (flat_map f ys) in
-      let some = laws.some in absurd (omega arith)
+      let some = laws.positive in absurd (omega arith)
   one_list (x ∷ xs) [] hx hy e =
       let head = laws.long x hx.0 in let whole = ap length (sym e) ∙ length-append (f x) (flat_map f xs) in
-      let some = laws.some in absurd (omega arith)
+      let some = laws.positive in absurd (omega arith)
   one_list (x ∷ xs) (y ∷ ys) hx hy e =
       let parts = split_same (f x) (f y) (flat_map f xs) (flat_map f ys)
       (laws.long x hx.0 ∙ sym (laws.long y hy.0)) e in
@@ -130,7 +157,7 @@ module _ {V : Type 0} (width : ℕ) (P : V → Type 0) (f : V → List ℕ) (cmp
       → slice_cmp cmp xs ys ≡ bytes_cmp (flat_map f xs) (flat_map f ys)
   bytes_cmp-list [] [] hx hy = refl
   bytes_cmp-list [] (y ∷ ys) hx hy =
-      let some = laws.some in
+      let some = laws.positive in
       less (f y ++ flat_map f ys)
       (let head = laws.long y hy.0 in let e = length-append (f y) (flat_map f ys) in omega arith)
     where
@@ -138,7 +165,7 @@ module _ {V : Type 0} (width : ℕ) (P : V → Type 0) (f : V → List ℕ) (cmp
       less [] h = absurd (omega arith)
       less (b ∷ bytes) h = refl
   bytes_cmp-list (x ∷ xs) [] hx hy =
-      let some = laws.some in
+      let some = laws.positive in
       greater (f x ++ flat_map f xs)
       (let head = laws.long x hx.0 in let e = length-append (f x) (flat_map f xs) in omega arith)
     where
@@ -150,7 +177,7 @@ module _ {V : Type 0} (width : ℕ) (P : V → Type 0) (f : V → List ℕ) (cmp
       ∙ ap (ordering_then (bytes_cmp (f x) (f y))) (bytes_cmp-list xs ys hx.1 hy.1)
       ∙ sym (bytes_cmp-append (f x) (f y) (flat_map f xs) (flat_map f ys) (laws.long x hx.0 ∙ sym (laws.long y hy.0)))
 
-  -- one value's bytes behind those of others
+  -- one value's bytes after those of others
   pub pushed : (vs : List V) (v : V) (bytes : List ℕ) → HaveListBytes P f vs bytes → P v
       → HaveListBytes P f (vs ++ v ∷ []) (bytes ++ f v)
   pushed vs v bytes h at_v = (
@@ -176,7 +203,7 @@ module _ {V : Type 0} (width : ℕ) (P : V → Type 0) (f : V → List ℕ) (cmp
       front a b h = grind (arith, common_steps)
 
       by_rest : ((us : List V) × AllByRecursion P us × (flat_map f us ≡ rest) × (xs ≡ vs ++ us)) → ⊥
-      by_rest ([], hu, e, _) = let l = ap length e in let some = laws.some in omega arith
+      by_rest ([], hu, e, _) = let l = ap length e in let some = laws.positive in omega arith
       by_rest (u ∷ us, hu, e, _) =
           let long = laws.long u hu.0 in
           none (u, hu.0, sym (ap (take width) (sym e) ∙ front (f u) (flat_map f us) long))

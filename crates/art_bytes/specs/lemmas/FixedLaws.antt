@@ -11,7 +11,7 @@ use Rattle.art_bytes.specs.Mappings.{HaveFixedBytes}
 
 pub unsigned_bytes : (width : ℕ) → 0 < width → HaveFixedBytes width (λ n. n < 256 ^ width) (big_endian width) nat_cmp
 unsigned_bytes width some = record {
-  some = some;
+  positive = some;
   long = λ n h. length-big_endian width n;
   fit = λ n h. AreBytes-big_endian width n;
   one_value = λ m n hm hn e. big_endian-injective width m n hm hn e;
@@ -26,7 +26,7 @@ pub stored_bytes : {V N : Type 0} (stored : V → N) (InRange : V → Type 0) (o
     → HaveFixedBytes width IsValue bytes_of cmp
     → HaveFixedBytes width (λ v. InRange v × IsValue (stored v)) (λ v. bytes_of (stored v)) order
 stored_bytes stored InRange order width IsValue bytes_of cmp one_value same_order laws = record {
-  some = laws.some;
+  positive = laws.positive;
   long = λ v h. laws.long (stored v) h.1;
   fit = λ v h. laws.fit (stored v) h.1;
   one_value = λ v w hv hw e. one_value v w hv.0 hw.0 (laws.one_value (stored v) (stored w) hv.1 hw.1 e);

@@ -25,7 +25,7 @@ impl FixedBytes for Ipv4Addr {
 
     ghost have_bytes = { ipv4_bytes };
 
-    fn some() -> Ipv4Addr {
+    fn placeholder() -> Ipv4Addr {
         Ipv4Addr::UNSPECIFIED
     }
 
@@ -53,7 +53,7 @@ impl FixedBytes for Ipv6Addr {
 
     ghost have_bytes = { ipv6_bytes };
 
-    fn some() -> Ipv6Addr {
+    fn placeholder() -> Ipv6Addr {
         Ipv6Addr::UNSPECIFIED
     }
 

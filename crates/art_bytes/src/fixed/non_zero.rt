@@ -154,7 +154,7 @@ impl FixedBytes for NonZeroU8 {
         (λ m n hm hn e. one_holder (λ v ok. record { value = v; ok = ok }) above_zero m.value n.value m.ok n.ok e)
         (λ m n hm hn. refl) (unsigned_bytes 1 (lit< tt)) };
 
-    fn some() -> NonZeroU8 {
+    fn placeholder() -> NonZeroU8 {
         NonZeroU8::MIN
     }
 
@@ -183,7 +183,7 @@ impl FixedBytes for NonZeroU16 {
         (λ m n hm hn e. one_holder (λ v ok. record { value = v; ok = ok }) above_zero m.value n.value m.ok n.ok e)
         (λ m n hm hn. refl) (unsigned_bytes 2 (lit< tt)) };
 
-    fn some() -> NonZeroU16 {
+    fn placeholder() -> NonZeroU16 {
         NonZeroU16::MIN
     }
 
@@ -212,7 +212,7 @@ impl FixedBytes for NonZeroU32 {
         (λ m n hm hn e. one_holder (λ v ok. record { value = v; ok = ok }) above_zero m.value n.value m.ok n.ok e)
         (λ m n hm hn. refl) (unsigned_bytes 4 (lit< tt)) };
 
-    fn some() -> NonZeroU32 {
+    fn placeholder() -> NonZeroU32 {
         NonZeroU32::MIN
     }
 
@@ -241,7 +241,7 @@ impl FixedBytes for NonZeroU64 {
         (λ m n hm hn e. one_holder (λ v ok. record { value = v; ok = ok }) above_zero m.value n.value m.ok n.ok e)
         (λ m n hm hn. refl) (unsigned_bytes 8 (lit< tt)) };
 
-    fn some() -> NonZeroU64 {
+    fn placeholder() -> NonZeroU64 {
         NonZeroU64::MIN
     }
 
@@ -270,7 +270,7 @@ impl FixedBytes for NonZeroU128 {
         (λ m n hm hn e. one_holder (λ v ok. record { value = v; ok = ok }) above_zero m.value n.value m.ok n.ok e)
         (λ m n hm hn. refl) (unsigned_bytes 16 (lit< tt)) };
 
-    fn some() -> NonZeroU128 {
+    fn placeholder() -> NonZeroU128 {
         NonZeroU128::MIN
     }
 

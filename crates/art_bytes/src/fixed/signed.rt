@@ -151,7 +151,7 @@ impl FixedBytes for i8 {
     ghost have_bytes = { stored_bytes (flipped w8) (FitsSigned w8) int_cmp 1 _ _ _ (flipped-injective w8)
         (int_cmp-flipped w8) (unsigned_bytes 1 (lit< tt)) };
 
-    fn some() -> i8 {
+    fn placeholder() -> i8 {
         0
     }
 
@@ -178,7 +178,7 @@ impl FixedBytes for i16 {
     ghost have_bytes = { stored_bytes (flipped w16) (FitsSigned w16) int_cmp 2 _ _ _ (flipped-injective w16)
         (int_cmp-flipped w16) (unsigned_bytes 2 (lit< tt)) };
 
-    fn some() -> i16 {
+    fn placeholder() -> i16 {
         0
     }
 
@@ -205,7 +205,7 @@ impl FixedBytes for i32 {
     ghost have_bytes = { stored_bytes (flipped w32) (FitsSigned w32) int_cmp 4 _ _ _ (flipped-injective w32)
         (int_cmp-flipped w32) (unsigned_bytes 4 (lit< tt)) };
 
-    fn some() -> i32 {
+    fn placeholder() -> i32 {
         0
     }
 
@@ -232,7 +232,7 @@ impl FixedBytes for i64 {
     ghost have_bytes = { stored_bytes (flipped w64) (FitsSigned w64) int_cmp 8 _ _ _ (flipped-injective w64)
         (int_cmp-flipped w64) (unsigned_bytes 8 (lit< tt)) };
 
-    fn some() -> i64 {
+    fn placeholder() -> i64 {
         0
     }
 
@@ -259,7 +259,7 @@ impl FixedBytes for i128 {
     ghost have_bytes = { stored_bytes (flipped w128) (FitsSigned w128) int_cmp 16 _ _ _ (flipped-injective w128)
         (int_cmp-flipped w128) (unsigned_bytes 16 (lit< tt)) };
 
-    fn some() -> i128 {
+    fn placeholder() -> i128 {
         0
     }
 

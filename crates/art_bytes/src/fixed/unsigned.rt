@@ -48,7 +48,7 @@ impl FixedBytes for u8 {
 
     ghost have_bytes = { unsigned_bytes 1 (lit< tt) };
 
-    fn some() -> u8 {
+    fn placeholder() -> u8 {
         0
     }
 
@@ -74,7 +74,7 @@ impl FixedBytes for u16 {
 
     ghost have_bytes = { unsigned_bytes 2 (lit< tt) };
 
-    fn some() -> u16 {
+    fn placeholder() -> u16 {
         0
     }
 
@@ -100,7 +100,7 @@ impl FixedBytes for u32 {
 
     ghost have_bytes = { unsigned_bytes 4 (lit< tt) };
 
-    fn some() -> u32 {
+    fn placeholder() -> u32 {
         0
     }
 
@@ -126,7 +126,7 @@ impl FixedBytes for u64 {
 
     ghost have_bytes = { unsigned_bytes 8 (lit< tt) };
 
-    fn some() -> u64 {
+    fn placeholder() -> u64 {
         0
     }
 
@@ -152,7 +152,7 @@ impl FixedBytes for u128 {
 
     ghost have_bytes = { unsigned_bytes 16 (lit< tt) };
 
-    fn some() -> u128 {
+    fn placeholder() -> u128 {
         0
     }
 

@@ -3,7 +3,7 @@ ghost use Rattle.std.specs.Prelude.{◌≡◌};
 ghost use Rattle.std.proofs.Common.{refl, ap};
 ghost use Rattle.art_bytes.specs.Keys.{AreBytes};
 
-use crate::as_bytes::{AsBytes, CloneBytes, OrderedBytes, known_bytes};
+use crate::as_bytes::{AsBytes, CloneBytes, OrderedBytes, bytes_in_range};
 
 /// A borrowed text as a key: its UTF-8 bytes.
 ///
@@ -53,7 +53,7 @@ impl AsBytes for SliceKey<'_> {
     ghost bytes_fit = { λ k h. h };
 
     fn as_bytes(&self) -> &[u8] {
-        known_bytes(self.0)
+        bytes_in_range(self.0)
     }
 }
 

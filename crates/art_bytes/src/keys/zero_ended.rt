@@ -10,7 +10,7 @@ ghost use Rattle.std.specs.List.{each_same};
 ghost use Rattle.art_bytes.specs.Keys.{AreBytes, HasNoZero, bytes_cmp};
 ghost use Rattle.art_bytes.specs.lemmas.KeyLaws.{zero_ended_front, AreBytes-zero_ended};
 
-use crate::as_bytes::{AsBytes, CloneBytes, NoPrefixesBytes, OrderedBytes, known_bytes};
+use crate::as_bytes::{AsBytes, CloneBytes, NoPrefixesBytes, OrderedBytes, bytes_in_range};
 use std::alloc::AllocError;
 use std::cmp::Ordering;
 use std::fmt;
@@ -65,7 +65,7 @@ impl ZeroEnded {
         ensures fits { OnOk result (HasNoZero bytes.items) }
         ensures refused { IfErr result (λ e. HandsBack e bytes.items) }
     {
-        if known_bytes(bytes.as_slice()).contains(&0) {
+        if bytes_in_range(bytes.as_slice()).contains(&0) {
             return Err(ZeroEndedError::HoldsZero(bytes));
         }
         let mut with_zero = bytes;

@@ -34,7 +34,7 @@ fn read_array<E: FixedBytes, const N: usize>(bytes: &[u8]) -> Option<[E; N]>
     if !fits {
         return None;
     }
-    let mut array = [E::some(); N];
+    let mut array = [E::placeholder(); N];
     for index in 0..N {
         let value = match E::checked_from_slice(part::<E>(bytes, index)) {
             Some(value) => value,

@@ -1,7 +1,7 @@
 //! Tuples: the parts' bytes in order.
-ghost use Rattle.std.specs.Prelude.{◌≡◌, ◌++◌, ◌+◌, ◌<◌, ◌^◌, ℕ, List, OnOk, MatchOption};
+ghost use Rattle.std.specs.Prelude.{◌≡◌, ◌++◌, ◌+◌, ◌<◌, ◌^◌, ℕ, List, OnErr, OnOk, MatchOption};
 ghost use Rattle.std.proofs.Common.{◌∙◌, sym, subst, refl, ap};
-ghost use Rattle.art_bytes.specs.Keys.{AreBytes};
+ghost use Rattle.art_bytes.specs.Keys.{AppendsFrontOf, AreBytes};
 ghost use Rattle.art_bytes.specs.lemmas.KeyLaws.{BeginsWith-same_length};
 ghost use Rattle.art_bytes.specs.Mappings.{HaveFixedBytes};
 ghost use Rattle.art_bytes.specs.lemmas.ConcatLaws.{pair_bytes, regrouped_bytes};
@@ -37,10 +37,11 @@ pub trait Parts<D: Ord> {
     fn width() -> Option<usize>
         ensures { MatchOption result (¬ (WIDTH < 2 ^ 64)) (λ n. n ≡ WIDTH) };
 
-    /// Appends the tuple's bytes to those that are there. If it fails, some of them are appended.
+    /// Appends the tuple's bytes to those that are there. If it fails, it has appended a front of them, or nothing.
     fn push_bytes(bytes: &mut Vec<u8>, alloc: Global, value: D) -> Result<(), AllocError>
         ensures value { OnOk result (is_value value) }
-        ensures bytes { OnOk result (bytes.new.items ≡ bytes.old.items ++ parts_bytes value) };
+        ensures bytes { OnOk result (bytes.new.items ≡ bytes.old.items ++ parts_bytes value) }
+        ensures err { OnErr result (AppendsFrontOf (parts_bytes value) bytes.old.items bytes.new.items) };
 
     /// Returns the tuple that has these bytes, or `None` if there is none. It allocates nothing.
     fn checked_from_slice(bytes: &[u8]) -> Option<D>
@@ -57,7 +58,7 @@ fn pair_width<M: Parts<X>, X: Ord + Drop, A: Parts<Y>, Y: Ord + Drop>() -> Optio
     M::width()?.checked_add(A::width()?)
 }
 
-// Puts the bytes of the first parts and then those of the last behind those that are there.
+// Puts the bytes of the first parts and then those of the last after those that are there.
 fn push_pair<M: Parts<X>, X: Ord + Drop, A: Parts<Y>, Y: Ord + Drop>(
     bytes: &mut Vec<u8>,
     alloc: Global,
@@ -67,6 +68,8 @@ fn push_pair<M: Parts<X>, X: Ord + Drop, A: Parts<Y>, Y: Ord + Drop>(
     ensures first { OnOk result (M.is_value first) }
     ensures last { OnOk result (A.is_value last) }
     ensures bytes { OnOk result (bytes.new.items ≡ bytes.old.items ++ (M.parts_bytes first ++ A.parts_bytes last)) }
+    ensures err { OnErr result
+        (AppendsFrontOf (M.parts_bytes first ++ A.parts_bytes last) bytes.old.items bytes.new.items) }
 {
     M::push_bytes(bytes, alloc, first)?;
     A::push_bytes(bytes, alloc, last)

@@ -1,7 +1,7 @@
 //! Numbers and addresses as their fixed bytes.
 ghost use Rattle.std.specs.Prelude.{◌≡◌, ◌++◌, IfOk, OnErr, OnOk, MatchOption, length};
 ghost use Rattle.std.proofs.Common.{◌∙◌, ap, refl, subst, sym};
-ghost use Rattle.art_bytes.specs.Keys.{AreBytes};
+ghost use Rattle.art_bytes.specs.Keys.{AppendsFrontOf, AreBytes};
 ghost use Rattle.art_bytes.specs.Mappings.{HaveFixedBytes};
 ghost use Rattle.art_bytes.specs.lemmas.KeyLaws.{BeginsWith-same_length};
 
@@ -66,10 +66,11 @@ fn read_one<E: FixedBytes>(bytes: &[u8]) -> Option<E>
     E::checked_from_slice(bytes)
 }
 
-// Appends the value's bytes to those that are there.
+// Appends the value's bytes to those that are there. If it fails, it has appended a front of them, or nothing.
 fn push_one<E: FixedBytes>(bytes: &mut Vec<u8>, alloc: Global, value: E) -> Result<(), AllocError>
     ensures value { OnOk result (E.is_value value) }
     ensures bytes { OnOk result (bytes.new.items ≡ bytes.old.items ++ E.fixed_bytes value) }
+    ensures err { OnErr result (AppendsFrontOf (E.fixed_bytes value) bytes.old.items bytes.new.items) }
 {
     let array = value.to_array();
     bytes.extend_from_slice(array.as_bytes())

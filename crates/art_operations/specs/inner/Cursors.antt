@@ -29,11 +29,11 @@ module _ {K V : Type 0} (arena : Arena K V) (cursor : LeafCursor) where
 
 module _ {K V : Type 0} (bytes : K → List ℕ) (key : List ℕ) where
   -- the list begins with this leaf, which has the key, or with none but greater keys
-  abbrev pub StopsBehindLess : Option ℕ → List (LeafAt K V) → Type 0
-  StopsBehindLess None [] = Unit {0}
-  StopsBehindLess None (l ∷ rest) = bytes_cmp (bytes l.key) key ≡ Greater
-  StopsBehindLess (Some leaf) [] = ⊥
-  StopsBehindLess (Some leaf) (l ∷ rest) = (l.slot ≡ leaf) × (bytes l.key ≡ key)
+  abbrev pub StopsAfterLess : Option ℕ → List (LeafAt K V) → Type 0
+  StopsAfterLess None [] = Unit {0}
+  StopsAfterLess None (l ∷ rest) = bytes_cmp (bytes l.key) key ≡ Greater
+  StopsAfterLess (Some leaf) [] = ⊥
+  StopsAfterLess (Some leaf) (l ∷ rest) = (l.slot ≡ leaf) × (bytes l.key ≡ key)
 
   -- the cursor has stepped over all lesser keys at the start of the second part
   pub record HasPassed (arena : Arena K V) (cursor : LeafCursor) (found : Option ℕ)
@@ -43,7 +43,7 @@ module _ {K V : Type 0} (bytes : K → List ℕ) (key : List ℕ) where
     pub parts : back ≡ passed ++ rest
     pub stands : StandsBetween arena cursor (front ++ passed) rest
     pub less : Compare bytes key Less passed
-    pub stops : StopsBehindLess found rest
+    pub stops : StopsAfterLess found rest
 
 -- the arena holds these leaves, linked in order from this one on, and nothing else
 pub record HoldsFrom {K V : Type 0} (arena : Arena K V) (first : Option ℕ) (ls : List (LeafAt K V)) : Type 0 where
@@ -66,7 +66,7 @@ pub record IsListTo {K V : Type 0} (links : ℕ → Option Links) (last : Option
   pub list : IsList links ls
   pub last_is : last_slot None ls ≡ last
 
--- a leaf of this pair stands now behind the list, and all other nodes as they did, the links of leaves aside
+-- a leaf of this pair stands now after the list, and all other nodes as they did, the links of leaves aside
 pub record HasStoredLast {K V : Type 0} (old new : Arena K V) (slot : ℕ) (key : K) (value : V) (ls : List (LeafAt K V))
     : Type 0 where
   pub vacant : node_at old (leaf_name slot) ≡ None

@@ -13,7 +13,7 @@ module _ {K V : Type 0} (bytes : K → List ℕ) (key : List ℕ) where
   abbrev pub Compare : Ordering → List (LeafAt K V) → Type 0
   Compare order ls = AllByRecursion (λ l. bytes_cmp (bytes l.key) key ≡ order) ls
 
-  -- the keys before the leaf with this slab key are below the key, those behind it above, and its own compares so
+  -- the keys before the leaf with this slab key are below the key, those after it above, and its own compares so
   pub record IsNearest (ls : List (LeafAt K V)) (slot : ℕ) (order : Ordering) : Type 0 where
     pub before : List (LeafAt K V)
     pub leaf : LeafAt K V

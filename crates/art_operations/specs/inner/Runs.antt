@@ -22,7 +22,7 @@ module _ {K V : Type 0} (bytes : K → List ℕ) (P : ℕ) (arena : Arena K V) w
         (clones : List (K × V)) × AreClones KeyClone ValueClone pairs clones × HasPairs bytes P arena root clones
 
     -- a command is answered, and the arena has clones of the pairs that it leaves
-    abbrev pub IsCarriedOut : List (K × V) → Command K V → Change → Type 0
-    IsCarriedOut pairs command change =
+    abbrev pub IsExecuted : List (K × V) → Command K V → Change → Type 0
+    IsExecuted pairs command change =
         IsAnswered bytes pairs command change.answer
         × HasClones change.root (after bytes command change.answer pairs)

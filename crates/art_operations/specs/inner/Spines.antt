@@ -13,7 +13,7 @@ use Rattle.art_operations.specs.Held.{HasLeaf}
 use Rattle.art_operations.specs.declared.build.spine.Open.{Open}
 use Rattle.art_operations.specs.declared.build.spine.Spine.{Spine}
 
--- an inner node of these children behind this prefix
+-- an inner node of these children under this prefix
 abbrev pub inner_over : ℕ → List ℕ → List (ℕ × Name) → InnerNode
 inner_over P prefix children = record {
   header = record { num_children = length children; prefix_len = length prefix; stored = take P prefix };
@@ -27,22 +27,22 @@ IsEmptySpine spine = (spine.stack.items ≡ []) × (spine.children.items ≡ [])
 -- how many bytes lead to what comes below the last of these nodes: so many at least
 abbrev pub begin_of : ℕ → List Open → ℕ
 begin_of low [] = low
-begin_of low (o ∷ []) = max low o.behind
+begin_of low (o ∷ []) = max low o.child_depth
 begin_of low (o ∷ p ∷ rest) = begin_of low (p ∷ rest)
 
 -- the nodes with one to whose children so many bytes lead, and before whose children stand so many others
 abbrev pub open_at : ℕ → ℕ → List Open → List Open
-open_at behind first nodes =
-    if nat_le behind (begin_of 0 nodes) then nodes else nodes ++ record { behind = behind; first = first } ∷ []
+open_at deep first nodes =
+    if nat_le deep (begin_of 0 nodes) then nodes else nodes ++ record { child_depth = deep; first = first } ∷ []
 
 -- such a node is open now
-pub record OpensAt (behind : ℕ) (old new : Spine) : Type 0 where
-  pub stack : new.stack.items ≡ open_at behind (length old.children.items) old.stack.items
+pub record OpensAt (child_depth : ℕ) (old new : Spine) : Type 0 where
+  pub stack : new.stack.items ≡ open_at child_depth (length old.children.items) old.stack.items
   pub children : new.children.items ≡ old.children.items
 
 -- and has another child
-pub record AddsChild (behind : ℕ) (child : ℕ × Name) (old new : Spine) : Type 0 where
-  pub stack : new.stack.items ≡ open_at behind (length old.children.items) old.stack.items
+pub record AddsChild (child_depth : ℕ) (child : ℕ × Name) (old new : Spine) : Type 0 where
+  pub stack : new.stack.items ≡ open_at child_depth (length old.children.items) old.stack.items
   pub children : new.children.items ≡ old.children.items ++ child ∷ []
 
 -- an open node: how many bytes of the last key stand before the byte by which it branches, and the children that it has
@@ -68,7 +68,7 @@ module _ {K V : Type 0} where
 
   abbrev pub opened : List (Level K V) → List Open
   opened [] = []
-  opened (l ∷ outer) = opened outer ++ record { behind = suc l.depth; first = length (open_children outer) } ∷ []
+  opened (l ∷ outer) = opened outer ++ record { child_depth = suc l.depth; first = length (open_children outer) } ∷ []
 
   -- how many bytes lead to what comes below the last open node: so many at least
   abbrev pub begin : ℕ → List (Level K V) → ℕ
@@ -79,19 +79,19 @@ module _ {K V : Type 0} (bytes : K → List ℕ) where
   -- the node branches on the way to this key, and what it has so far is canonical and stands before that branch
   pub record IsOpen (key : List ℕ) (l : Level K V) : Type 0 where
     pub inside : l.depth < length key
-    pub some : 1 ≤ width l.kids
+    pub has_kids : 1 ≤ width l.kids
     pub under : AreUnder bytes (take l.depth key) 0 l.kids
     pub below : AreBelow (slice_index key l.depth) l.kids
     pub ascending : IsAscending (children_at l.kids)
 
-  -- so does each of these, each behind the one above
+  -- so does each of these, each after the one above
   abbrev pub AreOpen : List ℕ → List (Level K V) → Type 0
   AreOpen key [] = Unit {0}
   AreOpen key (l ∷ outer) = IsOpen key l × (begin 0 outer ≤ l.depth) × AreOpen key outer
 
   module _ (P : ℕ) (arena : Arena K V) (spine : Spine) (rest : List (Name × Cell K V)) where
     -- The arena holds the children of the open nodes and this part, which stands below the last of them on the way to
-    -- the last key, behind so many bytes at least, beside them the rest, and nothing else; and these are the leaves.
+    -- the last key, after so many bytes at least, beside them the rest, and nothing else; and these are the leaves.
     pub record IsSpine (low : ℕ) (root : Name) (key : List ℕ) (ls : List (LeafAt K V)) : Type 0 where
       pub levels : List (Level K V)
       pub part : Shape K V

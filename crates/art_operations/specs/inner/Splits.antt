@@ -41,7 +41,7 @@ module _ {K V : Type 0} where
   IsEnd true slot ls = first_slot ls None ≡ Some slot
   IsEnd false slot ls = last_slot None ls ≡ Some slot
 
-  -- the place between two lists is before this leaf, the first of the second list, or else behind it, the last of the
+  -- the place between two lists is before this leaf, the first of the second list, or else after it, the last of the
   -- first list
   abbrev pub IsBetween : Bool → ℕ → List (LeafAt K V) → List (LeafAt K V) → Type 0
   IsBetween true slot xs ys = first_slot ys None ≡ Some slot

@@ -17,7 +17,7 @@ use art_nodes::{
 };
 use std::alloc::AllocError;
 
-// An inner node of these children behind this prefix.
+// An inner node of these children under this prefix.
 #[inline(always)]
 fn node_over<N: InnerNodeCommon<PREFIX_LEN>, const PREFIX_LEN: usize>(
     prefix: &[u8],

@@ -22,7 +22,7 @@ use art_bytes::AsBytes;
 use art_nodes::{ChildIter, KindLeaf, NodeType, OpaqueNodePtr};
 use std::alloc::AllocError;
 
-// Notes children behind those that are noted.
+// Notes children after those that are noted.
 fn note_all(noted: &mut Vec<(u8, OpaqueNodePtr)>, children: ChildIter<'_>) -> Result<(), AllocError>
     ensures items { OnOk result (noted.new.items ≡ noted.old.items ++ children.entry) }
     ensures capacity { vec_capacity noted.old ≤ vec_capacity noted.new }
@@ -39,7 +39,7 @@ fn note_all(noted: &mut Vec<(u8, OpaqueNodePtr)>, children: ChildIter<'_>) -> Re
 }
 
 // Opens the inner node that the part is: frees it, and notes its children, all but the last. That is the part then. No
-// byte that leads to a part stands behind so many.
+// byte that leads to a part stands after so many.
 //
 // Fails only if out of memory. Then room that was there stays, and nothing else changes.
 fn open_top<K: AsBytes + Drop, V: Drop, const PREFIX_LEN: usize>(
@@ -71,9 +71,9 @@ fn open_top<K: AsBytes + Drop, V: Drop, const PREFIX_LEN: usize>(
     let count = arena.inner(part).num_children();
     spine.reserve(arena, count)?;
     let inner = arena.inner(part);
-    let behind = spine.begin(0) + inner.prefix_len() + 1;
+    let child_depth = spine.begin(0) + inner.prefix_len() + 1;
     let first = spine.children.len();
-    let Ok(()) = spine.stack.push(Open { behind, first }) else {
+    let Ok(()) = spine.stack.push(Open { child_depth, first }) else {
         unreachable!();
     };
     let Ok(()) = note_all(&mut spine.children, inner.children()) else {

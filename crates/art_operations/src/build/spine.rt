@@ -24,12 +24,12 @@ use std::alloc::{AllocError, Global};
 #[derive(Clone, Copy)]
 pub(super) struct Open {
     /// How many bytes of a key lead to its children: those before the byte by which it branches, and that byte.
-    pub(super) behind: usize,
+    pub(super) child_depth: usize,
     /// How many children of other open nodes come before its own.
     pub(super) first: usize,
 }
 
-/// The open nodes, from the root down, and the children that they have so far, one node's behind those of the node
+/// The open nodes, from the root down, and the children that they have so far, one node's after those of the node
 /// above. What is still to come below the last child of each is not among them.
 #[derive(Drop)]
 pub(super) struct Spine {
@@ -112,25 +112,25 @@ impl Spine {
         ensures { result ≡ begin_of low self.now.stack.items }
     {
         match self.stack.last() {
-            Some(top) => low.max(top.behind),
+            Some(top) => low.max(top.child_depth),
             None => low,
         }
     }
 
     // Opens the node that branches by the last of so many bytes, if it isn't open.
     #[inline(always)]
-    fn open_at(&mut self, behind: usize) -> Result<(), AllocError>
-        ensures ok { OnOk result (OpensAt behind self.old self.new) }
+    fn open_at(&mut self, child_depth: usize) -> Result<(), AllocError>
+        ensures ok { OnOk result (OpensAt child_depth self.old self.new) }
         ensures succeeds { (more : ℕ) → HasPlaces self.old (suc more) → IsOk result }
         ensures places { OnOk result ((more : ℕ) → HasPlaces self.old (suc more)
             → length self.new.stack.items + more ≤ vec_capacity self.new.stack) }
         ensures children { self.new.children ≡ self.old.children }
     {
-        if behind <= self.begin(0) {
+        if child_depth <= self.begin(0) {
             return Ok(());
         }
         let first = self.children.len();
-        match self.stack.push(Open { behind, first }) {
+        match self.stack.push(Open { child_depth, first }) {
             Ok(()) => Ok(()),
             Err(_) => Err(AllocError),
         }
@@ -140,15 +140,15 @@ impl Spine {
     #[inline(always)]
     pub(super) fn add_child(
         &mut self,
-        behind: usize,
+        child_depth: usize,
         byte: u8,
         child: OpaqueNodePtr,
     ) -> Result<(), AllocError>
-        ensures ok { OnOk result (AddsChild behind (byte, child) self.old self.new) }
+        ensures ok { OnOk result (AddsChild child_depth (byte, child) self.old self.new) }
         ensures succeeds { (more : ℕ) → HasPlaces self.old (suc more) → IsOk result }
         ensures places { OnOk result ((more : ℕ) → HasPlaces self.old (suc more) → HasPlaces self.new more) }
     {
-        self.open_at(behind)?;
+        self.open_at(child_depth)?;
         match self.children.push((byte, child)) {
             Ok(()) => Ok(()),
             Err(_) => Err(AllocError),
@@ -185,7 +185,7 @@ fn close_top<K: AsBytes, V, const PREFIX_LEN: usize>(
         unreachable!();
     };
     let from = spine.begin(low);
-    let depth = top.behind - 1;
+    let depth = top.child_depth - 1;
     let byte = arena.as_key_ref(last).as_bytes()[depth];
     let Ok(()) = spine.children.push((byte, part)) else {
         return Err(AllocError);
@@ -278,11 +278,11 @@ pub(super) fn pass_at<K: AsBytes, V, const PREFIX_LEN: usize>(
     ensures nodes { (more : ℕ) → HasNodeRoom arena.old spine.old (suc more) → HasNodeRoom arena.new spine.new more }
     ensures leaf_room { KeepsLeafRoom arena.old arena.new }
 {
-    let behind = parted.matched + 1;
-    let Ok(part) = close(arena, spine, last, behind) else {
+    let child_depth = parted.matched + 1;
+    let Ok(part) = close(arena, spine, last, child_depth) else {
         unreachable!();
     };
-    let Ok(()) = spine.add_child(behind, parted.old_byte, part) else {
+    let Ok(()) = spine.add_child(child_depth, parted.old_byte, part) else {
         unreachable!();
     };
 }

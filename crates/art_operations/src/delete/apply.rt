@@ -1,11 +1,13 @@
 //! A leaf is removed from a tree.
-ghost use Rattle.std.specs.Prelude.{◌≡◌, List, None, IfOk, IsOk, OnErr};
+ghost use Rattle.std.specs.Prelude.{◌≡◌, List, None, IfOk, IsOk, OnErr, OnOk};
 ghost use Rattle.art_nodes.specs.Name.{Name};
 ghost use Rattle.art_arena.specs.arena.Arena.{HasRoom, KeepsNodes, KeepsRoomOf, SameNodes, UsesRoom};
 ghost use Rattle.art_arena.specs.arena.Cells.{Cell};
 ghost use Rattle.art_arena.specs.arena.Shapes.{Shape, leaves};
 ghost use Rattle.art_arena.specs.tree.Shrinks.{Shrinks};
 ghost use Rattle.art_arena.specs.arena.Steps.{steps_of};
+ghost use Rattle.art_arena.specs.arena.Rooms.{FreesRoomOf};
+ghost use Rattle.art_nodes.specs.declared.kind.NodeType.TheVariants.{Leaf};
 ghost use Rattle.art_operations.specs.DeletePoints.{IsLeafPlace};
 ghost use Rattle.art_operations.specs.Deletions.{IsDeletedBeside};
 ghost use Rattle.art_arena.specs.arena.Stores.{StoresBeside};
@@ -48,6 +50,7 @@ impl DeletePoint {
             → Shrinks (λ l. K.bytes l.key) (leaves s) (K.bytes place.key)) }
         ensures succeeds { HasRoom arena.old 1 → IsOk result }
         ensures room { UsesRoom 1 arena.old arena.new }
+        ensures leaf_room { OnOk result (FreesRoomOf Leaf arena.old arena.new) }
         ensures kept_room { OnErr result (KeepsRoomOf arena.old arena.new) }
     {
         let DeletePoint {

@@ -13,12 +13,13 @@ ghost use Rattle.art_arena.specs.arena.Steps.{steps_of};
 ghost use Rattle.art_operations.specs.inner.Detached.{IsChildPart, IsDetached, StandsFor, StoresNodes};
 ghost use Rattle.art_operations.specs.inner.Removals.{EditsNode, LosesKind, Moves, PutsBack};
 ghost use Rattle.art_operations.specs.Held.{HasInner, SameLinks};
+ghost use Rattle.art_operations.specs.Rebuilds.{KeepsLeafRoom};
 ghost use Rattle.art_operations.specs.Subtrees.{CanLoseChild, HasRoomAbove, IsPartPlace};
 
 use crate::delete::merge::merge;
 use art_arena::{NodeArena, NodeEdit, TreePath};
 use art_bytes::AsBytes;
-use art_nodes::{NodeType, OpaqueNodePtr, known};
+use art_nodes::{NodeType, OpaqueNodePtr, assume_proved};
 use std::alloc::AllocError;
 
 // Takes the child under a byte out of a node of three or more, and answers what then stands for the node: one of the
@@ -47,6 +48,7 @@ fn take_child<K, V, const PREFIX_LEN: usize>(
         → CanShrink parent.kind (length (without_child n.children byte))
         → HasRoomOf arena.old (shrunk_kind parent.kind) 1) → IsOk result }
     ensures room { UsesRoom 1 arena.old arena.new }
+    ensures leaf_room { KeepsLeafRoom arena.old arena.new }
     ensures kept_room { OnErr result (KeepsRoomOf arena.old arena.new) }
 {
     arena.edit_inner(parent, &NodeEdit::Remove { byte });
@@ -87,6 +89,7 @@ fn take_out<K: AsBytes, V, const PREFIX_LEN: usize>(
     ensures succeeds { HasRoom arena.old 1 → IsOk result }
     ensures has_room { CanLoseChild arena.old parent → IsOk result }
     ensures room { UsesRoom 1 arena.old arena.new }
+    ensures leaf_room { KeepsLeafRoom arena.old arena.new }
     ensures kept_room { OnErr result (KeepsRoomOf arena.old arena.new) }
 {
     if arena.inner(parent).num_children() == 2 {
@@ -109,6 +112,7 @@ fn point_at<K, V, const PREFIX_LEN: usize>(
     ensures other { new ≢ old → EditsNode arena.old arena.new above
         (λ n. with_children n (with_child n.children byte new)) }
     ensures room { KeepsRoom arena.old arena.new }
+    ensures room_of { KeepsRoomOf arena.old arena.new }
 {
     if new == old {
         return;
@@ -141,6 +145,7 @@ pub(crate) fn detach<K: AsBytes, V, const PREFIX_LEN: usize>(
     ensures succeeds { HasRoom arena.old 1 → IsOk result }
     ensures has_room { HasRoomAbove arena.old (steps_of path) → IsOk result }
     ensures room { UsesRoom 1 arena.old arena.new }
+    ensures leaf_room { KeepsLeafRoom arena.old arena.new }
     ensures kept_room { OnErr result (KeepsRoomOf arena.old arena.new) }
 {
     match path {
@@ -187,11 +192,12 @@ pub(crate) fn detach_in_room<K: AsBytes, V, const PREFIX_LEN: usize>(
         → IsDetached K.bytes PREFIX_LEN arena.new rest place.ctx place.part result }
     ensures links { SameLinks arena.old arena.new }
     ensures room { UsesRoom 1 arena.old arena.new }
+    ensures leaf_room { KeepsLeafRoom arena.old arena.new }
 {
     match detach(arena, root, path, part) {
         Ok(left) => left,
         Err(_) => {
-            known(false);
+            assume_proved(false);
             unreachable!()
         }
     }

@@ -5,6 +5,8 @@ ghost use Rattle.art_arena.specs.arena.Arena.{HasRoom, KeepsNodes, KeepsRoomOf, 
 ghost use Rattle.art_arena.specs.arena.Cells.{Cell};
 ghost use Rattle.art_arena.specs.arena.Shapes.{Shape, leaves};
 ghost use Rattle.art_arena.specs.arena.Steps.{steps_of};
+ghost use Rattle.art_arena.specs.arena.Rooms.{FreesRoomOf};
+ghost use Rattle.art_nodes.specs.declared.kind.NodeType.TheVariants.{Leaf};
 ghost use Rattle.art_arena.specs.arena.Stores.{StoresBeside};
 ghost use Rattle.art_arena.specs.tree.Shrinks.{Shrinks};
 ghost use Rattle.art_operations.specs.DeletePoints.{IsLeafPlace};
@@ -45,6 +47,7 @@ pub fn take_leaf<K: AsBytes, V, const PREFIX_LEN: usize>(
         → (there : IsAmong leaf (leaves s)) → Shrinks (λ l. K.bytes l.key) (leaves s) (K.bytes there.leaf.key)) }
     ensures succeeds { HasRoom arena.old 1 → IsOk result }
     ensures room { UsesRoom 1 arena.old arena.new }
+    ensures leaf_room { OnOk result (FreesRoomOf Leaf arena.old arena.new) }
     ensures kept_room { OnErr result (KeepsRoomOf arena.old arena.new) }
 {
     let point = point_of(arena, root, leaf);

@@ -2,7 +2,7 @@
 ghost use Rattle.std.specs.Prelude.{◌≡◌, ◌≢◌, ◌<◌, ◌+◌, ◌^◌, ℕ, List, ◌∷◌, ◌++◌, Some, None, length, take};
 ghost use Rattle.art_nodes.specs.InnerNode as node;
 ghost use Rattle.art_nodes.specs.Name.{Name};
-ghost use Rattle.art_arena.specs.arena.Arena.{Arena, held_at, KeepsRoom};
+ghost use Rattle.art_arena.specs.arena.Arena.{Arena, held_at, KeepsRoom, KeepsRoomOf};
 ghost use Rattle.art_arena.specs.arena.Cells.{UpdatesAt};
 ghost use Rattle.art_arena.specs.arena.Shapes.{Shape};
 ghost use Rattle.art_operations.specs.inner.Removals.{IsOther, Lengthens};
@@ -70,7 +70,7 @@ fn prefixes_fit<K: AsBytes, V, const PREFIX_LEN: usize>(
     child: OpaqueNodePtr,
 )
     requires inner { child.kind ≢ NodeType.Leaf }
-    requires behind { (path : List ℕ) × (s : Shape K V) × StoresBelow K.bytes PREFIX_LEN arena.now child path s
+    requires stored { (path : List ℕ) × (s : Shape K V) × StoresBelow K.bytes PREFIX_LEN arena.now child path s
         × (len < length path) }
     ensures { (n : node.InnerNode) → HasInner arena.now child n → len + 1 + n.header.prefix_len < 2 ^ 64 }
 {
@@ -98,6 +98,7 @@ fn lengthen<K: AsBytes, V, const PREFIX_LEN: usize>(
     ensures lengthens { (n : node.InnerNode) → HasInner arena.old parent n
         → Lengthens PREFIX_LEN arena.old arena.new n byte child }
     ensures room { KeepsRoom arena.old arena.new }
+    ensures room_of { KeepsRoomOf arena.old arena.new }
 {
     if child.is::<KindLeaf>() {
         return;
@@ -126,6 +127,7 @@ pub(crate) fn merge<K: AsBytes, V, const PREFIX_LEN: usize>(
         → (mid : Arena K V) × Lengthens PREFIX_LEN arena.old mid n other.0 other.1
         × UpdatesAt (held_at mid) (held_at arena.new) parent None }
     ensures room { KeepsRoom arena.old arena.new }
+    ensures room_of { KeepsRoomOf arena.old arena.new }
 {
     let (edge, child) = other_child(arena, parent, byte);
     lengthen(arena, parent, edge, child);

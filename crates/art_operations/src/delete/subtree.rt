@@ -8,6 +8,7 @@ ghost use Rattle.art_nodes.specs.Kind.{CanShrink};
 ghost use Rattle.art_arena.specs.arena.Arena.{HasRoom, KeepsNodes, KeepsRoom, SameNodes, UsesRoom};
 ghost use Rattle.art_arena.specs.arena.Shapes.{erase, key_of, leaves};
 ghost use Rattle.art_arena.specs.arena.Steps.{steps_of};
+ghost use Rattle.art_operations.specs.Frees.{FreesLeaves};
 ghost use Rattle.art_operations.specs.Held.{HasInner};
 ghost use Rattle.art_operations.specs.LeafNames.{HasLeavesOf};
 ghost use Rattle.art_operations.specs.Openings.{ForLongest, OpeningReads, ReadsAtLeast, ReadsExactly};
@@ -91,7 +92,7 @@ pub fn search_for_subtree_delete_point<K: AsBytes, V, const PREFIX_LEN: usize>(
     prefix: &[u8],
 ) -> Option<SubtreeDeletePoint>
     requires { HasTree K.bytes PREFIX_LEN reader.old.arena.now root }
-    ensures answer { OfTree K.bytes PREFIX_LEN reader.old.arena.now root
+    ensures value { OfTree K.bytes PREFIX_LEN reader.old.arena.now root
         (λ s. IsSubtreeAnswer K.bytes prefix.now s result) }
     ensures root { IfSome result (λ point. point.root ≡ root) }
     ensures kept { reader.new.arena.now ≡ reader.old.arena.now }
@@ -120,7 +121,7 @@ pub fn search_for_subtree_delete_point<K: AsBytes, V, const PREFIX_LEN: usize>(
 }
 
 // Makes room for what an inner node becomes without one of its children, where that is one of the next smaller kind.
-fn make_room<K, V, const PREFIX_LEN: usize>(
+fn reserve_smaller<K, V, const PREFIX_LEN: usize>(
     arena: &mut NodeArena<K, V, PREFIX_LEN>,
     parent: OpaqueNodePtr,
 ) -> Result<(), AllocError>
@@ -154,13 +155,13 @@ impl SubtreeDeletePoint {
         self,
         arena: &mut NodeArena<K, V, PREFIX_LEN>,
     ) -> Result<PreparedSubtreeDelete, AllocError>
-        requires { (front : List ℕ)
-            × HasTreeWhere K.bytes PREFIX_LEN arena.old self.root (λ s. IsSubtreePoint K.bytes front s self) }
+        requires { (prefix : List ℕ)
+            × HasTreeWhere K.bytes PREFIX_LEN arena.old self.root (λ s. IsSubtreePoint K.bytes prefix s self) }
         ensures point { IfOk result (λ prepared. prepared.point ≡ self) }
         ensures ready { OnOk result (HasRoomAbove arena.new (steps_of self.path)) }
-        ensures shrinks { OnErr result ((front : List ℕ) → OfTreeWhere K.bytes PREFIX_LEN arena.old self.root
-            (λ s. IsSubtreePoint K.bytes front s self)
-            (λ s rest. ShrinksWithout (λ l. K.bytes l.key) (leaves s) front)) }
+        ensures shrinks { OnErr result ((prefix : List ℕ) → OfTreeWhere K.bytes PREFIX_LEN arena.old self.root
+            (λ s. IsSubtreePoint K.bytes prefix s self)
+            (λ s rest. ShrinksWithout (λ l. K.bytes l.key) (leaves s) prefix)) }
         ensures succeeds { HasRoom arena.old 1 → IsOk result }
         ensures kept_room { KeepsRoom arena.old arena.new }
         ensures kept { SameNodes arena.old arena.new }
@@ -168,7 +169,7 @@ impl SubtreeDeletePoint {
         let Some(step) = last_step(self.path) else {
             return Ok(PreparedSubtreeDelete { point: self });
         };
-        make_room(arena, step.0)?;
+        reserve_smaller(arena, step.0)?;
         Ok(PreparedSubtreeDelete { point: self })
     }
 }
@@ -180,18 +181,19 @@ impl PreparedSubtreeDelete {
         self,
         arena: &mut NodeArena<K, V, PREFIX_LEN>,
     ) -> SubtreeDeleteResult
-        requires place { (front : List ℕ) × HasTreeWhere K.bytes PREFIX_LEN arena.old self.point.root
-            (λ s. IsSubtreePoint K.bytes front s self.point) }
+        requires place { (prefix : List ℕ) × HasTreeWhere K.bytes PREFIX_LEN arena.old self.point.root
+            (λ s. IsSubtreePoint K.bytes prefix s self.point) }
         requires ready { HasRoomAbove arena.old (steps_of self.point.path) }
-        ensures cut { (front : List ℕ) → OfTreeWhere K.bytes PREFIX_LEN arena.old self.point.root
-            (λ s. IsSubtreePoint K.bytes front s self.point)
-            (λ s rest. IsCutBeside K.bytes front PREFIX_LEN arena.new rest s result) }
-        ensures others { (front : List ℕ) → OfTreeWhere K.bytes PREFIX_LEN arena.old self.point.root
-            (λ s. IsSubtreePoint K.bytes front s self.point) (λ s rest. KeepsNodes rest arena.old arena.new) }
+        ensures cut { (prefix : List ℕ) → OfTreeWhere K.bytes PREFIX_LEN arena.old self.point.root
+            (λ s. IsSubtreePoint K.bytes prefix s self.point)
+            (λ s rest. IsCutBeside K.bytes prefix PREFIX_LEN arena.new rest s result) }
+        ensures others { (prefix : List ℕ) → OfTreeWhere K.bytes PREFIX_LEN arena.old self.point.root
+            (λ s. IsSubtreePoint K.bytes prefix s self.point) (λ s rest. KeepsNodes rest arena.old arena.new) }
         ensures names { HasLeavesOf K.bytes arena.old arena.new }
         ensures all_freed { result.leafs_removed ≤ result.nodes_freed }
         ensures few_freed { result.nodes_freed + 1 ≤ 2 * result.leafs_removed }
         ensures room { UsesRoom 1 arena.old arena.new }
+        ensures leaf_room { FreesLeaves result.leafs_removed arena.old arena.new }
     {
         let point = self.point;
         let new_root = detach_in_room(arena, point.root, point.path, point.subtree);

@@ -8,7 +8,7 @@ ghost use Rattle.art_operations.specs.declared.insert.point.InsertKind.TheVarian
 ghost use Rattle.art_operations.specs.Whichever.{HasTreeWhere, OfTreeWhere};
 
 use crate::insert::exact::replace_pair;
-use crate::insert::into_existing::put_into_existing;
+use crate::insert::into_existing::insert_into_existing;
 use crate::insert::point::{InsertKind, InsertPoint};
 use crate::insert::result::{InsertRefused, InsertResult};
 use crate::insert::split::split;
@@ -56,7 +56,7 @@ impl InsertPoint {
             InsertKind::IntoExisting {
                 inner_node_ptr,
                 key_byte,
-            } => put_into_existing(arena, self, inner_node_ptr, key_byte, key, value),
+            } => insert_into_existing(arena, self, inner_node_ptr, key_byte, key, value),
             InsertKind::Exact { leaf_node_ptr } => {
                 Ok(replace_pair(arena, self, leaf_node_ptr, key, value))
             }

@@ -8,16 +8,16 @@ ghost use Rattle.art_operations.specs.Points.{IsPoint};
 ghost use Rattle.art_operations.specs.Whichever.{HasTreeWhere, OfTreeWhere};
 ghost use Rattle.art_operations.specs.declared.insert.point.InsertKind.{InsertKind};
 ghost use Rattle.art_operations.specs.declared.insert.point.InsertKind.TheVariants as kind;
-ghost use Rattle.art_operations.specs.inner.Ways.{met_by, point_at};
+ghost use Rattle.art_operations.specs.inner.SearchEnds.{met_by, point_at};
 
 use crate::insert::exact::replace_pair;
-use crate::insert::into_existing::put_into_existing;
-use crate::insert::point::{InsertKind, Stop, Way};
+use crate::insert::into_existing::insert_into_existing;
+use crate::insert::point::{InsertKind, SearchEnd, Stop};
 use crate::insert::result::{InsertRefused, InsertResult};
 use crate::insert::split::split;
 use art_arena::NodeArena;
 use art_bytes::AsBytes;
-use art_nodes::{NodePtr, OpaqueNodePtr, known};
+use art_nodes::{NodePtr, OpaqueNodePtr, assume_proved};
 
 /// Puts a key and its value in where the search for the key's place below this root stopped. It does what
 /// `InsertPoint::apply` does at that place. The search ended in this way, and in no conflict.
@@ -26,7 +26,7 @@ pub(crate) fn insert_at_stop<K: AsBytes, V, const PREFIX_LEN: usize>(
     arena: &mut NodeArena<K, V, PREFIX_LEN>,
     root: OpaqueNodePtr,
     stop: Stop,
-    way: Way,
+    way: SearchEnd,
     key: K,
     value: V,
 ) -> Result<InsertResult<K, V>, InsertRefused<K, V>>
@@ -47,12 +47,12 @@ pub(crate) fn insert_at_stop<K: AsBytes, V, const PREFIX_LEN: usize>(
     ensures exact_room { (leaf : ℕ) → met_by stop.node way ≡ Some (kind.Exact leaf) → KeepsRoomOf arena.old arena.new }
 {
     match way {
-        Way::Same => {
+        SearchEnd::Same => {
             let leaf_node_ptr = NodePtr::from_slot(stop.node.slot());
             let point = stop.point(root, InsertKind::Exact { leaf_node_ptr });
             Ok(replace_pair(arena, point, leaf_node_ptr, key, value))
         }
-        Way::PartsFromLeaf(parted) => {
+        SearchEnd::PartsFromLeaf(parted) => {
             let leaf_node_ptr = NodePtr::from_slot(stop.node.slot());
             let met = InsertKind::SplitLeaf {
                 leaf_node_ptr,
@@ -61,7 +61,7 @@ pub(crate) fn insert_at_stop<K: AsBytes, V, const PREFIX_LEN: usize>(
             let point = stop.point(root, met);
             split(arena, point, leaf_node_ptr.to_opaque(), parted, key, value)
         }
-        Way::PartsFromPrefix(parted) => {
+        SearchEnd::PartsFromPrefix(parted) => {
             let inner_node_ptr = stop.node;
             let met = InsertKind::MismatchPrefix {
                 inner_node_ptr,
@@ -70,17 +70,17 @@ pub(crate) fn insert_at_stop<K: AsBytes, V, const PREFIX_LEN: usize>(
             let point = stop.point(root, met);
             split(arena, point, inner_node_ptr, parted, key, value)
         }
-        Way::NoChild(key_byte) => {
+        SearchEnd::NoChild(key_byte) => {
             let inner_node_ptr = stop.node;
             let met = InsertKind::IntoExisting {
                 inner_node_ptr,
                 key_byte,
             };
             let point = stop.point(root, met);
-            put_into_existing(arena, point, inner_node_ptr, key_byte, key, value)
+            insert_into_existing(arena, point, inner_node_ptr, key_byte, key, value)
         }
-        Way::Conflict => {
-            known(false);
+        SearchEnd::Conflict => {
+            assume_proved(false);
             unreachable!()
         }
     }

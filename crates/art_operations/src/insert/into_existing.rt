@@ -27,7 +27,7 @@ use crate::parent::{last_step, put_below};
 use art_arena::links::insert_between;
 use art_arena::{LeafPtr, NodeArena, NodeEdit, first_leaf, inner_node_ptr, last_leaf};
 use art_bytes::AsBytes;
-use art_nodes::{KindLeaf, OpaqueNodePtr, known};
+use art_nodes::{KindLeaf, OpaqueNodePtr, assume_proved};
 use std::alloc::AllocError;
 
 // An inner node with room for one more child, and the root of its tree.
@@ -37,7 +37,7 @@ struct Place {
     root: OpaqueNodePtr,
 }
 
-// A leaf that is linked, and whether a new one goes before it or behind it.
+// A leaf that is linked, and whether a new one goes before it or after it.
 #[derive(Clone, Copy)]
 struct Neighbour {
     leaf: LeafPtr,
@@ -86,7 +86,7 @@ fn grow_at<K: AsBytes, V, const PREFIX_LEN: usize>(
 // Makes room for one more child, under this byte, in the inner node at a point: where the node is full, one of the next
 // larger kind takes its place.
 #[inline(always)]
-fn make_room<K: AsBytes, V, const PREFIX_LEN: usize>(
+fn reserve_child<K: AsBytes, V, const PREFIX_LEN: usize>(
     arena: &mut NodeArena<K, V, PREFIX_LEN>,
     point: InsertPoint,
     inner: OpaqueNodePtr,
@@ -127,10 +127,10 @@ fn neighbours_between<K: AsBytes, V, const PREFIX_LEN: usize>(
     next: OpaqueNodePtr,
 ) -> Neighbours
     requires before { HasSome (StoresBelow K.bytes PREFIX_LEN arena.now previous) }
-    requires behind { HasSome (StoresBelow K.bytes PREFIX_LEN arena.now next) }
+    requires after { HasSome (StoresBelow K.bytes PREFIX_LEN arena.now next) }
     ensures { OfEach (StoresBelow K.bytes PREFIX_LEN arena.now previous) (λ to_before before.
-        OfEach (StoresBelow K.bytes PREFIX_LEN arena.now next) (λ to_behind behind.
-        AreNeighbours result (leaves before) (leaves behind))) }
+        OfEach (StoresBelow K.bytes PREFIX_LEN arena.now next) (λ to_after following.
+        AreNeighbours result (leaves before) (leaves following))) }
 {
     if !previous.is::<KindLeaf>() {
         return Neighbours::One(Neighbour {
@@ -167,8 +167,8 @@ fn neighbours_at<K: AsBytes, V, const PREFIX_LEN: usize>(
 {
     let inner = arena.inner(node);
     let before = inner.child_before(byte);
-    let behind = inner.child_after(byte);
-    match (before, behind) {
+    let following = inner.child_after(byte);
+    match (before, following) {
         (Some(previous), Some(next)) => neighbours_between(arena, previous.1, next.1),
         (None, Some(next)) => Neighbours::One(Neighbour {
             leaf: first_leaf(arena, next.1),
@@ -179,7 +179,7 @@ fn neighbours_at<K: AsBytes, V, const PREFIX_LEN: usize>(
             is_before: false,
         }),
         (None, None) => {
-            known(false);
+            assume_proved(false);
             unreachable!()
         }
     }
@@ -209,7 +209,7 @@ fn link_in<K, V, const PREFIX_LEN: usize>(
 }
 
 // Links a leaf in and puts it under a byte of an inner node, which has room for it.
-fn put_leaf<K: AsBytes, V, const PREFIX_LEN: usize>(
+fn insert_leaf<K: AsBytes, V, const PREFIX_LEN: usize>(
     arena: &mut NodeArena<K, V, PREFIX_LEN>,
     node: OpaqueNodePtr,
     byte: u8,
@@ -244,7 +244,7 @@ fn put_leaf<K: AsBytes, V, const PREFIX_LEN: usize>(
 /// A leaf is made, and where the node is full one of the next larger kind, which takes its place. Where there is no
 /// memory for them, the key and the value are handed back, and the tree is as it was.
 #[inline(always)]
-pub(crate) fn put_into_existing<K: AsBytes, V, const PREFIX_LEN: usize>(
+pub(crate) fn insert_into_existing<K: AsBytes, V, const PREFIX_LEN: usize>(
     arena: &mut NodeArena<K, V, PREFIX_LEN>,
     point: InsertPoint,
     inner: OpaqueNodePtr,
@@ -266,11 +266,11 @@ pub(crate) fn put_into_existing<K: AsBytes, V, const PREFIX_LEN: usize>(
     ensures kept_room { OnErr result (KeepsRoomOf arena.old arena.new) }
 {
     let leaf = store_leaf(arena, key, value)?;
-    let place = match make_room(arena, point, inner, byte) {
+    let place = match reserve_child(arena, point, inner, byte) {
         Ok(place) => place,
         Err(_) => return Err(take_back(arena, leaf)),
     };
-    put_leaf(arena, place.node, byte, leaf);
+    insert_leaf(arena, place.node, byte, leaf);
     Ok(InsertResult {
         leaf_node_ptr: leaf,
         existing_leaf: None,

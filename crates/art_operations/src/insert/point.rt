@@ -1,5 +1,8 @@
 //! The place of a new key.
 ghost use Rattle.std.specs.Prelude.{◌≡◌, ◌↔◌, ◌+◌, ◌≤◌, ℕ, List, length, drop, IfOk, IfErr, IsTrue, MatchOption};
+ghost use Rattle.std.specs.Prelude.{nat_eq};
+ghost use Rattle.std.specs.Cmp.{partial_equiv_from_equiv};
+ghost use Rattle.std.specs.Cmp.Lexicographic.{pointwise, nat_list_eq_equiv};
 ghost use Rattle.art_bytes.specs.Keys.{BeginsWith};
 ghost use Rattle.art_arena.specs.arena.Context.{path_to};
 ghost use Rattle.art_arena.specs.arena.Shapes.{Shape, erase};
@@ -8,12 +11,13 @@ ghost use Rattle.art_operations.specs.Openings.{DescentReads, ForLongest, PlaceR
 ghost use Rattle.art_operations.specs.Openings.{place_reads};
 ghost use Rattle.art_operations.specs.Points.{IsInTheWay, IsPlaceOrConflict, Refuses};
 ghost use Rattle.art_operations.specs.declared.insert.point.InsertKind.TheVariants as kind;
-ghost use Rattle.art_operations.specs.declared.insert.point.Way.TheVariants as way;
+ghost use Rattle.art_operations.specs.declared.insert.point.SearchEnd.TheVariants as way;
 ghost use Rattle.art_arena.specs.arena.Arena.{node_at};
 ghost use Rattle.art_arena.specs.arena.Steps.{steps_of};
 ghost use Rattle.art_arena.specs.arena.Descents.{OnWayTo, Stops};
-ghost use Rattle.art_operations.specs.inner.Ways.{EndsInside, IsWayAtInner, IsWayAtLeaf, IsWay, answer_at, met_by};
-ghost use Rattle.art_operations.specs.inner.Ways.{point_at};
+ghost use Rattle.art_operations.specs.inner.SearchEnds.{EndsInside, IsEndAtInner, IsEndAtLeaf, IsSearchEnd, met_by};
+ghost use Rattle.art_operations.specs.inner.SearchEnds.{result_at};
+ghost use Rattle.art_operations.specs.inner.SearchEnds.{point_at};
 ghost use Rattle.art_arena.specs.arena.Stores.{StoresAt};
 ghost use Rattle.art_operations.specs.Whichever.{HasTree, OfTree};
 
@@ -57,6 +61,28 @@ impl KeyPrefix {
     {
         self.bytes.as_slice()
     }
+
+    /// Returns whether the bytes are those of an array: `==` compares values of one type alone.
+    pub fn eq_array<const LEN: usize>(&self, other: &[u8; LEN]) -> bool
+        ensures { IsTrue result ↔ (self.now ≡ other.now) }
+    {
+        self.bytes() == other.as_slice()
+    }
+}
+
+/// Two are equal if their bytes are.
+impl PartialEq for KeyPrefix {
+    ghost eq = { λ m n. pointwise nat_eq m n };
+
+    ghost laws = { partial_equiv_from_equiv nat_list_eq_equiv };
+
+    fn eq(&self, other: &Self) -> bool {
+        self.bytes() == other.bytes()
+    }
+}
+
+impl Eq for KeyPrefix {
+    ghost laws = { nat_list_eq_equiv };
 }
 
 /// A key can't be inserted, since it is a prefix of a stored key, or a stored key is a prefix of it. The stored keys of
@@ -174,37 +200,41 @@ impl Stop {
     // What a search that ended here in this way answers. The place is made in each case alone: what cases hand on
     // together is taken apart into bytes.
     #[inline(always)]
-    fn answer(self, root: OpaqueNodePtr, way: Way) -> Result<InsertPoint, PrefixConflict>
-        ensures { result ≡ answer_at root self (met_by self.node way) }
+    fn point_or_conflict(
+        self,
+        root: OpaqueNodePtr,
+        way: SearchEnd,
+    ) -> Result<InsertPoint, PrefixConflict>
+        ensures { result ≡ result_at root self (met_by self.node way) }
     {
         let node = self.node;
         match way {
-            Way::Conflict => Err(PrefixConflict {
+            SearchEnd::Conflict => Err(PrefixConflict {
                 root,
                 path: self.path,
                 part: node,
             }),
-            Way::Same => Ok(self.point(
+            SearchEnd::Same => Ok(self.point(
                 root,
                 InsertKind::Exact {
                     leaf_node_ptr: NodePtr::from_slot(node.slot()),
                 },
             )),
-            Way::PartsFromLeaf(parted) => Ok(self.point(
+            SearchEnd::PartsFromLeaf(parted) => Ok(self.point(
                 root,
                 InsertKind::SplitLeaf {
                     leaf_node_ptr: NodePtr::from_slot(node.slot()),
                     parted,
                 },
             )),
-            Way::PartsFromPrefix(parted) => Ok(self.point(
+            SearchEnd::PartsFromPrefix(parted) => Ok(self.point(
                 root,
                 InsertKind::MismatchPrefix {
                     inner_node_ptr: node,
                     parted,
                 },
             )),
-            Way::NoChild(key_byte) => Ok(self.point(
+            SearchEnd::NoChild(key_byte) => Ok(self.point(
                 root,
                 InsertKind::IntoExisting {
                     inner_node_ptr: node,
@@ -217,7 +247,7 @@ impl Stop {
 
 // How the search for the place of a key ends at a node.
 #[derive(Clone, Copy)]
-pub(crate) enum Way {
+pub(crate) enum SearchEnd {
     // The leaf has the key.
     Same,
     // The leaf's key has another byte.
@@ -230,56 +260,56 @@ pub(crate) enum Way {
     Conflict,
 }
 
-impl Way {
+impl SearchEnd {
     // Whether the key can't be put in.
     #[inline(always)]
     pub(crate) fn is_conflict(self) -> bool
         ensures { IsTrue result ↔ (self ≡ way.Conflict) }
     {
         match self {
-            Way::Conflict => true,
+            SearchEnd::Conflict => true,
             _ => false,
         }
     }
 }
 
-// Where the search ends at a leaf, behind so many bytes of both keys.
+// Where the search ends at a leaf, after so many bytes of both keys.
 #[inline(always)]
-fn way_at_leaf<K: AsBytes, V>(leaf: &LeafNode<K, V>, key: &[u8], depth: usize) -> Way
+fn end_at_leaf<K: AsBytes, V>(leaf: &LeafNode<K, V>, key: &[u8], depth: usize) -> SearchEnd
     requires stored { depth ≤ length (K.bytes leaf.now.key) }
     requires key { depth ≤ length key.now }
-    ensures { IsWayAtLeaf (drop depth (K.bytes leaf.now.key)) (drop depth key.now) result }
+    ensures { IsEndAtLeaf (drop depth (K.bytes leaf.now.key)) (drop depth key.now) result }
 {
     let stored = leaf.key_ref().as_bytes();
     match meet(&stored[depth..], &key[depth..]) {
-        Meeting::Same => Way::Same,
-        Meeting::OldEnds => Way::Conflict,
-        Meeting::NewEnds => Way::Conflict,
-        Meeting::Parts(parted) => Way::PartsFromLeaf(parted),
+        Meeting::Same => SearchEnd::Same,
+        Meeting::OldEnds => SearchEnd::Conflict,
+        Meeting::NewEnds => SearchEnd::Conflict,
+        Meeting::Parts(parted) => SearchEnd::PartsFromLeaf(parted),
     }
 }
 
 // Where the search ends at an inner node with this prefix, from which a key with this rest goes no further.
 #[inline(always)]
-fn way_at_inner(prefix: &[u8], rest: &[u8]) -> Way
-    ensures { IsWayAtInner prefix.now rest.now result }
+fn end_at_inner(prefix: &[u8], rest: &[u8]) -> SearchEnd
+    ensures { IsEndAtInner prefix.now rest.now result }
 {
     match meet(prefix, rest) {
-        Meeting::Same => Way::Conflict,
-        Meeting::NewEnds => Way::Conflict,
-        Meeting::Parts(parted) => Way::PartsFromPrefix(parted),
-        Meeting::OldEnds => Way::NoChild(rest[prefix.len()]),
+        Meeting::Same => SearchEnd::Conflict,
+        Meeting::NewEnds => SearchEnd::Conflict,
+        Meeting::Parts(parted) => SearchEnd::PartsFromPrefix(parted),
+        Meeting::OldEnds => SearchEnd::NoChild(rest[prefix.len()]),
     }
 }
 
 // Where the search ends at a node, from which the key goes no further. What it reads of the node is counted.
 #[inline(always)]
-fn way_with<K: AsBytes, V, const PREFIX_LEN: usize>(
+fn search_end_with<K: AsBytes, V, const PREFIX_LEN: usize>(
     reader: &mut ArenaReader<'_, K, V, PREFIX_LEN>,
     node: OpaqueNodePtr,
     key: &[u8],
     depth: usize,
-) -> Way
+) -> SearchEnd
     requires stands { (path : List ℕ) × (s : Shape K V)
         × StoresAt K.bytes PREFIX_LEN reader.old.arena.now node depth path s × BeginsWith path key.now }
     requires stops { (path : List ℕ) (s : Shape K V)
@@ -287,7 +317,7 @@ fn way_with<K: AsBytes, V, const PREFIX_LEN: usize>(
         → BeginsWith path key.now → Stops K.bytes key.now path s }
     ensures way { (path : List ℕ) (s : Shape K V)
         → StoresAt K.bytes PREFIX_LEN reader.old.arena.now node depth path s
-        → BeginsWith path key.now → IsWay K.bytes key.now path s node result }
+        → BeginsWith path key.now → IsSearchEnd K.bytes key.now path s node result }
     ensures kept { reader.new.arena.now ≡ reader.old.arena.now }
     ensures counts { (path : List ℕ) (s : Shape K V)
         → StoresAt K.bytes PREFIX_LEN reader.old.arena.now node depth path s
@@ -301,36 +331,36 @@ fn way_with<K: AsBytes, V, const PREFIX_LEN: usize>(
         → ForLongest K.bytes s (λ longest. reader.new.count + depth ≤ reader.old.count + (longest + 1)) }
 {
     match node.cast::<KindLeaf>() {
-        Some(leaf) => way_at_leaf(reader.visit_leaf(leaf), key, depth),
+        Some(leaf) => end_at_leaf(reader.visit_leaf(leaf), key, depth),
         None => {
             let prefix = read_full_prefix_with(reader, node, depth).prefix;
-            way_at_inner(prefix, &key[depth..])
+            end_at_inner(prefix, &key[depth..])
         }
     }
 }
 
 // Where the search ends at a node, from which the key goes no further.
 #[inline(always)]
-pub(crate) fn way_at<K: AsBytes, V, const PREFIX_LEN: usize>(
+pub(crate) fn search_end_at<K: AsBytes, V, const PREFIX_LEN: usize>(
     arena: &NodeArena<K, V, PREFIX_LEN>,
     node: OpaqueNodePtr,
     key: &[u8],
     depth: usize,
-) -> Way
+) -> SearchEnd
     requires stands { (path : List ℕ) × (s : Shape K V) × StoresAt K.bytes PREFIX_LEN arena.now node depth path s
         × BeginsWith path key.now }
     requires stops { (path : List ℕ) (s : Shape K V) → StoresAt K.bytes PREFIX_LEN arena.now node depth path s
         → BeginsWith path key.now → Stops K.bytes key.now path s }
     ensures { (path : List ℕ) (s : Shape K V) → StoresAt K.bytes PREFIX_LEN arena.now node depth path s
-        → BeginsWith path key.now → IsWay K.bytes key.now path s node result }
+        → BeginsWith path key.now → IsSearchEnd K.bytes key.now path s node result }
 {
     let mut reader = ArenaReader::new(arena);
-    way_with(&mut reader, node, key, depth)
+    search_end_with(&mut reader, node, key, depth)
 }
 
 // Goes down for a key by whole prefixes, as far as it goes.
 #[inline(always)]
-pub(crate) fn stop_of<K: AsBytes, V, const PREFIX_LEN: usize>(
+pub(crate) fn find_stop<K: AsBytes, V, const PREFIX_LEN: usize>(
     arena: &NodeArena<K, V, PREFIX_LEN>,
     root: OpaqueNodePtr,
     key: &[u8],
@@ -344,12 +374,12 @@ pub(crate) fn stop_of<K: AsBytes, V, const PREFIX_LEN: usize>(
         → BeginsWith path key.now → Stops K.bytes key.now path s }
 {
     let mut reader = ArenaReader::new(arena);
-    stop_with(&mut reader, root, key)
+    find_stop_with(&mut reader, root, key)
 }
 
 // Where the search for a key stops, by a reader that counts each node that is read.
 #[inline(always)]
-fn stop_with<K: AsBytes, V, const PREFIX_LEN: usize>(
+fn find_stop_with<K: AsBytes, V, const PREFIX_LEN: usize>(
     reader: &mut ArenaReader<'_, K, V, PREFIX_LEN>,
     root: OpaqueNodePtr,
     key: &[u8],
@@ -388,7 +418,7 @@ pub fn find_insert_point<K: AsBytes, V, const PREFIX_LEN: usize>(
     key: &[u8],
 ) -> Result<InsertPoint, PrefixConflict>
     requires { HasTree K.bytes PREFIX_LEN arena.now root }
-    ensures answer { OfTree K.bytes PREFIX_LEN arena.now root (λ s. IsPlaceOrConflict K.bytes key.now s result) }
+    ensures value { OfTree K.bytes PREFIX_LEN arena.now root (λ s. IsPlaceOrConflict K.bytes key.now s result) }
     ensures part { IfErr result (λ e. OfTree K.bytes PREFIX_LEN arena.now root
         (λ s. IsInTheWay K.bytes key.now s e.root e.part (steps_of e.path))) }
 {
@@ -405,7 +435,7 @@ pub(crate) fn find_insert_point_with<K: AsBytes, V, const PREFIX_LEN: usize>(
     key: &[u8],
 ) -> Result<InsertPoint, PrefixConflict>
     requires { HasTree K.bytes PREFIX_LEN reader.old.arena.now root }
-    ensures answer { OfTree K.bytes PREFIX_LEN reader.old.arena.now root
+    ensures value { OfTree K.bytes PREFIX_LEN reader.old.arena.now root
         (λ s. IsPlaceOrConflict K.bytes key.now s result) }
     ensures part { IfErr result (λ e. OfTree K.bytes PREFIX_LEN reader.old.arena.now root
         (λ s. IsInTheWay K.bytes key.now s e.root e.part (steps_of e.path))) }
@@ -419,9 +449,9 @@ pub(crate) fn find_insert_point_with<K: AsBytes, V, const PREFIX_LEN: usize>(
     ensures few { OfTree K.bytes PREFIX_LEN reader.old.arena.now root (λ s. ForLongest K.bytes s
         (λ longest. PlaceReads longest reader.old.count reader.new.count)) }
 {
-    let stop = stop_with(reader, root, key);
-    let way = way_with(reader, stop.node, key, stop.depth);
-    stop.answer(root, way)
+    let stop = find_stop_with(reader, root, key);
+    let way = search_end_with(reader, stop.node, key, stop.depth);
+    stop.point_or_conflict(root, way)
 }
 
 // Why a key can't be put in: it is in conflict with a stored one.
@@ -443,7 +473,7 @@ pub fn search_for_insert_point<K: AsBytes, V, const PREFIX_LEN: usize>(
     key: &[u8],
 ) -> Result<InsertPoint, InsertSearchError>
     requires { HasTree K.bytes PREFIX_LEN arena.now root }
-    ensures answer { OfTree K.bytes PREFIX_LEN arena.now root (λ s. IsPlaceOrConflict K.bytes key.now s result) }
+    ensures value { OfTree K.bytes PREFIX_LEN arena.now root (λ s. IsPlaceOrConflict K.bytes key.now s result) }
     ensures refusal { IfErr result (λ e. Refuses key.now e) }
 {
     match find_insert_point(arena, root, key) {

@@ -141,7 +141,7 @@ fn leaf_at_end<K: AsBytes, V, const PREFIX_LEN: usize>(
     }
 }
 
-/// Links a new leaf in between two lists: before the first leaf of the second, or else behind the last one of the
+/// Links a new leaf in between two lists: before the first leaf of the second, or else after the last one of the
 /// first.
 #[inline(always)]
 pub(crate) fn link_between<K, V, const PREFIX_LEN: usize>(
@@ -168,7 +168,7 @@ pub(crate) fn link_between<K, V, const PREFIX_LEN: usize>(
     }
 }
 
-// The prefix of an inner node that stands at this depth, behind so many bytes and one more, in a header; none for a
+// The prefix of an inner node that stands at this depth, after so many bytes and one more, in a header; none for a
 // leaf.
 #[inline(always)]
 fn rest_of_prefix<K: AsBytes, V, const PREFIX_LEN: usize>(

@@ -27,7 +27,7 @@ module _ {K V : Type 0} (bytes : K → List ℕ) where
 
   module _ (P : ℕ) where
     -- Each node fits: it has as many children as its kind; the first key below it has its prefix, as the header stores
-    -- it; and the first key below each child goes on with the child's byte behind the same bytes.
+    -- it; and the first key below each child goes on with the child's byte after the same bytes.
     abbrev mutual
       pub Fits : ℕ → Shape K V → Type 0
       Fits d (leaf_at slot k v) = d ≤ length (bytes k)
@@ -65,7 +65,7 @@ module _ {K V : Type 0} (bytes : K → List ℕ) where
       abbrev pub FitAt : Place → Type 0
       FitAt place = FitBelow place.depth place.name
 
-      -- the first key below the child goes on with its byte behind so many bytes of the key, and each node below fits
+      -- the first key below the child goes on with its byte after so many bytes of the key, and each node below fits
       abbrev pub ChildFits : ℕ → List ℕ → ℕ × Name → Type 0
       ChildFits e key c =
           (s : Shape K V) → IsPart P at c.1 s → (take (e + 1) (first_key s) ≡ take e key ++ c.0 ∷ []) × Fits (e + 1) s

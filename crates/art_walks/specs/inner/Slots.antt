@@ -27,7 +27,7 @@ AreLinkedSlots links before (slot ∷ rest) after =
     first_of [] = after
     first_of (next ∷ more) = Some next
 
--- a leaf with this slab key and this link back stands behind the last one that was seen, if there is one
-abbrev pub IsBehind : Option Last → ℕ → Option ℕ → Type 0
-IsBehind None leaf previous = previous ≡ None
-IsBehind (Some last) leaf previous = (previous ≡ Some last.leaf) × (last.next ≡ Some leaf)
+-- a leaf with this slab key and this link back stands after the last one that was seen, if there is one
+abbrev pub IsAfter : Option Last → ℕ → Option ℕ → Type 0
+IsAfter None leaf previous = previous ≡ None
+IsAfter (Some last) leaf previous = (previous ≡ Some last.leaf) × (last.next ≡ Some leaf)

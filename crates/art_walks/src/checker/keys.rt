@@ -108,7 +108,7 @@ fn key_at<K: AsBytes, V, const PREFIX_LEN: usize>(
     arena.as_key_ref(leaf).as_bytes()
 }
 
-// Whether the first keys below these children go on with their bytes behind so many bytes of a key, which is the first
+// Whether the first keys below these children go on with their bytes after so many bytes of a key, which is the first
 // of them. The children wait then.
 fn children_fit<K: AsBytes, V, const PREFIX_LEN: usize>(
     arena: &NodeArena<K, V, PREFIX_LEN>,
@@ -145,7 +145,7 @@ fn children_fit<K: AsBytes, V, const PREFIX_LEN: usize>(
     }
 }
 
-// Whether the first keys below these children go on with their bytes behind so many bytes of a key. The children wait
+// Whether the first keys below these children go on with their bytes after so many bytes of a key. The children wait
 // then.
 fn others_fit<K: AsBytes, V, const PREFIX_LEN: usize>(
     arena: &NodeArena<K, V, PREFIX_LEN>,
@@ -176,7 +176,7 @@ fn others_fit<K: AsBytes, V, const PREFIX_LEN: usize>(
     Ok(true)
 }
 
-// Whether a key has these bytes behind so many bytes.
+// Whether a key has these bytes after so many bytes.
 fn begins_at(key: &[u8], depth: usize, bytes: &[u8]) -> bool
     requires { depth ≤ length key.now }
     ensures { IsTrue result ↔ (bytes.now ≡ take (length bytes.now) (drop depth key.now)) }
@@ -184,7 +184,7 @@ fn begins_at(key: &[u8], depth: usize, bytes: &[u8]) -> bool
     key[depth..].starts_with(bytes)
 }
 
-// Whether a key has this byte behind so many bytes.
+// Whether a key has this byte after so many bytes.
 fn goes_on(key: &[u8], end: usize, byte: u8) -> bool
     requires { end ≤ length key.now }
     ensures value { IsTrue result ↔ (take (end + 1) key.now ≡ take end key.now ++ byte ∷ []) }

@@ -3,7 +3,7 @@ ghost use Rattle.std.specs.Prelude.{◌≡◌, Some, None, IsSome};
 ghost use Rattle.std.specs.Bool.{MatchBool};
 ghost use Rattle.std.specs.List.{AllByRecursion};
 ghost use Rattle.art_arena.specs.arena.Arena.{held_at, links_at};
-ghost use Rattle.art_walks.specs.inner.Slots.{AreLinkedSlots, IsBehind, leaf_slots};
+ghost use Rattle.art_walks.specs.inner.Slots.{AreLinkedSlots, IsAfter, leaf_slots};
 
 use art_arena::{LeafPtr, NodeArena};
 use art_nodes::{KindLeaf, LeafNode, OpaqueNodePtr};
@@ -31,7 +31,7 @@ pub(crate) fn leaves_linked<K, V, const PREFIX_LEN: usize>(
         };
         let node = arena.as_ref::<LeafNode<K, V>>(leaf);
         let next = node.next();
-        if !is_behind(last, leaf, node.previous()) {
+        if !is_after(last, leaf, node.previous()) {
             return false;
         }
         last = Some(Last { leaf, next });
@@ -42,9 +42,9 @@ pub(crate) fn leaves_linked<K, V, const PREFIX_LEN: usize>(
     }
 }
 
-// Whether a leaf with this link back stands behind the last one.
-fn is_behind(last: Option<Last>, leaf: LeafPtr, previous: Option<LeafPtr>) -> bool
-    ensures { MatchBool result (IsBehind last leaf previous) (IsBehind last leaf previous → ⊥) }
+// Whether a leaf with this link back stands after the last one.
+fn is_after(last: Option<Last>, leaf: LeafPtr, previous: Option<LeafPtr>) -> bool
+    ensures { MatchBool result (IsAfter last leaf previous) (IsAfter last leaf previous → ⊥) }
 {
     match last {
         None => previous.is_none(),

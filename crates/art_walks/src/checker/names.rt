@@ -77,11 +77,11 @@ fn open<K, V, const PREFIX_LEN: usize>(
     if children < row.fewest {
         return Err(MalformedTreeError::WrongChildrenCount);
     }
-    put_in_turn(inner.children(), waiting)
+    push_children(inner.children(), waiting)
 }
 
 // Puts children on those that wait, the first of them on top.
-fn put_in_turn(
+fn push_children(
     children: ChildIter<'_>,
     waiting: &mut Vec<OpaqueNodePtr>,
 ) -> Result<(), MalformedTreeError>

@@ -63,7 +63,7 @@ is_read : (g : _) (c : In-Err g) (s : Shape g.row.K.Denot g.row.V.Denot) → IsS
 is_read g c s tree count way =
     let sub = way-subtree g.K.AsBytes.bytes c.args.key.now s c.args.reader.now.count g.row.PREFIX_LEN (node_at c.args.reader.now.arena.now) c.args.root tree c.down.current c.down.search c.down.depth count way in
     record {
-      stands = subst (λ a. IsAtDepth g.K.AsBytes.bytes g.row.PREFIX_LEN (node_at a) c.down.current c.down.depth (path_to way.ctx) way.part) (sym (c.visit.ensures.kept ∙ c.down.invariant.kept)) (record { subtree = sub; behind = way.depth_is });
+      stands = subst (λ a. IsAtDepth g.K.AsBytes.bytes g.row.PREFIX_LEN (node_at a) c.down.current c.down.depth (path_to way.ctx) way.part) (sym (c.visit.ensures.kept ∙ c.down.invariant.kept)) (record { subtree = sub; path_len = way.depth_is });
       held = ap (λ a. held_at a c.down.current) c.visit.ensures.kept ∙ c.visit.ensures.value ∙ ap Some c.in-Err.ensures.0;
     }
 
@@ -103,7 +103,7 @@ returns-in-None-clause-stops g c = λ mode path s at begins.
       stands = subst (λ a. IsAtDepth g.K.AsBytes.bytes g.row.PREFIX_LEN (node_at a) c.down.current c.down.depth path s) (sym arena_is) at;
       held = ap (λ a. held_at a c.down.current) c.visit.ensures.kept ∙ c.visit.ensures.value ∙ ap Some c.in-Err.ensures.0;
     }) (some_weaker c.down.guide _ _ (λ leaf. guide_any g.K.AsBytes.bytes g.row.PREFIX_LEN (node_at c.args.reader.now.arena.now) c.args.key.now c.down.current c.down.depth (path_to way.1.0.ctx) path way.1.0.part s
-    (record { subtree = sub; behind = way.1.0.depth_is }) at (way.1.1 mode) begins (g.K.AsBytes.bytes leaf.now.key)) (way.1.2 mode)) begins
+    (record { subtree = sub; path_len = way.1.0.depth_is }) at (way.1.1 mode) begins (g.K.AsBytes.bytes leaf.now.key)) (way.1.2 mode)) begins
 
 -- what was found stands for this part too
 guided : (g : _) (c : In-Err g) (mode : c.args.passing ≡ ByBytes) (path : List ℕ) (part : Shape g.row.K.Denot g.row.V.Denot) → IsAtDepth g.K.AsBytes.bytes g.row.PREFIX_LEN (node_at c.args.reader.now.arena.now) c.down.current c.down.depth path part
@@ -112,7 +112,7 @@ guided g c mode path part at begins =
     let way = c.down.invariant.way c.requires.tree.0 c.requires.tree.1 in
     let sub = way-subtree g.K.AsBytes.bytes c.args.key.now c.requires.tree.0 c.args.reader.now.count g.row.PREFIX_LEN (node_at c.args.reader.now.arena.now) c.args.root c.requires.tree.1 c.down.current c.down.search c.down.depth way.0 way.1.0 in
     some_weaker c.down.guide _ _ (λ leaf. guide_any g.K.AsBytes.bytes g.row.PREFIX_LEN (node_at c.args.reader.now.arena.now) c.args.key.now c.down.current c.down.depth (path_to way.1.0.ctx) path way.1.0.part part
-    (record { subtree = sub; behind = way.1.0.depth_is }) at (way.1.1 mode) begins (g.K.AsBytes.bytes leaf.now.key)) (way.1.2 mode)
+    (record { subtree = sub; path_len = way.1.0.depth_is }) at (way.1.1 mode) begins (g.K.AsBytes.bytes leaf.now.key)) (way.1.2 mode)
 
 -- the inner node that was read, in a part that stands there
 read_along : (g : _) (c : In-Err g) (path : List ℕ) (part : Shape g.row.K.Denot g.row.V.Denot) → IsAtDepth g.K.AsBytes.bytes g.row.PREFIX_LEN (node_at c.args.reader.now.arena.now) c.down.current c.down.depth path part

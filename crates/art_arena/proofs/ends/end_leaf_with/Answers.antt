@@ -84,9 +84,9 @@ down-preserved g c =
           (at.goes_on c.in-Some.child (ap (λ (n : InnerNode). end_child c.args.end n.children) (same g d at.node at.there) ∙ sym c.end_child.ensures ∙ c.in-Some.is)).0;
     }
 
-pub known-requires : goal.known-requires
-known-requires g c =
-    let d = (goal.at.known-requires g c).After-end_child in
+pub assume_proved-requires : goal.assume_proved-requires
+assume_proved-requires g c =
+    let d = (goal.at.assume_proved-requires g c).After-end_child in
     let at = step g d c.requires.0 c.requires.1 c.requires.2 in
     let child = some_of _ at.some in
     let e = sym child.1 ∙ ap (λ (n : InnerNode). end_child c.args.end n.children) (same g d at.node at.there) ∙ sym c.end_child.ensures ∙ c.in-None.is in cc

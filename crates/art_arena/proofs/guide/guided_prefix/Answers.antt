@@ -16,7 +16,7 @@ is_read g c root path s at guided =
     let len : c.prefix_len-len.result ≡ length (prefix_of s) = c.prefix_len-len.ensures ∙ read_len g.K.AsBytes.bytes g.row.PREFIX_LEN c.args.reader.now.arena.now c.args.inner.now.node root c.args.depth path s at in
     let begins = read_begins g.K.AsBytes.bytes g.row.PREFIX_LEN c.args.reader.now.arena.now c.args.inner.now.node root c.args.depth path s at c.args.key.now (g.K.AsBytes.bytes c.guide_at-leaf.result.now.key) (c.guide_at-leaf.ensures.guide root path s at guided) in
     let key = c.as_bytes-bytes.ensures.value ∙ ap g.K.AsBytes.bytes c.key_ref.ensures in
-    rw key (read path (prefix_of s) (g.K.AsBytes.bytes c.guide_at-leaf.result.now.key) c.args.depth c.prefix_len-len.result at.stands.behind len begins)
+    rw key (read path (prefix_of s) (g.K.AsBytes.bytes c.guide_at-leaf.result.now.key) c.args.depth c.prefix_len-len.result at.stands.path_len len begins)
 
 pub overflow_add-result : goal.overflow_add-result
 overflow_add-result g c =

@@ -19,14 +19,14 @@ pub returns-in-Ok-clause-few : goal.returns-in-Ok-clause-few
 returns-in-Ok-clause-few g c = λ path s at longest short.
     let along = c.down.invariant.along path s at in
     let deep = deep_within g.K.AsBytes.bytes along.below along.part along.stands.subtree.under longest (along.within longest short) in
-    omega (arith, deep, along.stands.behind, c.visit.ensures.counts, c.down.invariant.reads)
+    omega (arith, deep, along.stands.path_len, c.visit.ensures.counts, c.down.invariant.reads)
 
 pub returns-in-Ok-clause-counts : goal.returns-in-Ok-clause-counts
 returns-in-Ok-clause-counts g c = λ path s at.
     let along = c.down.invariant.along path s at in
     let there = lent-leaf c.args.reader.now.arena.now c.down.reader.arena.now c.down.current (held_of c.visit.result) c.in-Ok.leaf.now c.down.invariant.kept c.visit.ensures.value c.in-Ok.ensures in
     let long = along-leaf g.K.AsBytes.bytes g.row.PREFIX_LEN (node_at c.args.reader.now.arena.now) c.args.key.now path s c.down.current c.down.used along c.in-Ok.leaf.now.key c.in-Ok.leaf.now.value there in
-    omega (arith, c.visit.ensures.counts, c.down.invariant.counts path s at, long, ap (λ d. length (path_to_guide (erase s) (drop d c.args.key.now))) at.behind)
+    omega (arith, c.visit.ensures.counts, c.down.invariant.counts path s at, long, ap (λ d. length (path_to_guide (erase s) (drop d c.args.key.now))) at.path_len)
 
 -- the inner node that was read, in the part where it stands
 is_read : (g : _) (c : In-Err g) (below : List ℕ) (part : Shape g.row.K.Denot g.row.V.Denot)
@@ -67,7 +67,7 @@ returns-in-None-clause-counts g c = λ path s at.
     let here = is_read g d along.below along.part along.stands in
     let exact = c.walk_below.ensures.exact c.down.current c.down.used along.below along.part here in
     let ended = read_led g.K.AsBytes.bytes g.row.PREFIX_LEN c.visit.new.self.arena.now c.in-Err.inner.node c.down.current c.down.used along.below along.part here c.args.key.now c.in-None.ensures in
-    omega (arith, exact, ended, along.led, c.visit.ensures.counts, c.down.invariant.counts path s at, some_end First (erase along.part), ap (λ d. length (path_to_guide (erase s) (drop d c.args.key.now))) at.behind)
+    omega (arith, exact, ended, along.led, c.visit.ensures.counts, c.down.invariant.counts path s at, some_end First (erase along.part), ap (λ d. length (path_to_guide (erase s) (drop d c.args.key.now))) at.path_len)
 
 pub down-preserved : goal.down-preserved
 down-preserved g c =

@@ -25,7 +25,14 @@ pub returns-in-Some-clause-counts : goal.returns-in-Some-clause-counts
 returns-in-Some-clause-counts g c = λ root path s at.
     let along = read_along g.K.AsBytes.bytes g.row.PREFIX_LEN c.args.reader.now.arena.now c.args.inner.now.node root c.args.depth path s at c.args.key.now c.in-Some.step.byte c.in-Some.step.child c.in-Some.step.depth c.in-Some.ensures in
     let counts = c.walk_along.ensures.counts along.below along.part along.stands in
-    omega (arith, counts, along.led, read_one g.K.AsBytes.bytes g.row.PREFIX_LEN c.args.reader.now.arena.now c.args.inner.now.node root c.args.depth path s at c.args.key.now c.in-Some.step.byte c.in-Some.step.child c.in-Some.step.depth c.in-Some.ensures, ap (λ d. length (path_to_guide (erase s) (drop d c.args.key.now))) at.stands.behind)
+    omega (
+      arith,
+      counts,
+      along.led,
+      read_one g.K.AsBytes.bytes g.row.PREFIX_LEN c.args.reader.now.arena.now c.args.inner.now.node root c.args.depth path s at
+          c.args.key.now c.in-Some.step.byte c.in-Some.step.child c.in-Some.step.depth c.in-Some.ensures,
+      ap (λ d. length (path_to_guide (erase s) (drop d c.args.key.now))) at.stands.path_len,
+    )
 
 pub returns-in-None-clause-counts : goal.returns-in-None-clause-counts
 returns-in-None-clause-counts g c = λ root path s at.

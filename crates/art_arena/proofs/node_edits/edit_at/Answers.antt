@@ -21,3 +21,6 @@ returns-clause-room g c = g.met.N.Stored.keeps_room c.args.arena.now c.args.ptr 
 
 pub returns-clause-room_of : goal.returns-clause-room_of
 returns-clause-room_of g c = g.met.N.Stored.keeps_room_of c.args.arena.now c.args.ptr c.apply.new.node (rw c.requires.1 refl)
+
+pub returns-clause-capacity : goal.returns-clause-capacity
+returns-clause-capacity g c = g.met.N.Stored.keeps_capacity c.args.arena.now c.args.ptr c.apply.new.node

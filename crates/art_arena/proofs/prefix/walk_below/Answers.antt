@@ -4,8 +4,8 @@ use Rattle.art_arena.proofs.shapes.LinkedLists.{some_of}
 use Rattle.art_arena.proofs.shapes.Reads.{read_child, read_first, read_some}
 use Rattle.art_arena.proofs.prefix.walk_below.Goals as goal
 
-pub known-requires : goal.known-requires
-known-requires g c =
+pub assume_proved-requires : goal.assume_proved-requires
+assume_proved-requires g c =
     let r = c.requires in
     let some = some_of _ (read_some g.K.AsBytes.bytes g.row.PREFIX_LEN c.args.reader.now.arena.now c.args.inner.now.node r.0 r.1 r.2 r.3 r.4 First) in
     let e = sym some.1 ∙ sym c.end_child.ensures ∙ c.in-None.is in cc
@@ -31,7 +31,9 @@ pub returns-clause-counts : goal.returns-clause-counts
 returns-clause-counts g c = λ root depth path s at.
     let child = read_child g.K.AsBytes.bytes g.row.PREFIX_LEN c.args.reader.now.arena.now c.args.inner.now.node root depth path s at First c.in-Some.child (sym c.end_child.ensures ∙ c.in-Some.is) in
     let first = sym child.same_end ∙ c.end_leaf_with.ensures.value child.below child.part child.subtree in
-    read_first g.K.AsBytes.bytes g.row.PREFIX_LEN c.args.reader.now.arena.now c.args.inner.now.node root depth path s at c.in-Some.child child c.end_leaf_with.result.name c.end_leaf_with.result.leaf.now _ _ first c.end_leaf_with.ensures.leaf (c.end_leaf_with.ensures.counts child.below child.part child.subtree)
+    read_first g.K.AsBytes.bytes g.row.PREFIX_LEN c.args.reader.now.arena.now c.args.inner.now.node root depth path s at c.in-Some.child child
+    c.end_leaf_with.result.name c.end_leaf_with.result.leaf.now _ _ first c.end_leaf_with.ensures.leaf
+    (c.end_leaf_with.ensures.counts child.below child.part child.subtree)
 
 pub returns-clause-exact : goal.returns-clause-exact
 returns-clause-exact g c = λ root depth path s at.

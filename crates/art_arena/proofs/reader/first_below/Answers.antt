@@ -18,7 +18,9 @@ returns-clause-few g c = λ root depth path s at longest short.
 
 pub returns-clause-counts : goal.returns-clause-counts
 returns-clause-counts g c = λ root depth path s at slot leaf first held.
-    let reads = c.walk_below-first.ensures.counts root depth path s (subst (λ a. IsReadAt g.K.AsBytes.bytes g.row.PREFIX_LEN a c.args.inner.now.node root depth path s) (sym c.new-further.ensures.arena) at) slot leaf first (subst (λ a. held_at a (leaf_name slot) ≡ Some (leaf_held leaf)) (sym c.new-further.ensures.arena) held) in
+    let reads = c.walk_below-first.ensures.counts root depth path s
+    (subst (λ a. IsReadAt g.K.AsBytes.bytes g.row.PREFIX_LEN a c.args.inner.now.node root depth path s) (sym c.new-further.ensures.arena) at) slot leaf
+    first (subst (λ a. held_at a (leaf_name slot) ≡ Some (leaf_held leaf)) (sym c.new-further.ensures.arena) held) in
     omega (arith, reads, c.new-further.ensures.count, c.saturating_add-reader.ensures)
 
 pub returns-clause-least : goal.returns-clause-least

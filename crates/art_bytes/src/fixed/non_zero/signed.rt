@@ -156,7 +156,7 @@ impl FixedBytes for NonZeroI8 {
         (λ m n hm hn. refl) (stored_bytes (flipped w8) (FitsSigned w8) int_cmp 1 _ _ _ (flipped-injective w8)
         (int_cmp-flipped w8) (unsigned_bytes 1 (lit< tt))) };
 
-    fn some() -> NonZeroI8 {
+    fn placeholder() -> NonZeroI8 {
         NonZeroI8::MIN
     }
 
@@ -187,7 +187,7 @@ impl FixedBytes for NonZeroI16 {
         (λ m n hm hn. refl) (stored_bytes (flipped w16) (FitsSigned w16) int_cmp 2 _ _ _ (flipped-injective w16)
         (int_cmp-flipped w16) (unsigned_bytes 2 (lit< tt))) };
 
-    fn some() -> NonZeroI16 {
+    fn placeholder() -> NonZeroI16 {
         NonZeroI16::MIN
     }
 
@@ -218,7 +218,7 @@ impl FixedBytes for NonZeroI32 {
         (λ m n hm hn. refl) (stored_bytes (flipped w32) (FitsSigned w32) int_cmp 4 _ _ _ (flipped-injective w32)
         (int_cmp-flipped w32) (unsigned_bytes 4 (lit< tt))) };
 
-    fn some() -> NonZeroI32 {
+    fn placeholder() -> NonZeroI32 {
         NonZeroI32::MIN
     }
 
@@ -249,7 +249,7 @@ impl FixedBytes for NonZeroI64 {
         (λ m n hm hn. refl) (stored_bytes (flipped w64) (FitsSigned w64) int_cmp 8 _ _ _ (flipped-injective w64)
         (int_cmp-flipped w64) (unsigned_bytes 8 (lit< tt))) };
 
-    fn some() -> NonZeroI64 {
+    fn placeholder() -> NonZeroI64 {
         NonZeroI64::MIN
     }
 
@@ -280,7 +280,7 @@ impl FixedBytes for NonZeroI128 {
         (λ m n hm hn. refl) (stored_bytes (flipped w128) (FitsSigned w128) int_cmp 16 _ _ _ (flipped-injective w128)
         (int_cmp-flipped w128) (unsigned_bytes 16 (lit< tt))) };
 
-    fn some() -> NonZeroI128 {
+    fn placeholder() -> NonZeroI128 {
         NonZeroI128::MIN
     }
 

@@ -15,10 +15,10 @@ loop-command-preserved c =
     ∙ ap (λ x. take i commands ++ x ∷ []) (sym c.command-item.is) in
     let answer = c.in_ok-reply.reply.answer in
     let here = replayed_children c.loop-command.node in
-    let next : IsChildAnswer here command answer = search (rules, c.replied, c.in_ok-reply, c.branch-reply) in
+    let next : IsChildAnswer here command answer = search (rules, c.execute, c.in_ok-reply, c.branch-reply) in
     let items : c.push.new.self.items ≡ c.loop-command.answers.items ++ answer ∷ [] =
     search (rules, c.push, c.in_ok-push, c.branch-push) in
     let after : replayed_children c.in_ok-reply.reply.node ≡ children_after here command =
-    search (rules, c.replied, c.in_ok-reply, c.branch-reply) in
+    search (rules, c.execute, c.in_ok-reply, c.branch-reply) in
     rw (items, after)
     (replayed_one_more commands i c.loop-command.answers.items here command answer more c.loop-command.invariant next)

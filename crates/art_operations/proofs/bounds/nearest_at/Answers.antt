@@ -25,7 +25,9 @@ returns-in-Exact-clause-nearest g c = λ s stores at.
     let sub = point_subtree g.K.AsBytes.bytes g.row.PREFIX_LEN c.args.reader.now.arena.now c.args.key.now c.args.root (leaf_name c.in-Exact.leaf_node_ptr) s c.args.point stores at (ap name_of meets.2) in
     nearest_in g.K.AsBytes.bytes c.args.key.now s at.part at.ctx c.compared.result.leaf c.compared.result.order at.toward.place at.toward.begins
     (subst (λ slot. IsNearest g.K.AsBytes.bytes c.args.key.now (leaves at.part) slot c.compared.result.order) (sym c.compared.ensures.leaf)
-    (nearest_lone g.K.AsBytes.bytes g.row.PREFIX_LEN c.args.reader.now.arena.now c.args.key.now c.in-Exact.leaf_node_ptr c.compared.result.order (path_to at.ctx) at.part sub (told_of g.K.AsBytes.bytes g.row.PREFIX_LEN c.args.reader.now.arena.now c.args.key.now c.in-Exact.leaf_node_ptr c.compared.result.order c.visit_leaf.result.now c.visit_leaf.ensures.value c.compared.ensures.order)))
+    (nearest_lone g.K.AsBytes.bytes g.row.PREFIX_LEN c.args.reader.now.arena.now c.args.key.now c.in-Exact.leaf_node_ptr c.compared.result.order
+    (path_to at.ctx) at.part sub (told_of g.K.AsBytes.bytes g.row.PREFIX_LEN c.args.reader.now.arena.now c.args.key.now c.in-Exact.leaf_node_ptr
+    c.compared.result.order c.visit_leaf.result.now c.visit_leaf.ensures.value c.compared.ensures.order)))
 
 pub returns-in-SplitLeaf-clause-nearest : goal.returns-in-SplitLeaf-clause-nearest
 returns-in-SplitLeaf-clause-nearest g c = λ s stores at.
@@ -33,7 +35,10 @@ returns-in-SplitLeaf-clause-nearest g c = λ s stores at.
     let sub = point_subtree g.K.AsBytes.bytes g.row.PREFIX_LEN c.args.reader.now.arena.now c.args.key.now c.args.root (leaf_name c.in-SplitLeaf.leaf_node_ptr) s c.args.point stores at (ap name_of meets.2) in
     nearest_in g.K.AsBytes.bytes c.args.key.now s at.part at.ctx c.compared-in-SplitLeaf.result.leaf c.compared-in-SplitLeaf.result.order at.toward.place at.toward.begins
     (subst (λ slot. IsNearest g.K.AsBytes.bytes c.args.key.now (leaves at.part) slot c.compared-in-SplitLeaf.result.order) (sym c.compared-in-SplitLeaf.ensures.leaf)
-    (nearest_lone g.K.AsBytes.bytes g.row.PREFIX_LEN c.args.reader.now.arena.now c.args.key.now c.in-SplitLeaf.leaf_node_ptr c.compared-in-SplitLeaf.result.order (path_to at.ctx) at.part sub (told_of g.K.AsBytes.bytes g.row.PREFIX_LEN c.args.reader.now.arena.now c.args.key.now c.in-SplitLeaf.leaf_node_ptr c.compared-in-SplitLeaf.result.order c.visit_leaf-in-SplitLeaf.result.now c.visit_leaf-in-SplitLeaf.ensures.value c.compared-in-SplitLeaf.ensures.order)))
+    (nearest_lone g.K.AsBytes.bytes g.row.PREFIX_LEN c.args.reader.now.arena.now c.args.key.now c.in-SplitLeaf.leaf_node_ptr
+    c.compared-in-SplitLeaf.result.order (path_to at.ctx) at.part sub
+    (told_of g.K.AsBytes.bytes g.row.PREFIX_LEN c.args.reader.now.arena.now c.args.key.now c.in-SplitLeaf.leaf_node_ptr c.compared-in-SplitLeaf.result.order
+    c.visit_leaf-in-SplitLeaf.result.now c.visit_leaf-in-SplitLeaf.ensures.value c.compared-in-SplitLeaf.ensures.order)))
 
 pub nearest_parted-requires : goal.nearest_parted-requires
 nearest_parted-requires g c =

@@ -19,7 +19,9 @@ returns-then-starts_with-clause-value g c = λ path s sub conflicts.
     let begins = begins_of c.starts_with.result _ (g.K.AsBytes.bytes first.first.key) _ c.args.prefix.now stored refl c.starts_with.ensures.value c.if-starts_with.true in
     let all = begin_all g.K.AsBytes.bytes c.args.prefix.now first.first first.others (subst (AllConflict g.K.AsBytes.bytes c.args.prefix.now) first.are conflicts) first.before begins in (
       ap (λ xs. first_slot (passing g.K.AsBytes.bytes (λ k. begins_with c.args.prefix.now k) xs) None) first.are ∙ ap (λ xs. first_slot xs None) all ∙ ap (λ xs. first_slot xs None) (sym first.are) ∙ c.end_leaf_with-first.ensures.value path s sub,
-      ap (λ xs. last_slot None (passing g.K.AsBytes.bytes (λ k. begins_with c.args.prefix.now k) xs)) first.are ∙ ap (last_slot None) all ∙ ap (last_slot None) (sym first.are) ∙ c.maximum_with.ensures.value path s (subst (λ a. IsSubtree g.K.AsBytes.bytes g.row.PREFIX_LEN (node_at a) c.args.part path s) (sym c.end_leaf_with-first.ensures.kept) sub),
+      ap (λ xs. last_slot None (passing g.K.AsBytes.bytes (λ k. begins_with c.args.prefix.now k) xs)) first.are ∙ ap (last_slot None) all
+          ∙ ap (last_slot None) (sym first.are) ∙ c.maximum_with.ensures.value path s
+          (subst (λ a. IsSubtree g.K.AsBytes.bytes g.row.PREFIX_LEN (node_at a) c.args.part path s) (sym c.end_leaf_with-first.ensures.kept) sub),
     )
 
 pub returns-clause-value : goal.returns-clause-value

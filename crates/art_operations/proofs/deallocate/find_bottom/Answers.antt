@@ -1,7 +1,7 @@
 use Rattle.std.proofs.Common.{◌≢◌, [], sym, ◌∙◌, refl, lit<}
 use Rattle.art_nodes.proofs.Common.{first_child}
 use Rattle.art_nodes.specs.declared.kind.NodeType.TheVariants.{Leaf}
-use Rattle.art_operations.proofs.Door.{read_at}
+use Rattle.art_operations.proofs.NodesRead.{read_at}
 use Rattle.art_operations.proofs.FreeSteps.{first-step}
 use Rattle.art_operations.proofs.deallocate.find_bottom.Goals as goal
 

@@ -1,4 +1,4 @@
-use Rattle.std.proofs.Common.{lit<}
+use Rattle.std.proofs.Common.{refl, ◌∙◌, lit<}
 use Rattle.art_operations.proofs.FreedAll.{left-start, left-step, left-end}
 use Rattle.art_operations.proofs.deallocate.free_nodes.Goals as goal
 
@@ -6,6 +6,7 @@ pub free-init : goal.free-init
 free-init g c = record {
   left = λ s rest part. left-start g.row.PREFIX_LEN c.args.with_leaves c.args.arena.now c.args.root s rest part;
   room = λ n room. room;
+  capacity = refl;
 }
 
 pub free_one-requires : goal.free_one-requires
@@ -22,8 +23,11 @@ free-smaller g c =
 
 pub free-preserved : goal.free-preserved
 free-preserved g c = record {
-  left = λ s rest part. let left = c.free.invariant.left s rest part in (left-step g.row.PREFIX_LEN c.args.with_leaves c.args.arena.now c.free.arena c.free_one.new.arena s c.free.current c.in-Some.left.root _ _ rest left c.saturating_add-count.ensures (c.in-Some.ensures.freed left.part rest left.holds) (c.free_one.ensures.kept left.part rest left.holds)).0;
+  left = λ s rest part. let left = c.free.invariant.left s rest part in
+      (left-step g.row.PREFIX_LEN c.args.with_leaves c.args.arena.now c.free.arena c.free_one.new.arena s c.free.current c.in-Some.left.root _ _ rest left
+      c.saturating_add-count.ensures (c.in-Some.ensures.freed left.part rest left.holds) (c.free_one.ensures.kept left.part rest left.holds)).0;
   room = λ n room. c.free_one.ensures.room n (c.free.invariant.room n room);
+  capacity = c.free_one.ensures.capacity ∙ c.free.invariant.capacity;
 }
 
 pub returns-in-None-clause-kept : goal.returns-in-None-clause-kept
@@ -33,3 +37,6 @@ returns-in-None-clause-kept g c = λ s rest part.
 
 pub returns-in-None-clause-room : goal.returns-in-None-clause-room
 returns-in-None-clause-room g c = λ n room. c.free_one.ensures.room n (c.free.invariant.room n room)
+
+pub returns-in-None-clause-capacity : goal.returns-in-None-clause-capacity
+returns-in-None-clause-capacity g c = c.free_one.ensures.capacity ∙ c.free.invariant.capacity

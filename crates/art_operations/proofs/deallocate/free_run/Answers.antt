@@ -18,7 +18,9 @@ deallocate_node_ptr-leaf-requires g c =
 pub returns-then-eq-clause-freed : goal.returns-then-eq-clause-freed
 returns-then-eq-clause-freed g c = λ ls rest run.
     let left = c.run.invariant.left ls rest run in
-    run-over c.run.arena c.deallocate_node_ptr-leaf.new.self c.run.current c.args.last left.left rest left.run c.deallocate_node_ptr-leaf.result (c.deallocate_node_ptr-leaf.ensures.value) c.deallocate_node_ptr-leaf.ensures.updates ((is_true-eq c.run.current c.args.last).0 (sym c.eq.ensures ∙ c.if-eq.true))
+    run-over c.run.arena c.deallocate_node_ptr-leaf.new.self c.run.current c.args.last left.left rest left.run c.deallocate_node_ptr-leaf.result
+    (c.deallocate_node_ptr-leaf.ensures.value) c.deallocate_node_ptr-leaf.ensures.updates
+    ((is_true-eq c.run.current c.args.last).0 (sym c.eq.ensures ∙ c.if-eq.true))
 
 pub returns-then-eq-clause-kept : goal.returns-then-eq-clause-kept
 returns-then-eq-clause-kept g c = λ ls rest run.
@@ -32,7 +34,9 @@ pub unreachable-requires : goal.unreachable-requires
 unreachable-requires g c =
     let r = c.requires in
     let left = c.run.invariant.left r.0 r.1 r.2 in
-    run-goes-on c.run.arena c.deallocate_node_ptr-leaf.new.self c.run.current c.args.last left.left r.1 left.run c.deallocate_node_ptr-leaf.result (c.deallocate_node_ptr-leaf.ensures.value) c.deallocate_node_ptr-leaf.ensures.updates (λ e. let h = sym c.if-eq.false ∙ c.eq.ensures ∙ (is_true-eq c.run.current c.args.last).1 e in absurd (cc)) (sym c.next.ensures ∙ c.in-None.is)
+    run-goes-on c.run.arena c.deallocate_node_ptr-leaf.new.self c.run.current c.args.last left.left r.1 left.run c.deallocate_node_ptr-leaf.result
+    (c.deallocate_node_ptr-leaf.ensures.value) c.deallocate_node_ptr-leaf.ensures.updates
+    (λ e. let h = sym c.if-eq.false ∙ c.eq.ensures ∙ (is_true-eq c.run.current c.args.last).1 e in absurd (cc)) (sym c.next.ensures ∙ c.in-None.is)
 
 pub run-smaller : goal.run-smaller
 run-smaller g c =
@@ -44,6 +48,9 @@ pub run-preserved : goal.run-preserved
 run-preserved g c = record {
   left = λ ls rest run.
       let left = c.run.invariant.left ls rest run in
-      run-next c.run.arena c.deallocate_node_ptr-leaf.new.self c.run.current c.args.last left.left rest left.run c.deallocate_node_ptr-leaf.result (c.deallocate_node_ptr-leaf.ensures.value) c.deallocate_node_ptr-leaf.ensures.updates ls c.args.arena.now (λ e. let h = sym c.if-eq.false ∙ c.eq.ensures ∙ (is_true-eq c.run.current c.args.last).1 e in absurd (cc)) left.names left.kept c.in-Some.next (sym c.next.ensures ∙ c.in-Some.is);
+      run-next c.run.arena c.deallocate_node_ptr-leaf.new.self c.run.current c.args.last left.left rest left.run c.deallocate_node_ptr-leaf.result
+      (c.deallocate_node_ptr-leaf.ensures.value) c.deallocate_node_ptr-leaf.ensures.updates ls c.args.arena.now
+      (λ e. let h = sym c.if-eq.false ∙ c.eq.ensures ∙ (is_true-eq c.run.current c.args.last).1 e in absurd (cc)) left.names left.kept c.in-Some.next
+      (sym c.next.ensures ∙ c.in-Some.is);
   room = λ n room. c.deallocate_node_ptr-leaf.ensures.room n (c.run.invariant.room n room);
 }

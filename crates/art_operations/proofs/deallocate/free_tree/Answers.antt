@@ -30,3 +30,10 @@ returns-clause-kept g c = λ s rest beside.
 
 pub returns-clause-nodes : goal.returns-clause-nodes
 returns-clause-nodes g c = λ s rest beside. c.free_nodes-nodes.ensures.value s rest (all-part g.row.PREFIX_LEN c.args.arena.now c.args.root s rest beside)
+
+pub returns-clause-leaf_room : goal.returns-clause-leaf_room
+returns-clause-leaf_room g c = λ n room.
+    let r = c.requires in
+    let left = c.free_nodes-nodes.ensures.freed r.0 r.1 (all-part g.row.PREFIX_LEN c.args.arena.now c.args.root r.0 r.1 r.2) in
+    let gone = leaves-gone g.row.PREFIX_LEN c.args.arena.now c.free_nodes-nodes.new.arena c.args.root r.0 r.1 r.2 left in
+    omega (arith, room, gone, c.leaf_count-before.ensures.value, c.leaf_count.ensures.value, c.free_nodes-nodes.ensures.capacity)

@@ -21,8 +21,8 @@ loop-command-preserved g c =
     let inv = c.loop-command.invariant in
     let more : take (i + 1) commands ≡ take i commands ++ command ∷ [] = take_more commands i command (omega (arith, c.loop-command-test.true)) ∙ ap (λ x. take i commands ++ x ∷ []) (sym c.command-item.is) in (
       rw (c.push_reserved.ensures.items)
-          (run-one-more g.K.AsBytes.bytes g.row.PREFIX_LEN g.K.Clone.is_clone g.V.Clone.is_clone c.loop-command.arena c.carry_out-change.new.arena c.loop-command.root (take i commands) (take (i + 1) commands) c.loop-command.answers.items command
-          c.carry_out-change.result more inv.0 c.carry_out-change.ensures),
+          (run-one-more g.K.AsBytes.bytes g.row.PREFIX_LEN g.K.Clone.is_clone g.V.Clone.is_clone c.loop-command.arena c.execute-change.new.arena c.loop-command.root (take i commands) (take (i + 1) commands) c.loop-command.answers.items command
+          c.execute-change.result more inv.0 c.execute-change.ensures),
       omega (arith, c.push_reserved.ensures.capacity, inv.1),
     )
 

@@ -30,7 +30,7 @@ returns-clause-err g c = λ root path s there at.
     let d = (goal.at.returns-clause-err g c).After-inner-inner in
     let is = c.full_prefix_of.ensures.prefix root path s (is_read g d root path s there at) in
     let rest = tail c.args.depth c.args.key.now in
-    mismatches g.K.AsBytes.bytes c.args.key.now path c.args.depth s c.count_agreeing.result c.cmp.result at.behind
+    mismatches g.K.AsBytes.bytes c.args.key.now path c.args.depth s c.count_agreeing.result c.cmp.result at.path_len
     (leaves_begin_prefix g.K.AsBytes.bytes path s at.subtree.under)
     (begins_not c.starts_with.result _ (drop c.args.depth c.args.key.now) _ (prefix_of s) rest is c.starts_with.ensures.value c.if-starts_with.false)
     (rw (is, rest) at c.count_agreeing.ensures.value) (rw (is, rest) at c.cmp.ensures)

@@ -1,4 +1,4 @@
--- `then` picks the items and the bytes behind them. Assumes `Logic`.
+-- `then` picks the items and the bytes after them. Assumes `Logic`.
 use Rattle.std.proofs.Common.{List, [], ◌∷◌, ◌++◌, refl}
 use seplogic.Ra.Ura.{Ura}
 use mir.Syntax.{Fn}

@@ -1,4 +1,4 @@
--- `then_count` picks the items and the number behind them. Assumes `Logic`.
+-- `then_count` picks the items and the number after them. Assumes `Logic`.
 use Rattle.std.proofs.Common.{List, [], ◌∷◌, ◌++◌, refl}
 use seplogic.Ra.Ura.{Ura}
 use mir.Syntax.{Fn}

@@ -46,7 +46,9 @@ more g c =
     let room = room_there (min g.row.SIZE 255) i.header i.mask i.names.items c.args.byte (place i.mask c.args.byte) c.self.invariant belongs (rw (← c.self.view_is) at c.requires) in
     let moved = rw (c.as_mut_slice-in-None.ensures.value, c.push.ensures.items, c.len-used.ensures.value, c.place-at.ensures, c.from.ensures) at c.put_in.ensures.items in
     let long = rw (c.as_mut_slice-in-None.ensures.value, c.push.ensures.items) at c.put_in.ensures.len in
-    rw (c.mark.ensures, c.push.ensures.items, pushed_in i.names.items c.put_in.new.row c.args.name (place i.mask c.args.byte) moved long) (added (min g.row.SIZE 255) i.header i.mask i.names.items c.args.byte (place i.mask c.args.byte) c.self.invariant c.args.name belongs within c.ranges.byte.fits room)
+    rw (c.mark.ensures, c.push.ensures.items, pushed_in i.names.items c.put_in.new.row c.args.name (place i.mask c.args.byte) moved long)
+    (added (min g.row.SIZE 255) i.header i.mask i.names.items c.args.byte (place i.mask c.args.byte) c.self.invariant c.args.name belongs within
+    c.ranges.byte.fits room)
 
 pub invariant_of-self-in-None : goal.invariant_of-self-in-None
 invariant_of-self-in-None g c = rw c.inc_num_children.ensures ((more g c).side)

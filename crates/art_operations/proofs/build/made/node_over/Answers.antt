@@ -1,7 +1,7 @@
 use Rattle.std.proofs.Common.{◌≡◌, ◌+◌, ◌<◌, ◌∷◌, [], ◌++◌, ℕ, List, take, drop, length, get_or, suc, sym, ap, subst, ◌∙◌}
 use Rattle.std.proofs.lemmas.List.{take-append-drop, take_more}
 use Rattle.std.proofs.Math.Seq.{drop-cons}
-use Rattle.art_nodes.proofs.Common.{InnerNode, IsAscending, node_with, with_child, Name, with_child-behind}
+use Rattle.art_nodes.proofs.Common.{InnerNode, IsAscending, node_with, with_child, Name, with_child-after}
 use Rattle.art_operations.proofs.Terms.{inner_over}
 use Rattle.art_operations.proofs.build.made.node_over.Goals as goal
 
@@ -13,8 +13,8 @@ one-more P prefix children at child node inside is rises written =
     let here : take (at + 1) children ≡ take at children ++ child ∷ [] = take_more children at child inside ∙ ap (λ c. take at children ++ c ∷ []) (sym is) in
     let split : children ≡ take at children ++ child ∷ drop (suc at) children =
     sym (take-append-drop at children) ∙ ap (λ cs. take at children ++ cs) (drop-cons children at child inside) ∙ ap (λ c. take at children ++ c ∷ drop (suc at) children) (sym is) in
-    let behind : with_child (take at children) child.0 child.1 ≡ take at children ++ child ∷ [] = with_child-behind 0 (take at children) (drop (suc at) children) child.0 child.1 (subst IsAscending split rises) in
-    written ∙ ap (inner_over P prefix) (behind ∙ sym here)
+    let following : with_child (take at children) child.0 child.1 ≡ take at children ++ child ∷ [] = with_child-after 0 (take at children) (drop (suc at) children) child.0 child.1 (subst IsAscending split rises) in
+    written ∙ ap (inner_over P prefix) (following ∙ sym here)
 
 pub loop-child-preserved : goal.loop-child-preserved
 loop-child-preserved g c =

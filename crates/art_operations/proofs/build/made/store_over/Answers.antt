@@ -95,4 +95,10 @@ returns-then-count-le48-clause-uses g c = λ kind is.
 
 pub returns-clause-uses : goal.returns-clause-uses
 returns-clause-uses g c = λ kind is.
-    stored-kind c.args.arena.now c.store_inner-2.new.arena Node256 kind (length c.args.children.now) (record { two = c.requires.two; fewest = omega arith; most = (let few = length-ascending 0 c.args.children.now (omega arith) c.requires.ascending in omega (arith, few)) }) is c.store_inner-2.ensures.room
+    stored-kind c.args.arena.now c.store_inner-2.new.arena Node256 kind (length c.args.children.now)
+    (record {
+      two = c.requires.two;
+      fewest = omega arith;
+      most
+          = (let few = length-ascending 0 c.args.children.now (omega arith) c.requires.ascending in omega (arith, few));
+    }) is c.store_inner-2.ensures.room

@@ -7,7 +7,7 @@ use Rattle.art_operations.proofs.OpenRooms.{around-opened}
 use Rattle.art_operations.proofs.PassedLeaves.{on-err}
 use Rattle.art_operations.proofs.PutBack.{same_inner}
 use Rattle.art_operations.proofs.Reopening.{inner, opened-room, opens-child, opens-same, seen-inside, seen-kind, seen-room, seen-two}
-use Rattle.art_operations.proofs.Spines.{begin-behind}
+use Rattle.art_operations.proofs.Spines.{begin-after}
 use Rattle.art_operations.proofs.Unmade.{around-same}
 use Rattle.art_operations.proofs.build.reopen.open_top.Goals as goal
 use Rattle.art_operations.proofs.build.reopen.open_top.Goals.{After-prefix_len}
@@ -77,11 +77,11 @@ returns-in_err-reserve-clause-succeeds g c = λ leaf ls is room.
     let ok = c.in_err-reserve.ensures.succeeds (omega (arith, two, count)) (subst (HasSpineRoom c.args.arena.now c.args.spine.now) (sym count) there) in
     absurd (cc)
 
-pub overflow_add-behind : goal.overflow_add-behind
-overflow_add-behind g c = let inside = read-most g c in omega (arith, inside)
+pub overflow_add-child_depth : goal.overflow_add-child_depth
+overflow_add-child_depth g c = let inside = read-most g c in omega (arith, inside)
 
-pub overflow_add-behind-2 : goal.overflow_add-behind-2
-overflow_add-behind-2 g c = let inside = read-most g c in omega (arith, inside)
+pub overflow_add-child_depth-2 : goal.overflow_add-child_depth-2
+overflow_add-child_depth-2 g c = let inside = read-most g c in omega (arith, inside)
 
 pub unreachable-requires : goal.unreachable-requires
 unreachable-requires g c =
@@ -111,31 +111,31 @@ returns-clause-ok g c = λ leaf ls is.
     let prefix = c.prefix_len.ensures in
     let first = c.len-first.ensures in
     let len = was.children.ok.0 in
-    let behind_is : c.begin.result + c.prefix_len.result + 1 ≡ suc (begin_of 0 was.stack.items + seen.header.prefix_len) = omega (arith, from, prefix) in
+    let child_depth_is : c.begin.result + c.prefix_len.result + 1 ≡ suc (begin_of 0 was.stack.items + seen.header.prefix_len) = omega (arith, from, prefix) in
     let first_is : c.len-first.result ≡ length was.children.items = omega (arith, first, len) in
     opens-child g.K.AsBytes.bytes g.row.PREFIX_LEN c.reserve.new.arena was c.args.part leaf ls (moved g d leaf ls is) c.requires.inner seen c.inner-inner.ensures.value (record { stack = c.push.new.self; children = c.pop.new.self }) c.in-Some.child
     (sym c.in-Some.ensures.items ∙ c.in-Ok-note_all.ensures.items ∙ ap (λ cs. was.children.items ++ cs) c.children.ensures.value) c.edit_inner.new.self
-    (c.in-Ok.ensures.items ∙ ap₂ (λ b f. was.stack.items ++ record { behind = b; first = f } ∷ []) behind_is first_is) (subst IsAscending c.children.ensures.value c.children.ensures.ascending) (c.edit_inner.ensures.updates seen c.inner-inner.ensures.value)
+    (c.in-Ok.ensures.items ∙ ap₂ (λ b f. was.stack.items ++ record { child_depth = b; first = f } ∷ []) child_depth_is first_is) (subst IsAscending c.children.ensures.value c.children.ensures.ascending) (c.edit_inner.ensures.updates seen c.inner-inner.ensures.value)
 
 pub returns-clause-deeper : goal.returns-clause-deeper
 returns-clause-deeper g c =
     let was = c.reserve.new.self in
     let from = c.begin.ensures ∙ ap (begin_of 0) c.reserve.ensures.stack in
-    let now = ap (begin_of 0) c.in-Ok.ensures.items ∙ begin-behind 0 was.stack.items (record { behind = c.begin.result + c.prefix_len.result + 1; first = c.len-first.result }) in
+    let now = ap (begin_of 0) c.in-Ok.ensures.items ∙ begin-after 0 was.stack.items (record { child_depth = c.begin.result + c.prefix_len.result + 1; first = c.len-first.result }) in
     omega (arith, from, now)
 
 pub returns-clause-within : goal.returns-clause-within
 returns-clause-within g c =
     let was = c.reserve.new.self in
     let inside = read-most g (goal.at.returns-clause-within g c).After-prefix_len in
-    let now = ap (begin_of 0) c.in-Ok.ensures.items ∙ begin-behind 0 was.stack.items (record { behind = c.begin.result + c.prefix_len.result + 1; first = c.len-first.result }) in
+    let now = ap (begin_of 0) c.in-Ok.ensures.items ∙ begin-after 0 was.stack.items (record { child_depth = c.begin.result + c.prefix_len.result + 1; first = c.len-first.result }) in
     omega (arith, inside, now)
 
 pub returns-clause-room : goal.returns-clause-room
 returns-clause-room g c =
     let d = (goal.at.returns-clause-room g c).After-prefix_len in
     let was = c.reserve.new.self in
-    let stack = ap length c.in-Ok.ensures.items ∙ length-append was.stack.items (record { behind = c.begin.result + c.prefix_len.result + 1; first = c.len-first.result } ∷ []) in
+    let stack = ap length c.in-Ok.ensures.items ∙ length-append was.stack.items (record { child_depth = c.begin.result + c.prefix_len.result + 1; first = c.len-first.result } ∷ []) in
     let all = ap length c.in-Ok-note_all.ensures.items ∙ length-append was.children.items c.children.result in
     let left = ap length c.in-Some.ensures.items ∙ length-append c.pop.new.self.items (c.in-Some.child ∷ []) in
     let given = ap length c.children.ensures.value in
@@ -155,7 +155,7 @@ pub returns-clause-around : goal.returns-clause-around
 returns-clause-around g c = λ n room.
     let d = (goal.at.returns-clause-around g c).After-prefix_len in
     let was = c.reserve.new.self in
-    let top : Open = record { behind = c.begin.result + c.prefix_len.result + 1; first = c.len-first.result } in
+    let top : Open = record { child_depth = c.begin.result + c.prefix_len.result + 1; first = c.len-first.result } in
     let first = c.len-first.ensures in
     let len = was.children.ok.0 in
     let all = ap length c.in-Ok-note_all.ensures.items ∙ length-append was.children.items c.children.result in

@@ -18,21 +18,21 @@ tail n xs = take_all (length xs - n) (drop n xs) (omega (arith, length-drop n xs
 module _ (g : _) (c : After-as_slice g) (rest : List (Name × Cell g.row.K.Denot g.row.V.Denot)) (key : List ℕ) (ls : List (LeafAt g.row.K.Denot g.row.V.Denot))
     (has : HasSpine g.K.AsBytes.bytes g.row.PREFIX_LEN c.args.arena.now c.args.spine.now rest c.args.last c.args.low c.args.part key ls) where
   abbrev byte : ℕ
-  byte = slice_index c.as_bytes.result.now (c.in-Some.top.behind - 1)
+  byte = slice_index c.as_bytes.result.now (c.in-Some.top.child_depth - 1)
 
   key-read : c.as_bytes.result.now ≡ key
   key-read = c.as_bytes.ensures.value ∙ ap g.K.AsBytes.bytes (c.as_key_ref.ensures has.leaf has.there) ∙ has.key_is
 
-  within : c.in-Some.top.behind - 1 < length key
+  within : c.in-Some.top.child_depth - 1 < length key
   within = inside g.K.AsBytes.bytes g.row.PREFIX_LEN c.args.arena.now c.args.spine.now rest c.args.last c.args.low c.args.part key ls has c.pop.new.self.items c.in-Some.top c.in-Some.ensures.items c.requires.above
 
-  byte-is : byte ≡ slice_index key (c.in-Some.top.behind - 1)
-  byte-is = ap (λ k. slice_index k (c.in-Some.top.behind - 1)) key-read
+  byte-is : byte ≡ slice_index key (c.in-Some.top.child_depth - 1)
+  byte-is = ap (λ k. slice_index k (c.in-Some.top.child_depth - 1)) key-read
 
   byte-fits : byte < 256
   byte-fits =
       let all = subst (λ k. All (λ b. b < 256) k) (sym c.as_bytes.ensures.value) (g.met.K.AsBytes.bytes_fit c.as_key_ref.result.now c.as_bytes.ensures.key) in
-      All-get_or (λ (b : ℕ). b < 256) c.as_bytes.result.now (c.in-Some.top.behind - 1) 0 (subst (λ k. c.in-Some.top.behind - 1 < length k) (sym key-read) within) all
+      All-get_or (λ (b : ℕ). b < 256) c.as_bytes.result.now (c.in-Some.top.child_depth - 1) 0 (subst (λ k. c.in-Some.top.child_depth - 1 < length k) (sym key-read) within) all
 
   children-read : take (length c.as_slice.result.now - c.in-Some.top.first) (drop c.in-Some.top.first c.as_slice.result.now)
       ≡ own g.K.AsBytes.bytes g.row.PREFIX_LEN c.args.arena.now c.args.spine.now rest c.args.last c.args.low c.args.part key ls has c.pop.new.self.items c.in-Some.top c.in-Some.ensures.items c.requires.above byte byte-is byte-fits
@@ -51,14 +51,18 @@ store_over-requires g c =
     let before = from-before g.K.AsBytes.bytes g.row.PREFIX_LEN c.args.arena.now c.args.spine.now r.0 c.args.last c.args.low c.args.part r.1.0 r.1.1 has c.pop.new.self.items c.in-Some.top c.in-Some.ensures.items c.requires.above in (
       omega arith,
       (
-        (has.leaf, has.there, subst (λ k. c.in-Some.top.behind - 1 ≤ length k) (sym same) (omega (arith, inside_key))),
+        (has.leaf, has.there, subst (λ k. c.in-Some.top.child_depth - 1 ≤ length k) (sym same) (omega (arith, inside_key))),
         (
-          subst (λ n. n ≤ c.in-Some.top.behind - 1) (sym c.begin-from.ensures) before,
+          subst (λ n. n ≤ c.in-Some.top.child_depth - 1) (sym c.begin-from.ensures) before,
           (
             subst IsAscending (sym (children-read g d r.0 r.1.0 r.1.1 has))
-                (own-ascending g.K.AsBytes.bytes g.row.PREFIX_LEN c.args.arena.now c.args.spine.now r.0 c.args.last c.args.low c.args.part r.1.0 r.1.1 has c.pop.new.self.items c.in-Some.top c.in-Some.ensures.items c.requires.above (byte g d r.0 r.1.0 r.1.1 has) (byte-is g d r.0 r.1.0 r.1.1 has) (byte-fits g d r.0 r.1.0 r.1.1 has)),
+                (own-ascending g.K.AsBytes.bytes g.row.PREFIX_LEN c.args.arena.now c.args.spine.now r.0 c.args.last c.args.low c.args.part r.1.0 r.1.1 has
+                c.pop.new.self.items c.in-Some.top c.in-Some.ensures.items c.requires.above (byte g d r.0 r.1.0 r.1.1 has) (byte-is g d r.0 r.1.0 r.1.1 has)
+                (byte-fits g d r.0 r.1.0 r.1.1 has)),
             subst (λ (cs : List (ℕ × Name)). 2 ≤ length cs) (sym (children-read g d r.0 r.1.0 r.1.1 has))
-                (own-two g.K.AsBytes.bytes g.row.PREFIX_LEN c.args.arena.now c.args.spine.now r.0 c.args.last c.args.low c.args.part r.1.0 r.1.1 has c.pop.new.self.items c.in-Some.top c.in-Some.ensures.items c.requires.above (byte g d r.0 r.1.0 r.1.1 has) (byte-is g d r.0 r.1.0 r.1.1 has) (byte-fits g d r.0 r.1.0 r.1.1 has)),
+                (own-two g.K.AsBytes.bytes g.row.PREFIX_LEN c.args.arena.now c.args.spine.now r.0 c.args.last c.args.low c.args.part r.1.0 r.1.1 has
+                c.pop.new.self.items c.in-Some.top c.in-Some.ensures.items c.requires.above (byte g d r.0 r.1.0 r.1.1 has) (byte-is g d r.0 r.1.0 r.1.1 has)
+                (byte-fits g d r.0 r.1.0 r.1.1 has)),
           ),
         ),
       ),
@@ -69,14 +73,20 @@ returns-clause-ok g c = λ rest key ls has.
     let d = (goal.at.returns-clause-ok g c).After-as_slice in
     let node = c.in_ok-node.node in
     let left = c.truncate.ensures.items ∙ ap (take c.in-Some.top.first) c.in-Ok.ensures.items
-    ∙ other-children g.K.AsBytes.bytes g.row.PREFIX_LEN c.args.arena.now c.args.spine.now rest c.args.last c.args.low c.args.part key ls has c.pop.new.self.items c.in-Some.top c.in-Some.ensures.items c.requires.above (byte g d rest key ls has) (byte-is g d rest key ls has) (byte-fits g d rest key ls has) in
-    let put = subst (λ k. Allocates c.args.arena.now c.store_over.new.arena node (inner_held (inner_over g.row.PREFIX_LEN (take (c.in-Some.top.behind - 1 - c.begin-from.result) (drop c.begin-from.result k)) (take (length c.as_slice.result.now - c.in-Some.top.first) (drop c.in-Some.top.first c.as_slice.result.now))))) has.key_is
+    ∙ other-children g.K.AsBytes.bytes g.row.PREFIX_LEN c.args.arena.now c.args.spine.now rest c.args.last c.args.low c.args.part key ls has
+    c.pop.new.self.items c.in-Some.top c.in-Some.ensures.items c.requires.above (byte g d rest key ls has) (byte-is g d rest key ls has)
+    (byte-fits g d rest key ls has) in
+    let put = subst (λ k. Allocates c.args.arena.now c.store_over.new.arena node
+    (inner_held (inner_over g.row.PREFIX_LEN (take (c.in-Some.top.child_depth - 1 - c.begin-from.result) (drop c.begin-from.result k))
+    (take (length c.as_slice.result.now - c.in-Some.top.first) (drop c.in-Some.top.first c.as_slice.result.now))))) has.key_is
     (c.in_ok-node.ensures.ok has.leaf has.there) in
-    let named = subst (λ f. Allocates c.args.arena.now c.store_over.new.arena node (inner_held (inner_over g.row.PREFIX_LEN (take (c.in-Some.top.behind - 1 - f) (drop f key)) (take (length c.as_slice.result.now - c.in-Some.top.first) (drop c.in-Some.top.first c.as_slice.result.now))))) c.begin-from.ensures put in
+    let named = subst (λ f. Allocates c.args.arena.now c.store_over.new.arena node
+    (inner_held (inner_over g.row.PREFIX_LEN (take (c.in-Some.top.child_depth - 1 - f) (drop f key))
+    (take (length c.as_slice.result.now - c.in-Some.top.first) (drop c.in-Some.top.first c.as_slice.result.now))))) c.begin-from.ensures put in
     closed g.K.AsBytes.bytes g.row.PREFIX_LEN c.args.arena.now c.args.spine.now rest c.args.last c.args.low c.args.part key ls has c.pop.new.self.items c.in-Some.top c.in-Some.ensures.items c.requires.above (byte g d rest key ls has) (byte-is g d rest key ls has) (byte-fits g d rest key ls has)
     c.store_over.new.arena (record { stack = c.pop.new.self; children = c.truncate.new.self }) node refl left
     (subst (λ (cs : List (ℕ × Name)). IsKindOf node.kind (length cs)) (children-read g d rest key ls has) c.in_ok-node.ensures.kind)
-    (subst (λ cs. Allocates c.args.arena.now c.store_over.new.arena node (inner_held (inner_over g.row.PREFIX_LEN (take (c.in-Some.top.behind - 1 - begin_of c.args.low c.pop.new.self.items) (drop (begin_of c.args.low c.pop.new.self.items) key)) cs))) (children-read g d rest key ls has) named)
+    (subst (λ cs. Allocates c.args.arena.now c.store_over.new.arena node (inner_held (inner_over g.row.PREFIX_LEN (take (c.in-Some.top.child_depth - 1 - begin_of c.args.low c.pop.new.self.items) (drop (begin_of c.args.low c.pop.new.self.items) key)) cs))) (children-read g d rest key ls has) named)
     c.in_ok-node.ensures.leaves
 
 pub returns-clause-room : goal.returns-clause-room
@@ -85,10 +95,18 @@ returns-clause-room g c = λ more room.
     let r = c.requires.stands in
     let has = r.1.2 in
     let own_is = ap (λ (cs : List (ℕ × Name)). length cs) (children-read g d r.0 r.1.0 r.1.1 has) in
-    let own_list = own g.K.AsBytes.bytes g.row.PREFIX_LEN c.args.arena.now c.args.spine.now r.0 c.args.last c.args.low c.args.part r.1.0 r.1.1 has c.pop.new.self.items c.in-Some.top c.in-Some.ensures.items c.requires.above (byte g d r.0 r.1.0 r.1.1 has) (byte-is g d r.0 r.1.0 r.1.1 has) (byte-fits g d r.0 r.1.0 r.1.1 has) in
-    let two = own-two g.K.AsBytes.bytes g.row.PREFIX_LEN c.args.arena.now c.args.spine.now r.0 c.args.last c.args.low c.args.part r.1.0 r.1.1 has c.pop.new.self.items c.in-Some.top c.in-Some.ensures.items c.requires.above (byte g d r.0 r.1.0 r.1.1 has) (byte-is g d r.0 r.1.0 r.1.1 has) (byte-fits g d r.0 r.1.0 r.1.1 has) in
-    let count = all-count g.K.AsBytes.bytes g.row.PREFIX_LEN c.args.arena.now c.args.spine.now r.0 c.args.last c.args.low c.args.part r.1.0 r.1.1 has c.pop.new.self.items c.in-Some.top c.in-Some.ensures.items c.requires.above (byte g d r.0 r.1.0 r.1.1 has) (byte-is g d r.0 r.1.0 r.1.1 has) (byte-fits g d r.0 r.1.0 r.1.1 has) in
-    let left = left-count g.K.AsBytes.bytes g.row.PREFIX_LEN c.args.arena.now c.args.spine.now r.0 c.args.last c.args.low c.args.part r.1.0 r.1.1 has c.pop.new.self.items c.in-Some.top c.in-Some.ensures.items c.requires.above (byte g d r.0 r.1.0 r.1.1 has) (byte-is g d r.0 r.1.0 r.1.1 has) (byte-fits g d r.0 r.1.0 r.1.1 has)
+    let own_list = own g.K.AsBytes.bytes g.row.PREFIX_LEN c.args.arena.now c.args.spine.now r.0 c.args.last c.args.low c.args.part r.1.0 r.1.1 has
+    c.pop.new.self.items c.in-Some.top c.in-Some.ensures.items c.requires.above (byte g d r.0 r.1.0 r.1.1 has) (byte-is g d r.0 r.1.0 r.1.1 has)
+    (byte-fits g d r.0 r.1.0 r.1.1 has) in
+    let two = own-two g.K.AsBytes.bytes g.row.PREFIX_LEN c.args.arena.now c.args.spine.now r.0 c.args.last c.args.low c.args.part r.1.0 r.1.1 has
+    c.pop.new.self.items c.in-Some.top c.in-Some.ensures.items c.requires.above (byte g d r.0 r.1.0 r.1.1 has) (byte-is g d r.0 r.1.0 r.1.1 has)
+    (byte-fits g d r.0 r.1.0 r.1.1 has) in
+    let count = all-count g.K.AsBytes.bytes g.row.PREFIX_LEN c.args.arena.now c.args.spine.now r.0 c.args.last c.args.low c.args.part r.1.0 r.1.1 has
+    c.pop.new.self.items c.in-Some.top c.in-Some.ensures.items c.requires.above (byte g d r.0 r.1.0 r.1.1 has) (byte-is g d r.0 r.1.0 r.1.1 has)
+    (byte-fits g d r.0 r.1.0 r.1.1 has) in
+    let left = left-count g.K.AsBytes.bytes g.row.PREFIX_LEN c.args.arena.now c.args.spine.now r.0 c.args.last c.args.low c.args.part r.1.0 r.1.1 has
+    c.pop.new.self.items c.in-Some.top c.in-Some.ensures.items c.requires.above (byte g d r.0 r.1.0 r.1.1 has) (byte-is g d r.0 r.1.0 r.1.1 has)
+    (byte-fits g d r.0 r.1.0 r.1.1 has)
     (c.truncate.ensures.items ∙ ap (take c.in-Some.top.first) c.in-Ok.ensures.items) in
     let popped = ap length c.in-Some.ensures.items ∙ length-append c.pop.new.self.items (c.in-Some.top ∷ []) in
     closed-room c.args.arena.now c.store_over.new.arena c.args.spine.now (record { stack = c.pop.new.self; children = c.truncate.new.self }) c.in-Some.top.first (length own_list) more
@@ -101,9 +119,15 @@ returns-clause-nodes g c = λ more room.
     let r = c.requires.stands in
     let has = r.1.2 in
     let own_is = ap (λ (cs : List (ℕ × Name)). length cs) (children-read g d r.0 r.1.0 r.1.1 has) in
-    let own_list = own g.K.AsBytes.bytes g.row.PREFIX_LEN c.args.arena.now c.args.spine.now r.0 c.args.last c.args.low c.args.part r.1.0 r.1.1 has c.pop.new.self.items c.in-Some.top c.in-Some.ensures.items c.requires.above (byte g d r.0 r.1.0 r.1.1 has) (byte-is g d r.0 r.1.0 r.1.1 has) (byte-fits g d r.0 r.1.0 r.1.1 has) in
-    let count = all-count g.K.AsBytes.bytes g.row.PREFIX_LEN c.args.arena.now c.args.spine.now r.0 c.args.last c.args.low c.args.part r.1.0 r.1.1 has c.pop.new.self.items c.in-Some.top c.in-Some.ensures.items c.requires.above (byte g d r.0 r.1.0 r.1.1 has) (byte-is g d r.0 r.1.0 r.1.1 has) (byte-fits g d r.0 r.1.0 r.1.1 has) in
-    let left = left-count g.K.AsBytes.bytes g.row.PREFIX_LEN c.args.arena.now c.args.spine.now r.0 c.args.last c.args.low c.args.part r.1.0 r.1.1 has c.pop.new.self.items c.in-Some.top c.in-Some.ensures.items c.requires.above (byte g d r.0 r.1.0 r.1.1 has) (byte-is g d r.0 r.1.0 r.1.1 has) (byte-fits g d r.0 r.1.0 r.1.1 has)
+    let own_list = own g.K.AsBytes.bytes g.row.PREFIX_LEN c.args.arena.now c.args.spine.now r.0 c.args.last c.args.low c.args.part r.1.0 r.1.1 has
+    c.pop.new.self.items c.in-Some.top c.in-Some.ensures.items c.requires.above (byte g d r.0 r.1.0 r.1.1 has) (byte-is g d r.0 r.1.0 r.1.1 has)
+    (byte-fits g d r.0 r.1.0 r.1.1 has) in
+    let count = all-count g.K.AsBytes.bytes g.row.PREFIX_LEN c.args.arena.now c.args.spine.now r.0 c.args.last c.args.low c.args.part r.1.0 r.1.1 has
+    c.pop.new.self.items c.in-Some.top c.in-Some.ensures.items c.requires.above (byte g d r.0 r.1.0 r.1.1 has) (byte-is g d r.0 r.1.0 r.1.1 has)
+    (byte-fits g d r.0 r.1.0 r.1.1 has) in
+    let left = left-count g.K.AsBytes.bytes g.row.PREFIX_LEN c.args.arena.now c.args.spine.now r.0 c.args.last c.args.low c.args.part r.1.0 r.1.1 has
+    c.pop.new.self.items c.in-Some.top c.in-Some.ensures.items c.requires.above (byte g d r.0 r.1.0 r.1.1 has) (byte-is g d r.0 r.1.0 r.1.1 has)
+    (byte-fits g d r.0 r.1.0 r.1.1 has)
     (c.truncate.ensures.items ∙ ap (take c.in-Some.top.first) c.in-Ok.ensures.items) in
     closed-nodes c.args.arena.now c.store_over.new.arena c.args.spine.now (record { stack = c.pop.new.self; children = c.truncate.new.self }) c.in-Some.top.first (length own_list) more
     (subst (λ n. (k : ℕ) → HasInnerRoom c.args.arena.now (n + k) → HasInnerRoom c.store_over.new.arena (suc k)) own_is c.in_ok-node.ensures.room) count left room
@@ -119,9 +143,15 @@ returns-clause-around g c = λ n room.
     let r = c.requires.stands in
     let has = r.1.2 in
     let own_is = ap (λ (cs : List (ℕ × Name)). length cs) (children-read g d r.0 r.1.0 r.1.1 has) in
-    let own_list = own g.K.AsBytes.bytes g.row.PREFIX_LEN c.args.arena.now c.args.spine.now r.0 c.args.last c.args.low c.args.part r.1.0 r.1.1 has c.pop.new.self.items c.in-Some.top c.in-Some.ensures.items c.requires.above (byte g d r.0 r.1.0 r.1.1 has) (byte-is g d r.0 r.1.0 r.1.1 has) (byte-fits g d r.0 r.1.0 r.1.1 has) in
-    let count = all-count g.K.AsBytes.bytes g.row.PREFIX_LEN c.args.arena.now c.args.spine.now r.0 c.args.last c.args.low c.args.part r.1.0 r.1.1 has c.pop.new.self.items c.in-Some.top c.in-Some.ensures.items c.requires.above (byte g d r.0 r.1.0 r.1.1 has) (byte-is g d r.0 r.1.0 r.1.1 has) (byte-fits g d r.0 r.1.0 r.1.1 has) in
-    let left = left-count g.K.AsBytes.bytes g.row.PREFIX_LEN c.args.arena.now c.args.spine.now r.0 c.args.last c.args.low c.args.part r.1.0 r.1.1 has c.pop.new.self.items c.in-Some.top c.in-Some.ensures.items c.requires.above (byte g d r.0 r.1.0 r.1.1 has) (byte-is g d r.0 r.1.0 r.1.1 has) (byte-fits g d r.0 r.1.0 r.1.1 has)
+    let own_list = own g.K.AsBytes.bytes g.row.PREFIX_LEN c.args.arena.now c.args.spine.now r.0 c.args.last c.args.low c.args.part r.1.0 r.1.1 has
+    c.pop.new.self.items c.in-Some.top c.in-Some.ensures.items c.requires.above (byte g d r.0 r.1.0 r.1.1 has) (byte-is g d r.0 r.1.0 r.1.1 has)
+    (byte-fits g d r.0 r.1.0 r.1.1 has) in
+    let count = all-count g.K.AsBytes.bytes g.row.PREFIX_LEN c.args.arena.now c.args.spine.now r.0 c.args.last c.args.low c.args.part r.1.0 r.1.1 has
+    c.pop.new.self.items c.in-Some.top c.in-Some.ensures.items c.requires.above (byte g d r.0 r.1.0 r.1.1 has) (byte-is g d r.0 r.1.0 r.1.1 has)
+    (byte-fits g d r.0 r.1.0 r.1.1 has) in
+    let left = left-count g.K.AsBytes.bytes g.row.PREFIX_LEN c.args.arena.now c.args.spine.now r.0 c.args.last c.args.low c.args.part r.1.0 r.1.1 has
+    c.pop.new.self.items c.in-Some.top c.in-Some.ensures.items c.requires.above (byte g d r.0 r.1.0 r.1.1 has) (byte-is g d r.0 r.1.0 r.1.1 has)
+    (byte-fits g d r.0 r.1.0 r.1.1 has)
     (c.truncate.ensures.items ∙ ap (take c.in-Some.top.first) c.in-Ok.ensures.items) in
     let kind = c.in_ok-node.node.kind in
     around-closed c.args.arena.now c.store_over.new.arena c.args.spine.now (record { stack = c.pop.new.self; children = c.truncate.new.self }) c.in-Some.top kind (length own_list) n (subst (IsKindOf kind) own_is c.in_ok-node.ensures.kind)
@@ -133,6 +163,8 @@ returns-in_err-node-clause-succeeds g c = λ more room.
     let r = c.requires.stands in
     let has = r.1.2 in
     let own_is = ap (λ (cs : List (ℕ × Name)). length cs) (children-read g d r.0 r.1.0 r.1.1 has) in
-    let count = all-count g.K.AsBytes.bytes g.row.PREFIX_LEN c.args.arena.now c.args.spine.now r.0 c.args.last c.args.low c.args.part r.1.0 r.1.1 has c.pop.new.self.items c.in-Some.top c.in-Some.ensures.items c.requires.above (byte g d r.0 r.1.0 r.1.1 has) (byte-is g d r.0 r.1.0 r.1.1 has) (byte-fits g d r.0 r.1.0 r.1.1 has) in
+    let count = all-count g.K.AsBytes.bytes g.row.PREFIX_LEN c.args.arena.now c.args.spine.now r.0 c.args.last c.args.low c.args.part r.1.0 r.1.1 has
+    c.pop.new.self.items c.in-Some.top c.in-Some.ensures.items c.requires.above (byte g d r.0 r.1.0 r.1.1 has) (byte-is g d r.0 r.1.0 r.1.1 has)
+    (byte-fits g d r.0 r.1.0 r.1.1 has) in
     let ok = c.in_err-node.ensures.succeeds (c.in-Some.top.first + more) (subst (HasInnerRoom c.args.arena.now) (omega (arith, own_is, count)) room.nodes) in
     absurd (cc)

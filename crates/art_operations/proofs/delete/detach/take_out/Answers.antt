@@ -1,8 +1,9 @@
 use Rattle.std.proofs.Common.{◌≡◌, ◌≢◌, ℕ, suc, ◌+◌, List, length, refl, sym, ◌∙◌, subst, lit<, arith}
 use Rattle.art_nodes.proofs.Common.{Name, CanShrink}
+use Rattle.art_nodes.specs.declared.kind.NodeType.TheVariants.{Leaf}
 use Rattle.art_arena.proofs.Common.{links_at, Cell, name_of, links-same}
 use Rattle.art_operations.proofs.Terms.{IsChildPart, StandsFor}
-use Rattle.art_operations.proofs.Door.{read_at}
+use Rattle.art_operations.proofs.NodesRead.{read_at}
 use Rattle.art_operations.proofs.Merges.{other_path, other_subtree, other_apart}
 use Rattle.art_operations.proofs.Results.{both_ok, from_err, either_way}
 use Rattle.art_operations.proofs.NewNodes.{fewer}
@@ -14,8 +15,12 @@ pub inner-requires : goal.inner-requires
 inner-requires g c = (lit< tt, (lit< tt, (rw (node_there g.K.AsBytes.bytes g.row.PREFIX_LEN c.args.arena.now c.args.parent c.args.byte c.args.child c.requires.1) refl, node_inner g.K.AsBytes.bytes g.row.PREFIX_LEN c.args.arena.now c.args.parent c.args.byte c.args.child c.requires.1)))
 
 -- how many children the node was seen to have
-count : (g : _) (c : After-num_children g) {rest : List (Name × Cell g.row.K.Denot g.row.V.Denot)} (t : IsChildPart g.K.AsBytes.bytes g.row.PREFIX_LEN c.args.arena.now rest c.args.parent c.args.byte c.args.child) → c.num_children.result ≡ suc (others g.K.AsBytes.bytes g.row.PREFIX_LEN c.args.arena.now c.args.parent c.args.byte c.args.child t)
-count g c t = read_at (λ m. length m.children) _ (node g.K.AsBytes.bytes g.row.PREFIX_LEN c.args.arena.now c.args.parent c.args.byte c.args.child t) _ (node_there g.K.AsBytes.bytes g.row.PREFIX_LEN c.args.arena.now c.args.parent c.args.byte c.args.child t) c.inner.ensures.value _ c.num_children.ensures ∙ node_count g.K.AsBytes.bytes g.row.PREFIX_LEN c.args.arena.now c.args.parent c.args.byte c.args.child t
+count : (g : _) (c : After-num_children g) {rest : List (Name × Cell g.row.K.Denot g.row.V.Denot)}
+    (t : IsChildPart g.K.AsBytes.bytes g.row.PREFIX_LEN c.args.arena.now rest c.args.parent c.args.byte c.args.child) → c.num_children.result
+    ≡ suc (others g.K.AsBytes.bytes g.row.PREFIX_LEN c.args.arena.now c.args.parent c.args.byte c.args.child t)
+count g c t = read_at (λ m. length m.children) _ (node g.K.AsBytes.bytes g.row.PREFIX_LEN c.args.arena.now c.args.parent c.args.byte c.args.child t) _
+    (node_there g.K.AsBytes.bytes g.row.PREFIX_LEN c.args.arena.now c.args.parent c.args.byte c.args.child t) c.inner.ensures.value _ c.num_children.ensures
+    ∙ node_count g.K.AsBytes.bytes g.row.PREFIX_LEN c.args.arena.now c.args.parent c.args.byte c.args.child t
 
 pub merge-requires : goal.merge-requires
 merge-requires g c =
@@ -43,8 +48,12 @@ pub returns-then-num_children-eq2-clause-ok : goal.returns-then-num_children-eq2
 returns-then-num_children-eq2-clause-ok g c = λ rest t.
     let two : suc (others g.K.AsBytes.bytes g.row.PREFIX_LEN c.args.arena.now c.args.parent c.args.byte c.args.child t) ≡ 2 = sym (count g ((goal.at.returns-then-num_children-eq2-clause-ok g c).After-num_children) t) ∙ c.if-num_children-eq2.true in
     let o = one g.K.AsBytes.bytes g.row.PREFIX_LEN c.args.arena.now c.args.parent c.args.byte c.args.child t two in
-    let m = c.merge.ensures.merges (node g.K.AsBytes.bytes g.row.PREFIX_LEN c.args.arena.now c.args.parent c.args.byte c.args.child t) (o.edge, name_of o.here) (node_there g.K.AsBytes.bytes g.row.PREFIX_LEN c.args.arena.now c.args.parent c.args.byte c.args.child t) (one_other g.K.AsBytes.bytes g.row.PREFIX_LEN c.args.arena.now c.args.parent c.args.byte c.args.child t two) in
-    let is = c.merge.ensures.value (node g.K.AsBytes.bytes g.row.PREFIX_LEN c.args.arena.now c.args.parent c.args.byte c.args.child t) (o.edge, name_of o.here) (node_there g.K.AsBytes.bytes g.row.PREFIX_LEN c.args.arena.now c.args.parent c.args.byte c.args.child t) (one_other g.K.AsBytes.bytes g.row.PREFIX_LEN c.args.arena.now c.args.parent c.args.byte c.args.child t two) in
+    let m = c.merge.ensures.merges (node g.K.AsBytes.bytes g.row.PREFIX_LEN c.args.arena.now c.args.parent c.args.byte c.args.child t) (o.edge, name_of o.here)
+    (node_there g.K.AsBytes.bytes g.row.PREFIX_LEN c.args.arena.now c.args.parent c.args.byte c.args.child t)
+    (one_other g.K.AsBytes.bytes g.row.PREFIX_LEN c.args.arena.now c.args.parent c.args.byte c.args.child t two) in
+    let is = c.merge.ensures.value (node g.K.AsBytes.bytes g.row.PREFIX_LEN c.args.arena.now c.args.parent c.args.byte c.args.child t) (o.edge, name_of o.here)
+    (node_there g.K.AsBytes.bytes g.row.PREFIX_LEN c.args.arena.now c.args.parent c.args.byte c.args.child t)
+    (one_other g.K.AsBytes.bytes g.row.PREFIX_LEN c.args.arena.now c.args.parent c.args.byte c.args.child t two) in
     subst (λ n. StandsFor g.K.AsBytes.bytes g.row.PREFIX_LEN c.merge.new.arena rest t.frame t.outer t.part n) (sym is) (merged_out g.K.AsBytes.bytes g.row.PREFIX_LEN c.args.arena.now c.args.parent c.args.byte c.args.child t two m.0 c.merge.new.arena m.1 m.2)
 
 pub returns-then-num_children-eq2-clause-links : goal.returns-then-num_children-eq2-clause-links
@@ -52,7 +61,9 @@ returns-then-num_children-eq2-clause-links g c =
     let t = c.requires.1 in
     let two : suc (others g.K.AsBytes.bytes g.row.PREFIX_LEN c.args.arena.now c.args.parent c.args.byte c.args.child t) ≡ 2 = sym (count g ((goal.at.returns-then-num_children-eq2-clause-links g c).After-num_children) t) ∙ c.if-num_children-eq2.true in
     let o = one g.K.AsBytes.bytes g.row.PREFIX_LEN c.args.arena.now c.args.parent c.args.byte c.args.child t two in
-    let m = c.merge.ensures.merges (node g.K.AsBytes.bytes g.row.PREFIX_LEN c.args.arena.now c.args.parent c.args.byte c.args.child t) (o.edge, name_of o.here) (node_there g.K.AsBytes.bytes g.row.PREFIX_LEN c.args.arena.now c.args.parent c.args.byte c.args.child t) (one_other g.K.AsBytes.bytes g.row.PREFIX_LEN c.args.arena.now c.args.parent c.args.byte c.args.child t two) in
+    let m = c.merge.ensures.merges (node g.K.AsBytes.bytes g.row.PREFIX_LEN c.args.arena.now c.args.parent c.args.byte c.args.child t) (o.edge, name_of o.here)
+    (node_there g.K.AsBytes.bytes g.row.PREFIX_LEN c.args.arena.now c.args.parent c.args.byte c.args.child t)
+    (one_other g.K.AsBytes.bytes g.row.PREFIX_LEN c.args.arena.now c.args.parent c.args.byte c.args.child t two) in
     merged_links g.K.AsBytes.bytes g.row.PREFIX_LEN c.args.arena.now c.args.parent c.args.byte c.args.child t two m.0 c.merge.new.arena m.1 m.2
 
 pub returns-then-num_children-eq2-clause-room : goal.returns-then-num_children-eq2-clause-room
@@ -60,28 +71,52 @@ returns-then-num_children-eq2-clause-room g c = λ n room. c.merge.ensures.room 
 
 pub take_child-requires : goal.take_child-requires
 take_child-requires g c =
-    let t = c.requires.1 in
-    (lit< tt, (node_inner g.K.AsBytes.bytes g.row.PREFIX_LEN c.args.arena.now c.args.parent c.args.byte c.args.child t, (node g.K.AsBytes.bytes g.row.PREFIX_LEN c.args.arena.now c.args.parent c.args.byte c.args.child t, node_there g.K.AsBytes.bytes g.row.PREFIX_LEN c.args.arena.now c.args.parent c.args.byte c.args.child t, puts_part_back g.K.AsBytes.bytes g.row.PREFIX_LEN c.args.arena.now c.args.parent c.args.byte c.args.child t, has_room_for_part g.K.AsBytes.bytes g.row.PREFIX_LEN c.args.arena.now c.args.parent c.args.byte c.args.child t)))
+    let t = c.requires.1 in (
+      lit< tt,
+      (
+        node_inner g.K.AsBytes.bytes g.row.PREFIX_LEN c.args.arena.now c.args.parent c.args.byte c.args.child t,
+        (
+          node g.K.AsBytes.bytes g.row.PREFIX_LEN c.args.arena.now c.args.parent c.args.byte c.args.child t,
+          node_there g.K.AsBytes.bytes g.row.PREFIX_LEN c.args.arena.now c.args.parent c.args.byte c.args.child t,
+          puts_part_back g.K.AsBytes.bytes g.row.PREFIX_LEN c.args.arena.now c.args.parent c.args.byte c.args.child t,
+          has_room_for_part g.K.AsBytes.bytes g.row.PREFIX_LEN c.args.arena.now c.args.parent c.args.byte c.args.child t,
+        ),
+      ),
+    )
 
 pub returns-clause-ok : goal.returns-clause-ok
 returns-clause-ok g c =
     both_ok c.take_child.result _ _ _ c.take_child.ensures.ok c.take_child.ensures.kind (λ other moves kind rest t.
     let more : suc (others g.K.AsBytes.bytes g.row.PREFIX_LEN c.args.arena.now c.args.parent c.args.byte c.args.child t) ≢ 2 = λ e. c.if-num_children-eq2.false (count g ((goal.at.returns-clause-ok g c).After-num_children) t ∙ e) in
-    taken_out g.K.AsBytes.bytes g.row.PREFIX_LEN c.args.arena.now c.args.parent c.args.byte c.args.child t c.take_child.new.arena other (moves (node g.K.AsBytes.bytes g.row.PREFIX_LEN c.args.arena.now c.args.parent c.args.byte c.args.child t) (node_there g.K.AsBytes.bytes g.row.PREFIX_LEN c.args.arena.now c.args.parent c.args.byte c.args.child t)) (kind (node g.K.AsBytes.bytes g.row.PREFIX_LEN c.args.arena.now c.args.parent c.args.byte c.args.child t) (node_there g.K.AsBytes.bytes g.row.PREFIX_LEN c.args.arena.now c.args.parent c.args.byte c.args.child t)) more)
+    taken_out g.K.AsBytes.bytes g.row.PREFIX_LEN c.args.arena.now c.args.parent c.args.byte c.args.child t c.take_child.new.arena other
+    (moves (node g.K.AsBytes.bytes g.row.PREFIX_LEN c.args.arena.now c.args.parent c.args.byte c.args.child t)
+    (node_there g.K.AsBytes.bytes g.row.PREFIX_LEN c.args.arena.now c.args.parent c.args.byte c.args.child t))
+    (kind (node g.K.AsBytes.bytes g.row.PREFIX_LEN c.args.arena.now c.args.parent c.args.byte c.args.child t)
+    (node_there g.K.AsBytes.bytes g.row.PREFIX_LEN c.args.arena.now c.args.parent c.args.byte c.args.child t)) more)
 
 pub returns-clause-links : goal.returns-clause-links
 returns-clause-links g c =
     let t = c.requires.1 in
     let more : suc (others g.K.AsBytes.bytes g.row.PREFIX_LEN c.args.arena.now c.args.parent c.args.byte c.args.child t) ≢ 2 = λ e. c.if-num_children-eq2.false (count g ((goal.at.returns-clause-links g c).After-num_children) t ∙ e) in
     either_way c.take_child.result _ _ _ ((slot : ℕ) → links_at c.take_child.new.arena slot ≡ links_at c.args.arena.now slot) c.take_child.ensures.ok c.take_child.ensures.kind c.take_child.ensures.err
-    (λ other moves kind. taken_links g.K.AsBytes.bytes g.row.PREFIX_LEN c.args.arena.now c.args.parent c.args.byte c.args.child t c.take_child.new.arena other (moves (node g.K.AsBytes.bytes g.row.PREFIX_LEN c.args.arena.now c.args.parent c.args.byte c.args.child t) (node_there g.K.AsBytes.bytes g.row.PREFIX_LEN c.args.arena.now c.args.parent c.args.byte c.args.child t)) (kind (node g.K.AsBytes.bytes g.row.PREFIX_LEN c.args.arena.now c.args.parent c.args.byte c.args.child t) (node_there g.K.AsBytes.bytes g.row.PREFIX_LEN c.args.arena.now c.args.parent c.args.byte c.args.child t)) more)
+    (λ other moves kind. taken_links g.K.AsBytes.bytes g.row.PREFIX_LEN c.args.arena.now c.args.parent c.args.byte c.args.child t c.take_child.new.arena other
+    (moves (node g.K.AsBytes.bytes g.row.PREFIX_LEN c.args.arena.now c.args.parent c.args.byte c.args.child t)
+    (node_there g.K.AsBytes.bytes g.row.PREFIX_LEN c.args.arena.now c.args.parent c.args.byte c.args.child t))
+    (kind (node g.K.AsBytes.bytes g.row.PREFIX_LEN c.args.arena.now c.args.parent c.args.byte c.args.child t)
+    (node_there g.K.AsBytes.bytes g.row.PREFIX_LEN c.args.arena.now c.args.parent c.args.byte c.args.child t)) more)
     (λ same. links-same c.args.arena.now c.take_child.new.arena same)
 
 pub returns-clause-shrinks : goal.returns-clause-shrinks
-returns-clause-shrinks g c = from_err c.take_child.result _ _ c.take_child.ensures.shrinks (λ can rest t. limit_kind g.K.AsBytes.bytes g.row.PREFIX_LEN c.args.arena.now c.args.parent c.args.byte c.args.child t (can (node g.K.AsBytes.bytes g.row.PREFIX_LEN c.args.arena.now c.args.parent c.args.byte c.args.child t) (node_there g.K.AsBytes.bytes g.row.PREFIX_LEN c.args.arena.now c.args.parent c.args.byte c.args.child t)))
+returns-clause-shrinks g c = from_err c.take_child.result _ _ c.take_child.ensures.shrinks
+    (λ can rest t. limit_kind g.K.AsBytes.bytes g.row.PREFIX_LEN c.args.arena.now c.args.parent c.args.byte c.args.child t
+    (can (node g.K.AsBytes.bytes g.row.PREFIX_LEN c.args.arena.now c.args.parent c.args.byte c.args.child t)
+    (node_there g.K.AsBytes.bytes g.row.PREFIX_LEN c.args.arena.now c.args.parent c.args.byte c.args.child t)))
 
 pub returns-clause-has_room : goal.returns-clause-has_room
 returns-clause-has_room g c = λ room.
     let t = c.requires.1 in
     c.take_child.ensures.has_room (λ n there can.
     room n there (subst (CanShrink c.args.parent.kind) (one_less g.K.AsBytes.bytes g.row.PREFIX_LEN c.args.arena.now c.args.parent c.args.byte c.args.child t n there) can))
+
+pub returns-then-num_children-eq2-clause-leaf_room : goal.returns-then-num_children-eq2-clause-leaf_room
+returns-then-num_children-eq2-clause-leaf_room g c = λ n room. c.merge.ensures.room_of Leaf n room

@@ -37,3 +37,6 @@ returns-clause-merges g c = λ n other there two. (
 
 pub returns-clause-room : goal.returns-clause-room
 returns-clause-room g c = λ n room. c.edit_inner.ensures.room n (c.lengthen.ensures.room n room)
+
+pub returns-clause-room_of : goal.returns-clause-room_of
+returns-clause-room_of g c = λ kind n room. c.edit_inner.ensures.room_of kind n (c.lengthen.ensures.room_of kind n room)

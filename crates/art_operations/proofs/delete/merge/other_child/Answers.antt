@@ -1,6 +1,6 @@
 use Rattle.std.proofs.Common.{sym, ◌∙◌}
 use Rattle.art_nodes.proofs.Common.{first_child, last_child}
-use Rattle.art_operations.proofs.Door.{read_at}
+use Rattle.art_operations.proofs.NodesRead.{read_at}
 use Rattle.art_operations.proofs.OtherChild.{first-other, last-other, has_first, has_last}
 use Rattle.art_operations.proofs.delete.merge.other_child.Goals as goal
 
@@ -15,4 +15,7 @@ unreachable-requires-in-None-last_child g c = let t = c.requires.two in has_last
 
 pub returns : goal.returns
 returns g c = λ n other there two.
-    last-other n.children c.args.byte other two c.in-Some.first (sym (read_at (λ m. first_child m.children) _ n _ there c.inner-inner.ensures.value _ c.first_child.ensures) ∙ c.in-Some.is) c.if-first-byte.false c.in-Some-last_child.last (sym (read_at (λ m. last_child m.children) _ n _ there c.inner-inner.ensures.value _ c.last_child.ensures) ∙ c.in-Some-last_child.is)
+    last-other n.children c.args.byte other two c.in-Some.first
+    (sym (read_at (λ m. first_child m.children) _ n _ there c.inner-inner.ensures.value _ c.first_child.ensures) ∙ c.in-Some.is) c.if-first-byte.false
+    c.in-Some-last_child.last (sym (read_at (λ m. last_child m.children) _ n _ there c.inner-inner.ensures.value _ c.last_child.ensures)
+    ∙ c.in-Some-last_child.is)

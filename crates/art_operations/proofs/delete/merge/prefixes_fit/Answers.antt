@@ -6,13 +6,13 @@ use Rattle.art_operations.proofs.delete.merge.prefixes_fit.Goals as goal
 
 pub as_key_ref-requires : goal.as_key_ref-requires
 as_key_ref-requires g c =
-    let r = c.requires.behind in
+    let r = c.requires.stored in
     let first = first_leaf g.K.AsBytes.bytes g.row.PREFIX_LEN c.args.arena.now c.args.child r.0 r.1 c.first_leaf-leaf.result r.2 (c.first_leaf-leaf.ensures r.0 r.1 r.2) in
     (lit< tt, rw first.there refl)
 
 pub returns : goal.returns
 returns g c = λ n there.
-    let r = c.requires.behind in
+    let r = c.requires.stored in
     let h = header_there g.K.AsBytes.bytes g.row.PREFIX_LEN c.args.arena.now c.args.child r.0 r.1 r.2 c.requires.inner in
     let first = first_leaf g.K.AsBytes.bytes g.row.PREFIX_LEN c.args.arena.now c.args.child r.0 r.1 c.first_leaf-leaf.result r.2 (c.first_leaf-leaf.ensures r.0 r.1 r.2) in
     let len : n.header.prefix_len ≡ length (prefix_of r.1) = ap (λ (m : InnerNode). m.header.prefix_len) (same_inner _ n h.node there h.there) ∙ h.len in

@@ -9,9 +9,9 @@ use Rattle.art_operations.proofs.WayParts.{part-both, part-first, point-free}
 use Rattle.art_operations.proofs.delete.subtree.search_for_subtree_delete_point.Goals as goal
 use Rattle.art_operations.proofs.delete.subtree.search_for_subtree_delete_point.Goals.{After-segment_at}
 
-pub returns-in-Ok-clause-answer : goal.returns-in-Ok-clause-answer
-returns-in-Ok-clause-answer g c = λ s stores.
-    let answer = c.in-Ok.ensures.answer s stores in
+pub returns-in-Ok-clause-value : goal.returns-in-Ok-clause-value
+returns-in-Ok-clause-value g c = λ s stores.
+    let answer = c.in-Ok.ensures.value s stores in
     found_leaf g.K.AsBytes.bytes c.args.prefix.now s c.args.root stores.part.named c.in-Ok.point c.leaf_part.result answer.0 answer.1 c.leaf_part.ensures
 
 pub returns-in-Ok-clause-root : goal.returns-in-Ok-clause-root
@@ -30,8 +30,8 @@ segment_at-requires g c =
     let way = c.in-Err.ensures.part r.0 r.1 in
     (omega arith, (path_to way.ctx, way.part, (way_part g.K.AsBytes.bytes g.row.PREFIX_LEN c.args.prefix.now c.args.reader.now.arena.now _ c.in-Err.ensures.kept c.args.root c.in-Err.conflict.part r.0 r.1 way)))
 
-pub returns-in_default-clause-answer : goal.returns-in_default-clause-answer
-returns-in_default-clause-answer g c = λ s stores.
+pub returns-in_default-clause-value : goal.returns-in_default-clause-value
+returns-in_default-clause-value g c = λ s stores.
     let way = c.in-Err.ensures.part s stores in
     ends_same g.K.AsBytes.bytes (λ k. begins_with c.args.prefix.now k) (leaves s) (leaves way.part) None (begin_in g.K.AsBytes.bytes c.args.prefix.now s way.part way.ctx way.toward.place way.toward.begins)
     (c.in_default.ensures.value (path_to way.ctx) way.part (way_part g.K.AsBytes.bytes g.row.PREFIX_LEN c.args.prefix.now c.args.reader.now.arena.now _ c.in-Err.ensures.kept c.args.root c.in-Err.conflict.part s stores way) way.conflicts)
@@ -44,7 +44,9 @@ reads g c s stores longest short =
     omega (
       arith,
       c.in-Err.ensures.few s stores longest short,
-      c.segment_at.ensures.few (path_to way.ctx) way.part (way_part g.K.AsBytes.bytes g.row.PREFIX_LEN c.args.prefix.now c.args.reader.now.arena.now _ c.in-Err.ensures.kept c.args.root c.in-Err.conflict.part s stores way) longest (part_within g.K.AsBytes.bytes longest s way.ctx way.part way.toward.place.is short),
+      c.segment_at.ensures.few (path_to way.ctx) way.part
+          (way_part g.K.AsBytes.bytes g.row.PREFIX_LEN c.args.prefix.now c.args.reader.now.arena.now _ c.in-Err.ensures.kept c.args.root c.in-Err.conflict.part
+          s stores way) longest (part_within g.K.AsBytes.bytes longest s way.ctx way.part way.toward.place.is short),
     )
 
 pub returns-in_default-clause-linear : goal.returns-in_default-clause-linear
@@ -53,8 +55,8 @@ returns-in_default-clause-linear g c = reads g (goal.at.returns-in_default-claus
 pub returns-in_default-clause-few : goal.returns-in_default-clause-few
 returns-in_default-clause-few g c = λ s stores longest short. opening_of longest (length c.args.prefix.now) _ _ (reads g (goal.at.returns-in_default-clause-few g c).After-segment_at s stores longest short)
 
-pub returns-clause-answer : goal.returns-clause-answer
-returns-clause-answer g c = λ s stores.
+pub returns-clause-value : goal.returns-clause-value
+returns-clause-value g c = λ s stores.
     let way = c.in-Err.ensures.part s stores in
     conflict_point g.K.AsBytes.bytes c.args.prefix.now s c.args.root stores.part.named c.in-Err.conflict.root c.in-Err.conflict.part c.in-Err.conflict.path c.in-Some.ends.0 c.in-Some.ends.1 way
     (c.in-Some.ensures.value (path_to way.ctx) way.part (way_part g.K.AsBytes.bytes g.row.PREFIX_LEN c.args.prefix.now c.args.reader.now.arena.now _ c.in-Err.ensures.kept c.args.root c.in-Err.conflict.part s stores way) way.conflicts)
@@ -68,7 +70,7 @@ returns-clause-few g c = λ s stores longest short. opening_of longest (length c
 
 pub returns-in-Ok-clause-counts : goal.returns-in-Ok-clause-counts
 returns-in-Ok-clause-counts g c = λ s stores.
-    let answer = c.in-Ok.ensures.answer s stores in
+    let answer = c.in-Ok.ensures.value s stores in
     omega (arith, c.in-Ok.ensures.counts s stores, point-free g.K.AsBytes.bytes c.args.prefix.now s c.in-Ok.point answer.0 answer.1)
 
 pub returns-in_default-clause-counts : goal.returns-in_default-clause-counts

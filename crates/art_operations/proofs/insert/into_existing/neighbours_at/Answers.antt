@@ -13,7 +13,7 @@ pub neighbours_between-requires : goal.neighbours_between-requires
 neighbours_between-requires g c =
     let awaits = c.requires.6 in
     let p = previous _ _ _ _ _ _ _ _ _ _ awaits _ c.inner-inner.ensures.value _ c.child_before-before.ensures c.in-Some-Some.previous c.in-Some-Some.is-0 in
-    let n = next _ _ _ _ _ _ _ _ _ _ awaits _ c.inner-inner.ensures.value _ c.child_after-behind.ensures c.in-Some-Some.next c.in-Some-Some.is-1 in
+    let n = next _ _ _ _ _ _ _ _ _ _ awaits _ c.inner-inner.ensures.value _ c.child_after-following.ensures c.in-Some-Some.next c.in-Some-Some.is-1 in
     (omega arith, ((p.path, p.part, p.subtree), (n.path, n.part, n.subtree)))
 
 pub last_leaf-requires : goal.last_leaf-requires
@@ -23,17 +23,17 @@ last_leaf-requires g c =
 
 pub first_leaf-requires : goal.first_leaf-requires
 first_leaf-requires g c =
-    let n = next _ _ _ _ _ _ _ _ _ _ c.requires.6 _ c.inner-inner.ensures.value _ c.child_after-behind.ensures c.in-None-Some.next c.in-None-Some.is-1 in
+    let n = next _ _ _ _ _ _ _ _ _ _ c.requires.6 _ c.inner-inner.ensures.value _ c.child_after-following.ensures c.in-None-Some.next c.in-None-Some.is-1 in
     (omega arith, (n.path, n.part, n.subtree))
 
-pub known-requires : goal.known-requires
-known-requires g c =
-    absurd (some_child _ _ _ _ _ _ _ _ _ _ c.requires.6 _ c.inner-inner.ensures.value _ _ c.child_before-before.ensures c.child_after-behind.ensures c.in-None-None.is-0 c.in-None-None.is-1)
+pub assume_proved-requires : goal.assume_proved-requires
+assume_proved-requires g c =
+    absurd (some_child _ _ _ _ _ _ _ _ _ _ c.requires.6 _ c.inner-inner.ensures.value _ _ c.child_before-before.ensures c.child_after-following.ensures c.in-None-None.is-0 c.in-None-None.is-1)
 
 pub returns-in-Some-Some : goal.returns-in-Some-Some
 returns-in-Some-Some g c = λ root leaf f outer l rest awaits.
     let p = previous _ _ _ _ _ _ _ _ _ _ awaits _ c.inner-inner.ensures.value _ c.child_before-before.ensures c.in-Some-Some.previous c.in-Some-Some.is-0 in
-    let n = next _ _ _ _ _ _ _ _ _ _ awaits _ c.inner-inner.ensures.value _ c.child_after-behind.ensures c.in-Some-Some.next c.in-Some-Some.is-1 in
+    let n = next _ _ _ _ _ _ _ _ _ _ awaits _ c.inner-inner.ensures.value _ c.child_after-following.ensures c.in-Some-Some.next c.in-Some-Some.is-1 in
     neighbours_of_longer c.neighbours_between.result _ _ (leaves_before (f ∷ outer)) (leaves_after (f ∷ outer)) p.last n.first
     (c.neighbours_between.ensures p.path p.part p.subtree n.path n.part n.subtree)
 
@@ -44,5 +44,5 @@ returns-in-Some-None g c = λ root leaf f outer l rest awaits.
 
 pub returns-in-None-Some : goal.returns-in-None-Some
 returns-in-None-Some g c = λ root leaf f outer l rest awaits.
-    let n = next _ _ _ _ _ _ _ _ _ _ awaits _ c.inner-inner.ensures.value _ c.child_after-behind.ensures c.in-None-Some.next c.in-None-Some.is-1 in
+    let n = next _ _ _ _ _ _ _ _ _ _ awaits _ c.inner-inner.ensures.value _ c.child_after-following.ensures c.in-None-Some.next c.in-None-Some.is-1 in
     n.first _ (c.first_leaf.ensures n.path n.part n.subtree)

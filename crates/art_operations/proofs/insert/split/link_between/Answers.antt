@@ -1,6 +1,6 @@
 use Rattle.std.proofs.Common.{◌∷◌, ◌++◌, None, sym, ap, subst, ◌∙◌, arith}
-use Rattle.art_arena.proofs.Common.{links_at, AreLinked, IsBeside, KeepsLinksOutside, kept-before, kept-behind}
-use Rattle.art_operations.proofs.NewLeaves.{goes_before, goes_after, behind_last}
+use Rattle.art_arena.proofs.Common.{links_at, AreLinked, IsBeside, KeepsLinksOutside, kept-before, kept-after}
+use Rattle.art_operations.proofs.NewLeaves.{goes_before, goes_after, after_last}
 use Rattle.art_operations.proofs.insert.split.link_between.Goals as goal
 
 pub insert_before-requires : goal.insert_before-requires
@@ -13,7 +13,7 @@ pub insert_after-requires : goal.insert_after-requires
 insert_after-requires g c =
     let r = c.requires in
     let a = goes_after c.args.is_before c.args.neighbour r.0 r.1 c.if-is_before.false r.3 in
-    (omega arith, (a.more, a.last, r.1, subst (λ xs. IsBeside (links_at c.args.arena.now) xs c.args.leaf) (ap (λ xs. xs ++ r.1) a.is ∙ behind_last a.more a.last r.1) r.2, a.named))
+    (omega arith, (a.more, a.last, r.1, subst (λ xs. IsBeside (links_at c.args.arena.now) xs c.args.leaf) (ap (λ xs. xs ++ r.1) a.is ∙ after_last a.more a.last r.1) r.2, a.named))
 
 pub returns-then-is_before-clause-linked : goal.returns-then-is_before-clause-linked
 returns-then-is_before-clause-linked g c = λ xs ys m beside between m_is.
@@ -24,8 +24,8 @@ returns-then-is_before-clause-linked g c = λ xs ys m beside between m_is.
 pub returns-else-is_before-clause-linked : goal.returns-else-is_before-clause-linked
 returns-else-is_before-clause-linked g c = λ xs ys m beside between m_is.
     let a = goes_after c.args.is_before c.args.neighbour xs ys c.if-is_before.false between in
-    subst (λ zs. AreLinked (links_at c.insert_after.new.arena) None zs None) (sym (ap (λ zs. zs ++ m ∷ ys) a.is ∙ behind_last a.more a.last (m ∷ ys)))
-    (c.insert_after.ensures.linked a.more a.last m ys (subst (λ zs. IsBeside (links_at c.args.arena.now) zs c.args.leaf) (ap (λ zs. zs ++ ys) a.is ∙ behind_last a.more a.last ys) beside) a.named m_is)
+    subst (λ zs. AreLinked (links_at c.insert_after.new.arena) None zs None) (sym (ap (λ zs. zs ++ m ∷ ys) a.is ∙ after_last a.more a.last (m ∷ ys)))
+    (c.insert_after.ensures.linked a.more a.last m ys (subst (λ zs. IsBeside (links_at c.args.arena.now) zs c.args.leaf) (ap (λ zs. zs ++ ys) a.is ∙ after_last a.more a.last ys) beside) a.named m_is)
 
 pub returns-then-is_before-clause-others : goal.returns-then-is_before-clause-others
 returns-then-is_before-clause-others g c = λ xs ys m beside between m_is.
@@ -37,6 +37,6 @@ returns-then-is_before-clause-others g c = λ xs ys m beside between m_is.
 pub returns-else-is_before-clause-others : goal.returns-else-is_before-clause-others
 returns-else-is_before-clause-others g c = λ xs ys m beside between m_is.
     let a = goes_after c.args.is_before c.args.neighbour xs ys c.if-is_before.false between in
-    let list = subst (λ zs. IsBeside (links_at c.args.arena.now) zs c.args.leaf) (ap (λ zs. zs ++ ys) a.is ∙ behind_last a.more a.last ys) beside in
+    let list = subst (λ zs. IsBeside (links_at c.args.arena.now) zs c.args.leaf) (ap (λ zs. zs ++ ys) a.is ∙ after_last a.more a.last ys) beside in
     subst (λ zs. KeepsLinksOutside (links_at c.args.arena.now) (links_at c.insert_after.new.arena) (zs ++ m ∷ ys)) (sym a.is)
-    (kept-behind (links_at c.args.arena.now) (links_at c.insert_after.new.arena) a.more a.last m ys c.args.neighbour c.args.leaf a.named m_is list.list.linked c.insert_after.ensures.others)
+    (kept-after (links_at c.args.arena.now) (links_at c.insert_after.new.arena) a.more a.last m ys c.args.neighbour c.args.leaf a.named m_is list.list.linked c.insert_after.ensures.others)

@@ -4,7 +4,6 @@ use Rattle.art_nodes.specs.declared.kind.NodeType.TheVariants.{Leaf}
 use Rattle.art_operations.proofs.Terms.{HasKey, HasPassed, StandsAtPlace, StandsBelow}
 use Rattle.art_operations.proofs.KeyedLists.{stored-free}
 use Rattle.art_operations.proofs.LeafListsPut.{found-after, found-key, kept-names, none-has, put-inserted, put-replaced, replaced-names, still-at}
-use Rattle.art_operations.proofs.PassedLeaves.{on-err}
 use Rattle.art_operations.proofs.leaf_list.LeafCursor.put.Goals as goal
 use Rattle.art_operations.proofs.leaf_list.LeafCursor.put.Goals.{In-None}
 
@@ -40,15 +39,15 @@ insert-requires g c =
     let pass = c.in-None.ensures.passed among.front among.back among.stands in
     (omega arith, (among.front ++ pass.passed, pass.rest, pass.stands))
 
-pub returns-in_ok-insert-in-None-clause-ok : goal.returns-in_ok-insert-in-None-clause-ok
-returns-in_ok-insert-in-None-clause-ok g c = λ pairs below free.
+pub returns-in-Ok-clause-ok : goal.returns-in-Ok-clause-ok
+returns-in-Ok-clause-ok g c = λ pairs below free.
     let among = below.among in
     let pass = subst (λ b. HasPassed g.K.AsBytes.bytes b c.args.arena.now c.pass.new.self None among.front among.back) c.as_bytes.ensures.value (c.in-None.ensures.passed among.front among.back among.stands) in
     put-inserted g.K.AsBytes.bytes c.args.arena.now c.args.self.now c.pass.new.self (g.K.AsBytes.bytes c.args.key) pairs among below.passed free None pass
-    c.insert.new.arena c.insert.new.self c.args.key c.args.value refl refl (c.in_ok-insert-in-None.ensures.ok (among.front ++ pass.passed) pass.rest pass.stands)
+    c.insert.new.arena c.insert.new.self c.args.key c.args.value refl refl (c.in-Ok.ensures.ok (among.front ++ pass.passed) pass.rest pass.stands)
 
-pub returns-in_ok-insert-in-None-clause-names : goal.returns-in_ok-insert-in-None-clause-names
-returns-in_ok-insert-in-None-clause-names g c = kept-names g.K.AsBytes.bytes c.args.arena.now c.insert.new.arena c.in_ok-insert-in-None.ensures.kept
+pub returns-in-Ok-clause-names : goal.returns-in-Ok-clause-names
+returns-in-Ok-clause-names g c = kept-names g.K.AsBytes.bytes c.args.arena.now c.insert.new.arena c.in-Ok.ensures.kept
 
 pub returns-in-Some-clause-room_of : goal.returns-in-Some-clause-room_of
 returns-in-Some-clause-room_of g c = record {
@@ -57,13 +56,13 @@ returns-in-Some-clause-room_of g c = record {
 }
 
 -- a refusal leaves the cursor where it would have put the pair, and is for a key that isn't stored
-pub returns-in_err-insert-in-None-clause-left : goal.returns-in_err-insert-in-None-clause-left
-returns-in_err-insert-in-None-clause-left g c = on-err c.from_residual.result _ (λ pairs below free.
+pub returns-in-Err-clause-left : goal.returns-in-Err-clause-left
+returns-in-Err-clause-left g c = λ pairs below free.
     let among = below.among in
     let pass = subst (λ b. HasPassed g.K.AsBytes.bytes b c.args.arena.now c.pass.new.self None among.front among.back) c.as_bytes.ensures.value (c.in-None.ensures.passed among.front among.back among.stands) in
-    let err = c.in_err-insert-in-None.ensures.err in
+    let err = c.in-Err.ensures.err in
     subst (λ s. StandsAtPlace c.insert.new.arena s g.K.AsBytes.bytes pairs (g.K.AsBytes.bytes c.args.key)) (sym err.1)
-    (still-at g.K.AsBytes.bytes c.args.arena.now c.args.self.now c.pass.new.self (g.K.AsBytes.bytes c.args.key) pairs among below.passed free None pass refl c.args.key c.args.value refl c.insert.new.arena err.0))
+    (still-at g.K.AsBytes.bytes c.args.arena.now c.args.self.now c.pass.new.self (g.K.AsBytes.bytes c.args.key) pairs among below.passed free None pass refl c.args.key c.args.value refl c.insert.new.arena err.0)
 
 module _ (g : _) (c : In-None g) where
   not-stored : (pairs : List (g.row.K.Denot × g.row.V.Denot)) → StandsBelow c.args.arena.now c.args.self.now g.K.AsBytes.bytes pairs (g.K.AsBytes.bytes c.args.key) → HasKey (key_of g.K.AsBytes.bytes) (g.K.AsBytes.bytes c.args.key) pairs → ⊥
@@ -74,14 +73,14 @@ module _ (g : _) (c : In-None g) where
       let free = stored-free (key_of g.K.AsBytes.bytes) pairs among.ascends key has in
       none-has g.K.AsBytes.bytes c.args.arena.now c.args.self.now c.pass.new.self key pairs among below.passed free None pass refl has
 
-pub returns-in_err-insert-in-None-clause-stored : goal.returns-in_err-insert-in-None-clause-stored
-returns-in_err-insert-in-None-clause-stored g c = λ pairs below has. absurd (not-stored g (goal.at.returns-in_err-insert-in-None-clause-stored g c).In-None pairs below has)
+pub returns-in-Err-clause-stored : goal.returns-in-Err-clause-stored
+returns-in-Err-clause-stored g c = λ pairs below has. absurd (not-stored g (goal.at.returns-in-Err-clause-stored g c).In-None pairs below has)
 
-pub returns-in_err-insert-in-None-clause-stored_room : goal.returns-in_err-insert-in-None-clause-stored_room
-returns-in_err-insert-in-None-clause-stored_room g c = λ pairs below has. absurd (not-stored g (goal.at.returns-in_err-insert-in-None-clause-stored_room g c).In-None pairs below has)
+pub returns-in-Err-clause-stored_room : goal.returns-in-Err-clause-stored_room
+returns-in-Err-clause-stored_room g c = λ pairs below has. absurd (not-stored g (goal.at.returns-in-Err-clause-stored_room g c).In-None pairs below has)
 
-pub returns-in_ok-insert-in-None-clause-stored_room : goal.returns-in_ok-insert-in-None-clause-stored_room
-returns-in_ok-insert-in-None-clause-stored_room g c = λ pairs below has. absurd (not-stored g (goal.at.returns-in_ok-insert-in-None-clause-stored_room g c).In-None pairs below has)
+pub returns-in-Ok-clause-stored_room : goal.returns-in-Ok-clause-stored_room
+returns-in-Ok-clause-stored_room g c = λ pairs below has. absurd (not-stored g (goal.at.returns-in-Ok-clause-stored_room g c).In-None pairs below has)
 
 pub returns-in-Some-clause-stored_room : goal.returns-in-Some-clause-stored_room
 returns-in-Some-clause-stored_room g c = λ pairs below has. c.replace.ensures.room_of

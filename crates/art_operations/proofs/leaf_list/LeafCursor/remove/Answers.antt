@@ -1,4 +1,5 @@
-use Rattle.std.proofs.Common.{◌≡◌, Some, sym, ap₂, subst, arith, lit<}
+use Rattle.std.proofs.Common.{◌≡◌, suc, Some, sym, ap₂, subst, arith, lit<}
+use Rattle.art_nodes.specs.declared.kind.NodeType.TheVariants.{Leaf}
 use Rattle.art_operations.proofs.Terms.{HasRemoved}
 use Rattle.art_operations.proofs.LeafListsParted.{before-held, ends, none-removed, removed, removed-parted}
 use Rattle.art_operations.proofs.leaf_list.LeafCursor.remove.Goals as goal
@@ -41,3 +42,6 @@ returns-clause-value g c = λ front back stands.
     c.lead_to.new.arena c.lead_back.new.arena c.lead_to.new.self c.lead_to.ensures.cells c.lead_back.ensures.cells led in
     let pair_is : ◌≡◌ {A = g.row.K.Denot × g.row.V.Denot} (node.result.key, node.result.value) c.into_entry.result = ap₂ (λ k v. (k, v)) (sym c.into_entry.ensures.key) (sym c.into_entry.ensures.value) in
     subst (λ p. HasRemoved c.lead_back.new.arena c.lead_to.new.self (Some p) front back) pair_is is
+
+pub returns-clause-leaf_room : goal.returns-clause-leaf_room
+returns-clause-leaf_room g c = λ n room. c.lead_back.ensures.room_of Leaf (suc n) (c.lead_to.ensures.room_of Leaf (suc n) (c.deallocate_node_ptr-node.ensures.frees n room))

@@ -10,7 +10,7 @@ use Rattle.art_operations.proofs.leaf_list.LeafCursor.replace.Goals.{After-into_
 pub as_ref-requires : goal.as_ref-requires
 as_ref-requires g c =
     let r = c.requires.list in
-    (omega arith, after-held c.args.arena.now c.args.self.now r.0 r.1 r.2 c.args.leaf c.requires.behind)
+    (omega arith, after-held c.args.arena.now c.args.self.now r.0 r.1 r.2 c.args.leaf c.requires.after)
 
 module _ (g : _) (c : After-into_entry g) where
   -- the leaf as it was, and as it is written
@@ -28,7 +28,7 @@ module _ (g : _) (c : After-into_entry g) where
   updates : UpdatesAt (held_at c.args.arena.now) (held_at (with_leaf c.args.arena.now c.args.leaf c.replace-old.new.dest)) (leaf_name c.args.leaf) (Some (leaf_held made))
   updates =
       let r = c.requires.list in
-      let there = after-held c.args.arena.now c.args.self.now r.0 r.1 r.2 c.args.leaf c.requires.behind in
+      let there = after-held c.args.arena.now c.args.self.now r.0 r.1 r.2 c.args.leaf c.requires.after in
       subst (λ (n : LeafNode g.row.K.Denot g.row.V.Denot). UpdatesAt (held_at c.args.arena.now) (held_at (with_leaf c.args.arena.now c.args.leaf c.replace-old.new.dest)) (leaf_name c.args.leaf) (Some (leaf_held n))) made-is
       (written_leaf c.args.arena.now c.args.leaf c.replace-old.new.dest there)
 
@@ -43,7 +43,7 @@ pub returns-clause-replaced : goal.returns-clause-replaced
 returns-clause-replaced g c = λ front back stands.
     let d = (goal.at.returns-clause-replaced g c).After-into_entry in
     let new = with_leaf c.args.arena.now c.args.leaf c.replace-old.new.dest in
-    let is = replaced c.args.arena.now new c.args.self.now c.args.leaf c.requires.behind (was g d) c.as_ref.ensures c.args.key c.args.value (updates g d) front back stands in
+    let is = replaced c.args.arena.now new c.args.self.now c.args.leaf c.requires.after (was g d) c.as_ref.ensures c.args.key c.args.value (updates g d) front back stands in
     subst (λ p. HasReplaced new (record { first = c.args.self.now.first; before = Some c.args.leaf; after = c.next-after.result }) c.args.leaf c.args.key c.args.value p front back) (pair-is g d)
     (subst (λ n. HasReplaced new (record { first = c.args.self.now.first; before = Some c.args.leaf; after = n }) c.args.leaf c.args.key c.args.value ((was g d).key, (was g d).value) front back) (sym c.next-after.ensures) is)
 

@@ -7,7 +7,7 @@ returns-in-Pessimistic g c =
     let front = c.as_bytes-front.ensures.value ∙ ap g.K.AsBytes.bytes c.key_ref.ensures in
     rw c.in-Pessimistic.is
     (begins_tells c.starts_with.result _ (drop c.args.depth c.args.key.now) _ (drop c.args.depth (g.K.AsBytes.bytes c.args.leaf.now.key))
-    c.behind.ensures (c.behind-in-Pessimistic.ensures ∙ ap (drop c.args.depth) front) c.starts_with.ensures.value)
+    c.rest_after.ensures (c.rest_after-in-Pessimistic.ensures ∙ ap (drop c.args.depth) front) c.starts_with.ensures.value)
 
 pub returns-in-Optimistic : goal.returns-in-Optimistic
 returns-in-Optimistic g c =

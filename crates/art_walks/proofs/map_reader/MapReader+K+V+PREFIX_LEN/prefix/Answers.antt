@@ -9,19 +9,39 @@ use Rattle.art_walks.proofs.map_reader.MapReader+K+V+PREFIX_LEN.prefix.Goals as 
 use Rattle.art_walks.proofs.map_reader.MapReader+K+V+PREFIX_LEN.prefix.Goals.{After-find_prefix_segment_with}
 
 pub find_prefix_segment_with-requires : goal.find_prefix_segment_with-requires
-find_prefix_segment_with-requires g c = (omega arith, (the-shape g.K.AsBytes.bytes g.row.PREFIX_LEN c.self.inside.reader.arena.now c.in-Some.root c.self.invariant.0 (subst (λ r. ReadsPairs g.K.AsBytes.bytes g.row.PREFIX_LEN c.self.inside.reader.arena.now r c.self.invariant.0) c.in-Some.is c.self.invariant.1), the-stores g.K.AsBytes.bytes g.row.PREFIX_LEN c.self.inside.reader.arena.now c.in-Some.root c.self.invariant.0 (subst (λ r. ReadsPairs g.K.AsBytes.bytes g.row.PREFIX_LEN c.self.inside.reader.arena.now r c.self.invariant.0) c.in-Some.is c.self.invariant.1)))
+find_prefix_segment_with-requires g c = (
+  omega arith,
+  (
+    the-shape g.K.AsBytes.bytes g.row.PREFIX_LEN c.self.inside.reader.arena.now c.in-Some.root
+        c.self.invariant.0 (subst (λ r. ReadsPairs g.K.AsBytes.bytes g.row.PREFIX_LEN c.self.inside.reader.arena.now r c.self.invariant.0) c.in-Some.is
+        c.self.invariant.1),
+    the-stores g.K.AsBytes.bytes g.row.PREFIX_LEN c.self.inside.reader.arena.now c.in-Some.root c.self.invariant.0
+        (subst (λ r. ReadsPairs g.K.AsBytes.bytes g.row.PREFIX_LEN c.self.inside.reader.arena.now r c.self.invariant.0) c.in-Some.is c.self.invariant.1),
+  ),
+)
 
 pub returns-in-Some-clause-value : goal.returns-in-Some-clause-value
 returns-in-Some-clause-value g c = rw (← c.self.view_is, ← c.as_bytes.ensures.value) (λ pairs has.
     subst (λ a. IsSpanOf a pairs c.of.result (filter (λ p. begins_with c.as_bytes.result.now (g.K.AsBytes.bytes p.0)) pairs)) (sym c.find_prefix_segment_with.ensures.kept)
     (subst (λ ends. IsSpanOf c.self.inside.reader.arena.now pairs ends (filter (λ p. begins_with c.as_bytes.result.now (g.K.AsBytes.bytes p.0)) pairs)) (sym c.of.ensures)
-    (span-of g.K.AsBytes.bytes g.row.PREFIX_LEN c.self.inside.reader.arena.now c.in-Some.root pairs (subst (λ r. ReadsPairs g.K.AsBytes.bytes g.row.PREFIX_LEN c.self.inside.reader.arena.now r pairs) c.in-Some.is has) (λ k. begins_with c.as_bytes.result.now k) (front_convex c.as_bytes.result.now) c.find_prefix_segment_with.result (c.find_prefix_segment_with.ensures.value (the-shape g.K.AsBytes.bytes g.row.PREFIX_LEN c.self.inside.reader.arena.now c.in-Some.root pairs (subst (λ r. ReadsPairs g.K.AsBytes.bytes g.row.PREFIX_LEN c.self.inside.reader.arena.now r pairs) c.in-Some.is has)) (the-stores g.K.AsBytes.bytes g.row.PREFIX_LEN c.self.inside.reader.arena.now c.in-Some.root pairs (subst (λ r. ReadsPairs g.K.AsBytes.bytes g.row.PREFIX_LEN c.self.inside.reader.arena.now r pairs) c.in-Some.is has))))))
+    (span-of g.K.AsBytes.bytes g.row.PREFIX_LEN c.self.inside.reader.arena.now c.in-Some.root pairs
+    (subst (λ r. ReadsPairs g.K.AsBytes.bytes g.row.PREFIX_LEN c.self.inside.reader.arena.now r pairs) c.in-Some.is has)
+    (λ k. begins_with c.as_bytes.result.now k) (front_convex c.as_bytes.result.now) c.find_prefix_segment_with.result
+    (c.find_prefix_segment_with.ensures.value (the-shape g.K.AsBytes.bytes g.row.PREFIX_LEN c.self.inside.reader.arena.now c.in-Some.root pairs
+    (subst (λ r. ReadsPairs g.K.AsBytes.bytes g.row.PREFIX_LEN c.self.inside.reader.arena.now r pairs) c.in-Some.is has))
+    (the-stores g.K.AsBytes.bytes g.row.PREFIX_LEN c.self.inside.reader.arena.now c.in-Some.root pairs
+    (subst (λ r. ReadsPairs g.K.AsBytes.bytes g.row.PREFIX_LEN c.self.inside.reader.arena.now r pairs) c.in-Some.is has))))))
 
 -- how much was read
 reads : (g : _) (c : After-find_prefix_segment_with g) (pairs : List (g.row.K.Denot × g.row.V.Denot)) → ReadsPairs g.K.AsBytes.bytes g.row.PREFIX_LEN c.self.inside.reader.arena.now c.self.inside.root pairs
     → (longest : ℕ) → PairsWithin g.K.AsBytes.bytes longest pairs → SpanReads longest c.self.inside.reader.count c.find_prefix_segment_with.new.reader.count
 reads g c pairs has longest short =
-    c.find_prefix_segment_with.ensures.few (the-shape g.K.AsBytes.bytes g.row.PREFIX_LEN c.self.inside.reader.arena.now c.in-Some.root pairs (subst (λ r. ReadsPairs g.K.AsBytes.bytes g.row.PREFIX_LEN c.self.inside.reader.arena.now r pairs) c.in-Some.is has)) (the-stores g.K.AsBytes.bytes g.row.PREFIX_LEN c.self.inside.reader.arena.now c.in-Some.root pairs (subst (λ r. ReadsPairs g.K.AsBytes.bytes g.row.PREFIX_LEN c.self.inside.reader.arena.now r pairs) c.in-Some.is has)) longest (keys-within g.K.AsBytes.bytes g.row.PREFIX_LEN c.self.inside.reader.arena.now c.in-Some.root pairs (subst (λ r. ReadsPairs g.K.AsBytes.bytes g.row.PREFIX_LEN c.self.inside.reader.arena.now r pairs) c.in-Some.is has) longest short)
+    c.find_prefix_segment_with.ensures.few (the-shape g.K.AsBytes.bytes g.row.PREFIX_LEN c.self.inside.reader.arena.now c.in-Some.root pairs
+    (subst (λ r. ReadsPairs g.K.AsBytes.bytes g.row.PREFIX_LEN c.self.inside.reader.arena.now r pairs) c.in-Some.is has))
+    (the-stores g.K.AsBytes.bytes g.row.PREFIX_LEN c.self.inside.reader.arena.now c.in-Some.root pairs
+    (subst (λ r. ReadsPairs g.K.AsBytes.bytes g.row.PREFIX_LEN c.self.inside.reader.arena.now r pairs) c.in-Some.is has)) longest
+    (keys-within g.K.AsBytes.bytes g.row.PREFIX_LEN c.self.inside.reader.arena.now c.in-Some.root pairs
+    (subst (λ r. ReadsPairs g.K.AsBytes.bytes g.row.PREFIX_LEN c.self.inside.reader.arena.now r pairs) c.in-Some.is has) longest short)
 
 pub returns-in-Some-clause-few : goal.returns-in-Some-clause-few
 returns-in-Some-clause-few g c = rw (← c.self.view_is, ← c.as_bytes.ensures.value) (λ pairs has longest short. opening_of longest (length c.as_bytes.result.now) _ _ (reads g (goal.at.returns-in-Some-clause-few g c).After-find_prefix_segment_with pairs has longest short))
@@ -30,7 +50,11 @@ pub returns-in-Some-clause-linear : goal.returns-in-Some-clause-linear
 returns-in-Some-clause-linear g c = rw (← c.self.view_is) (reads g (goal.at.returns-in-Some-clause-linear g c).After-find_prefix_segment_with)
 
 pub returns-in-None-clause-value : goal.returns-in-None-clause-value
-returns-in-None-clause-value g c = rw (← c.self.view_is) (λ pairs has. (subst (λ ends. IsSpanOf c.self.inside.reader.arena.now pairs ends (filter (λ p. begins_with (g.Q.AsBytes.bytes c.args.prefix.now) (g.K.AsBytes.bytes p.0)) pairs)) (sym c.of-in-None.ensures) (no-span c.self.inside.reader.arena.now pairs (subst (λ r. ReadsPairs g.K.AsBytes.bytes g.row.PREFIX_LEN c.self.inside.reader.arena.now r pairs) c.in-None.is has).1.0 (λ p. begins_with (g.Q.AsBytes.bytes c.args.prefix.now) (g.K.AsBytes.bytes p.0)))))
+returns-in-None-clause-value g c = rw (← c.self.view_is)
+    (λ pairs has. (subst (λ ends. IsSpanOf c.self.inside.reader.arena.now pairs ends
+    (filter (λ p. begins_with (g.Q.AsBytes.bytes c.args.prefix.now) (g.K.AsBytes.bytes p.0)) pairs)) (sym c.of-in-None.ensures)
+    (no-span c.self.inside.reader.arena.now pairs (subst (λ r. ReadsPairs g.K.AsBytes.bytes g.row.PREFIX_LEN c.self.inside.reader.arena.now r pairs)
+    c.in-None.is has).1.0 (λ p. begins_with (g.Q.AsBytes.bytes c.args.prefix.now) (g.K.AsBytes.bytes p.0)))))
 
 pub returns-in-Some-clause-span : goal.returns-in-Some-clause-span
 returns-in-Some-clause-span g c = (
@@ -38,11 +62,25 @@ returns-in-Some-clause-span g c = (
   _,
   subst (λ a. IsSpanOf a c.self.invariant.0 c.of.result (filter (λ p. begins_with c.as_bytes.result.now (g.K.AsBytes.bytes p.0)) c.self.invariant.0)) (sym c.find_prefix_segment_with.ensures.kept)
       (subst (λ ends. IsSpanOf c.self.inside.reader.arena.now c.self.invariant.0 ends (filter (λ p. begins_with c.as_bytes.result.now (g.K.AsBytes.bytes p.0)) c.self.invariant.0)) (sym c.of.ensures)
-      (span-of g.K.AsBytes.bytes g.row.PREFIX_LEN c.self.inside.reader.arena.now c.in-Some.root c.self.invariant.0 (subst (λ r. ReadsPairs g.K.AsBytes.bytes g.row.PREFIX_LEN c.self.inside.reader.arena.now r c.self.invariant.0) c.in-Some.is c.self.invariant.1) (λ k. begins_with c.as_bytes.result.now k) (front_convex c.as_bytes.result.now) c.find_prefix_segment_with.result (c.find_prefix_segment_with.ensures.value (the-shape g.K.AsBytes.bytes g.row.PREFIX_LEN c.self.inside.reader.arena.now c.in-Some.root c.self.invariant.0 (subst (λ r. ReadsPairs g.K.AsBytes.bytes g.row.PREFIX_LEN c.self.inside.reader.arena.now r c.self.invariant.0) c.in-Some.is c.self.invariant.1)) (the-stores g.K.AsBytes.bytes g.row.PREFIX_LEN c.self.inside.reader.arena.now c.in-Some.root c.self.invariant.0 (subst (λ r. ReadsPairs g.K.AsBytes.bytes g.row.PREFIX_LEN c.self.inside.reader.arena.now r c.self.invariant.0) c.in-Some.is c.self.invariant.1))))),
+      (span-of g.K.AsBytes.bytes g.row.PREFIX_LEN c.self.inside.reader.arena.now c.in-Some.root c.self.invariant.0
+      (subst (λ r. ReadsPairs g.K.AsBytes.bytes g.row.PREFIX_LEN c.self.inside.reader.arena.now r c.self.invariant.0) c.in-Some.is c.self.invariant.1)
+      (λ k. begins_with c.as_bytes.result.now k) (front_convex c.as_bytes.result.now) c.find_prefix_segment_with.result
+      (c.find_prefix_segment_with.ensures.value (the-shape g.K.AsBytes.bytes g.row.PREFIX_LEN c.self.inside.reader.arena.now c.in-Some.root
+      c.self.invariant.0 (subst (λ r. ReadsPairs g.K.AsBytes.bytes g.row.PREFIX_LEN c.self.inside.reader.arena.now r c.self.invariant.0) c.in-Some.is
+      c.self.invariant.1)) (the-stores g.K.AsBytes.bytes g.row.PREFIX_LEN c.self.inside.reader.arena.now c.in-Some.root c.self.invariant.0
+      (subst (λ r. ReadsPairs g.K.AsBytes.bytes g.row.PREFIX_LEN c.self.inside.reader.arena.now r c.self.invariant.0) c.in-Some.is c.self.invariant.1))))),
 )
 
 pub returns-in-None-clause-span : goal.returns-in-None-clause-span
-returns-in-None-clause-span g c = rw (← c.self.view_is) (c.self.invariant.0, _, (subst (λ ends. IsSpanOf c.self.inside.reader.arena.now c.self.invariant.0 ends (filter (λ p. begins_with (g.Q.AsBytes.bytes c.args.prefix.now) (g.K.AsBytes.bytes p.0)) c.self.invariant.0)) (sym c.of-in-None.ensures) (no-span c.self.inside.reader.arena.now c.self.invariant.0 (subst (λ r. ReadsPairs g.K.AsBytes.bytes g.row.PREFIX_LEN c.self.inside.reader.arena.now r c.self.invariant.0) c.in-None.is c.self.invariant.1).1.0 (λ p. begins_with (g.Q.AsBytes.bytes c.args.prefix.now) (g.K.AsBytes.bytes p.0)))))
+returns-in-None-clause-span g c = rw (← c.self.view_is) (
+  c.self.invariant.0,
+  _,
+  (subst (λ ends. IsSpanOf c.self.inside.reader.arena.now c.self.invariant.0 ends
+      (filter (λ p. begins_with (g.Q.AsBytes.bytes c.args.prefix.now) (g.K.AsBytes.bytes p.0)) c.self.invariant.0)) (sym c.of-in-None.ensures)
+      (no-span c.self.inside.reader.arena.now c.self.invariant.0
+      (subst (λ r. ReadsPairs g.K.AsBytes.bytes g.row.PREFIX_LEN c.self.inside.reader.arena.now r c.self.invariant.0) c.in-None.is c.self.invariant.1).1.0
+      (λ p. begins_with (g.Q.AsBytes.bytes c.args.prefix.now) (g.K.AsBytes.bytes p.0)))),
+)
 
 pub returns-in-Some-clause-least : goal.returns-in-Some-clause-least
 returns-in-Some-clause-least g c = rw (← c.self.view_is) (where_some _ c.in-Some.is c.find_prefix_segment_with.ensures.least)
@@ -54,7 +92,10 @@ pub returns-in-Some-clause-counts : goal.returns-in-Some-clause-counts
 returns-in-Some-clause-counts g c = rw (← c.self.view_is, ← c.as_bytes.ensures.value) (λ pairs has.
     tree-read g.K.AsBytes.bytes g.row.PREFIX_LEN c.self.inside.reader.arena.now c.in-Some.root pairs (subst (λ r. ReadsPairs g.K.AsBytes.bytes g.row.PREFIX_LEN c.self.inside.reader.arena.now r pairs) c.in-Some.is has)
     (λ t. part_reads (key_of g.K.AsBytes.bytes) g.row.PREFIX_LEN t c.as_bytes.result.now) _ _
-    (c.find_prefix_segment_with.ensures.counts (the-shape g.K.AsBytes.bytes g.row.PREFIX_LEN c.self.inside.reader.arena.now c.in-Some.root pairs (subst (λ r. ReadsPairs g.K.AsBytes.bytes g.row.PREFIX_LEN c.self.inside.reader.arena.now r pairs) c.in-Some.is has)) (the-stores g.K.AsBytes.bytes g.row.PREFIX_LEN c.self.inside.reader.arena.now c.in-Some.root pairs (subst (λ r. ReadsPairs g.K.AsBytes.bytes g.row.PREFIX_LEN c.self.inside.reader.arena.now r pairs) c.in-Some.is has))))
+    (c.find_prefix_segment_with.ensures.counts (the-shape g.K.AsBytes.bytes g.row.PREFIX_LEN c.self.inside.reader.arena.now c.in-Some.root pairs
+    (subst (λ r. ReadsPairs g.K.AsBytes.bytes g.row.PREFIX_LEN c.self.inside.reader.arena.now r pairs) c.in-Some.is has))
+    (the-stores g.K.AsBytes.bytes g.row.PREFIX_LEN c.self.inside.reader.arena.now c.in-Some.root pairs
+    (subst (λ r. ReadsPairs g.K.AsBytes.bytes g.row.PREFIX_LEN c.self.inside.reader.arena.now r pairs) c.in-Some.is has))))
 
 pub returns-in-None-clause-counts : goal.returns-in-None-clause-counts
 returns-in-None-clause-counts g c = rw (← c.self.view_is) (λ pairs has.

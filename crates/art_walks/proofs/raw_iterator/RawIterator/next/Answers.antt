@@ -10,8 +10,8 @@ pub as_ref-leaf-requires : goal.as_ref-leaf-requires
 as_ref-leaf-requires g c =
     (lit< tt, first-held c.args.arena.now c.args.self.now c.in_ok-first.first c.in_ok-first.last (cc c.in_ok-first.was) c.requires)
 
-pub known-requires : goal.known-requires
-known-requires g c =
+pub assume_proved-requires : goal.assume_proved-requires
+assume_proved-requires g c =
     absurd (has_next c.args.arena.now c.args.self.now c.in_ok-first.first c.in_ok-first.last (cc c.in_ok-first.was) c.requires
     (eqb-apart c.in_ok-first.first c.in_ok-first.last (sym c.eq.ensures ∙ c.if-eq.false)) c.as_ref-leaf.result.now c.as_ref-leaf.ensures (sym c.next.ensures ∙ c.in-None.is))
 

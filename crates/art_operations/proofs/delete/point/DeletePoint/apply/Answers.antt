@@ -1,4 +1,5 @@
 use Rattle.std.proofs.Common.{ℕ, refl, lit<}
+use Rattle.art_nodes.specs.declared.kind.NodeType.TheVariants.{Leaf}
 use Rattle.art_operations.proofs.delete.point.DeletePoint.apply.Given.{Over}
 use Rattle.art_arena.proofs.Common.{links_at, leaves_before, leaves_after, leaf_at, LeafAt, steps_of, kept-around}
 use Rattle.art_operations.proofs.Deleted.{part_place, still_listed, all_are, others_left, kept_beside, held_leaf, leaf_freed, leaf_gone, deleted}
@@ -27,8 +28,17 @@ leaf_of g slot key value = record { slot = slot; key = key; value = value }
 pub remove_self-requires : goal.remove_self-requires
 remove_self-requires g c =
     let r = c.requires in
-    let at = r.3 in
-    (lit< tt, (leaves_before at.ctx, leaf_of g c.args.self.leaf_node_ptr at.key at.value, leaves_after at.ctx, still_listed g.K.AsBytes.bytes g.row.PREFIX_LEN c.detach.new.arena r.1 at.ctx (leaf_at c.args.self.leaf_node_ptr at.key at.value) c.args.arena.now c.args.root r.0 r.2 at.place c.in_ok-new_root.ensures.links, refl))
+    let at = r.3 in (
+      lit< tt,
+      (
+        leaves_before at.ctx,
+        leaf_of g c.args.self.leaf_node_ptr at.key at.value,
+        leaves_after at.ctx,
+        still_listed g.K.AsBytes.bytes g.row.PREFIX_LEN c.detach.new.arena r.1 at.ctx (leaf_at c.args.self.leaf_node_ptr at.key at.value) c.args.arena.now
+            c.args.root r.0 r.2 at.place c.in_ok-new_root.ensures.links,
+        refl,
+      ),
+    )
 
 pub deallocate_node_ptr-deleted_leaf-requires : goal.deallocate_node_ptr-deleted_leaf-requires
 deallocate_node_ptr-deleted_leaf-requires g c =
@@ -76,3 +86,6 @@ returns-clause-others g c = λ s rest tree at.
     let lost = leaf_gone g.K.AsBytes.bytes g.row.PREFIX_LEN c.detach.new.arena c.remove_self.new.arena rest at.ctx slot at.key at.value same left apart new node taken gone in
     kept_beside g.K.AsBytes.bytes g.row.PREFIX_LEN c.detach.new.arena rest at.ctx part c.args.arena.now c.args.root s tree at.place kept c.remove_self.new.arena new lost left apart freed
     (kept-around (links_at c.detach.new.arena) (links_at c.remove_self.new.arena) (leaves_before at.ctx) (leaf_of g slot at.key at.value) (leaves_after at.ctx) slot refl listed.linked c.remove_self.ensures.others)
+
+pub returns-clause-leaf_room : goal.returns-clause-leaf_room
+returns-clause-leaf_room g c = λ n room. c.deallocate_node_ptr-deleted_leaf.ensures.frees n (c.remove_self.ensures.room_of Leaf n (c.in_ok-new_root.ensures.leaf_room n room))

@@ -1,4 +1,5 @@
 use Rattle.std.proofs.Common.{◌-◌, ◌^◌, min, length, ap, ◌∙◌, subst, lit<}
+use Rattle.art_nodes.specs.declared.kind.NodeType.TheVariants.{Leaf}
 use Rattle.art_arena.proofs.Common.{links_at, path_to, leaves_before, leaves_after, leaves, pairs_of, key_of, kept-without_run}
 use Rattle.art_operations.proofs.Terms.{HasLeavesBeside, HoldsBeside, nodes_counted}
 use Rattle.art_operations.proofs.NodeCounts.{shape-nodes}
@@ -15,8 +16,18 @@ detach_in_room-new_root-requires g c =
 pub remove_segment-requires : goal.remove_segment-requires
 remove_segment-requires g c =
     let r = c.requires.place in
-    let is = r.1.3 in
-    (lit< tt, (leaves_before is.at.ctx, leaves is.at.part, leaves_after is.at.ctx, still_listed g.K.AsBytes.bytes g.row.PREFIX_LEN c.detach_in_room-new_root.new.arena r.1.1 is.at.ctx is.at.part c.args.arena.now c.args.self.point.root r.1.0 r.1.2 is.at.place c.detach_in_room-new_root.ensures.links, is.first_is, is.last_is))
+    let is = r.1.3 in (
+      lit< tt,
+      (
+        leaves_before is.at.ctx,
+        leaves is.at.part,
+        leaves_after is.at.ctx,
+        still_listed g.K.AsBytes.bytes g.row.PREFIX_LEN c.detach_in_room-new_root.new.arena r.1.1 is.at.ctx is.at.part c.args.arena.now c.args.self.point.root
+            r.1.0 r.1.2 is.at.place c.detach_in_room-new_root.ensures.links,
+        is.first_is,
+        is.last_is,
+      ),
+    )
 
 pub free_tree-freed-requires : goal.free_tree-freed-requires
 free_tree-freed-requires g c =
@@ -93,3 +104,6 @@ returns-clause-names g c =
     let others = returns-clause-others g c r.0 r.1.0 r.1.1 r.1.2 r.1.3 in
     let cut = returns-clause-cut g c r.0 r.1.0 r.1.1 r.1.2 r.1.3 in
     cut-names g.K.AsBytes.bytes g.row.PREFIX_LEN c.args.arena.now c.free_tree-freed.new.arena c.args.self.point.root r.1.1 r.1.0 r.1.2 others r.0 _ cut
+
+pub returns-clause-leaf_room : goal.returns-clause-leaf_room
+returns-clause-leaf_room g c = λ n room. c.free_tree-freed.ensures.leaf_room n (c.remove_segment.ensures.room_of Leaf n (c.detach_in_room-new_root.ensures.leaf_room n room))

@@ -5,8 +5,8 @@ use Rattle.art_operations.proofs.Preparing.{parent_inner, parent_node, parent_th
 use Rattle.art_operations.proofs.Results.{always_err}
 use Rattle.art_operations.proofs.delete.subtree.SubtreeDeletePoint.prepare.Goals as goal
 
-pub make_room-requires : goal.make_room-requires
-make_room-requires g c =
+pub reserve_smaller-requires : goal.reserve_smaller-requires
+reserve_smaller-requires g c =
     let r = c.requires in
     let last = last-is (steps_of c.args.self.path) c.last_step.result c.in-Some.step c.in-Some.is c.last_step.ensures in (
       lit< tt,
@@ -20,8 +20,8 @@ make_room-requires g c =
       ),
     )
 
-pub returns-in_err-make_room-clause-shrinks : goal.returns-in_err-make_room-clause-shrinks
-returns-in_err-make_room-clause-shrinks g c =
+pub returns-in_err-reserve_smaller-clause-shrinks : goal.returns-in_err-reserve_smaller-clause-shrinks
+returns-in_err-reserve_smaller-clause-shrinks g c =
     always_err c.from_residual.result _ (λ front s rest tree is.
     let last = last-is (steps_of c.args.self.path) c.last_step.result c.in-Some.step c.in-Some.is c.last_step.ensures in
-    parent_shrinks g.K.AsBytes.bytes g.row.PREFIX_LEN c.args.arena.now c.args.self.root s c.args.self front tree.nodes is c.in-Some.step last.0 last.1 c.in_err-make_room.ensures.shrinks)
+    parent_shrinks g.K.AsBytes.bytes g.row.PREFIX_LEN c.args.arena.now c.args.self.root s c.args.self front tree.nodes is c.in-Some.step last.0 last.1 c.in_err-reserve_smaller.ensures.shrinks)

@@ -33,8 +33,16 @@ replace_run-requires g c =
 
 pub repoint-new_root-requires : goal.repoint-new_root-requires
 repoint-new_root-requires g c =
-    let r = c.requires in
-    (omega arith, (r.3.ctx, c.args.self.overwrite_point, _, part_left g.K.AsBytes.bytes g.row.PREFIX_LEN c.args.arena.now c.args.self.root r.0 r.2 c.args.key c.args.value c.args.self.overwrite_point (steps_of c.args.self.path) r.3 c.in_ok-leaf.leaf c.store_leaf.new.arena c.in_ok-leaf.ensures.ok c.replace_run.new.arena c.replace_run.ensures.nodes))
+    let r = c.requires in (
+      omega arith,
+      (
+        r.3.ctx,
+        c.args.self.overwrite_point,
+        _,
+        part_left g.K.AsBytes.bytes g.row.PREFIX_LEN c.args.arena.now c.args.self.root r.0 r.2 c.args.key c.args.value c.args.self.overwrite_point
+            (steps_of c.args.self.path) r.3 c.in_ok-leaf.leaf c.store_leaf.new.arena c.in_ok-leaf.ensures.ok c.replace_run.new.arena c.replace_run.ensures.nodes,
+      ),
+    )
 
 -- what stands around the part has the new leaf in its place
 there : (g : _) (c : After-repoint-new_root g) {rest : List (Name × Cell g.row.K.Denot g.row.V.Denot)} (s : Shape g.row.K.Denot g.row.V.Denot)
@@ -49,8 +57,17 @@ there g c {rest} s tree way =
 pub remove_part-removed-requires : goal.remove_part-removed-requires
 remove_part-removed-requires g c =
     let r = c.requires in
-    let d = (goal.at.remove_part-removed-requires g c).After-repoint-new_root in
-    (omega arith, (path_to r.3.ctx, r.3.part, _, r.3.toward.place.under, part_apart g.K.AsBytes.bytes g.row.PREFIX_LEN c.args.arena.now c.args.self.root r.0 r.2 c.args.key c.args.value c.args.self.overwrite_point (steps_of c.args.self.path) r.3 c.in_ok-leaf.leaf c.repoint-new_root.new.arena (there g d r.0 r.2 r.3)))
+    let d = (goal.at.remove_part-removed-requires g c).After-repoint-new_root in (
+      omega arith,
+      (
+        path_to r.3.ctx,
+        r.3.part,
+        _,
+        r.3.toward.place.under,
+        part_apart g.K.AsBytes.bytes g.row.PREFIX_LEN c.args.arena.now c.args.self.root r.0 r.2 c.args.key c.args.value c.args.self.overwrite_point
+            (steps_of c.args.self.path) r.3 c.in_ok-leaf.leaf c.repoint-new_root.new.arena (there g d r.0 r.2 r.3),
+      ),
+    )
 
 pub returns-clause-ok : goal.returns-clause-ok
 returns-clause-ok g c = λ s rest tree way.
@@ -59,7 +76,9 @@ returns-clause-ok g c = λ s rest tree way.
     let apart = part_apart g.K.AsBytes.bytes g.row.PREFIX_LEN c.args.arena.now c.args.self.root s tree c.args.key c.args.value c.args.self.overwrite_point (steps_of c.args.self.path) way c.in_ok-leaf.leaf c.repoint-new_root.new.arena held in
     let stands = part_stands g.K.AsBytes.bytes g.row.PREFIX_LEN c.args.arena.now c.args.self.root s tree c.args.key c.args.value c.args.self.overwrite_point (steps_of c.args.self.path) way in
     let under = way.toward.place.under in
-    overwritten g.K.AsBytes.bytes g.row.PREFIX_LEN c.args.arena.now c.args.self.root s tree c.args.key c.args.value c.args.self.overwrite_point (steps_of c.args.self.path) way c.in_ok-leaf.leaf c.repoint-new_root.new.arena held c.replace_run.new.arena c.remove_part-removed.new.arena c.repoint-new_root.result
+    overwritten g.K.AsBytes.bytes g.row.PREFIX_LEN c.args.arena.now c.args.self.root s tree c.args.key c.args.value c.args.self.overwrite_point
+    (steps_of c.args.self.path) way c.in_ok-leaf.leaf c.repoint-new_root.new.arena held c.replace_run.new.arena c.remove_part-removed.new.arena
+    c.repoint-new_root.result
     c.remove_part-removed.result.leaf c.remove_part-removed.result.count
     (subst (λ n. root_of way.ctx n ≡ c.repoint-new_root.result) c.to_opaque.ensures
     (c.repoint-new_root.ensures.root way.ctx c.args.self.overwrite_point _

@@ -1,7 +1,7 @@
 use Rattle.art_operations.proofs.Terms.{IsCloned}
 use Rattle.art_operations.proofs.Clones.{delete-clones}
 use Rattle.art_operations.proofs.RepeatedClones.{cloned-keeps}
-use Rattle.art_operations.proofs.running.carry_out.Goals as goal
+use Rattle.art_operations.proofs.running.execute.Goals as goal
 
 pub returns-in-Insert : goal.returns-in-Insert
 returns-in-Insert g c n pairs has = rw (c.in-Insert.is) (c.insert.ensures n pairs has)

@@ -1,6 +1,6 @@
 use Rattle.art_operations.proofs.HeldPairs.{put-first, first-keeps}
 use Rattle.art_operations.proofs.LeafNames.{allocated-names}
-use Rattle.art_operations.proofs.pairs.put_first.Goals as goal
+use Rattle.art_operations.proofs.pairs.insert_first.Goals as goal
 
 pub returns-clause-ok : goal.returns-clause-ok
 returns-clause-ok g c = λ rest before.

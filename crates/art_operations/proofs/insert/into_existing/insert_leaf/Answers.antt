@@ -2,7 +2,7 @@ use Rattle.std.proofs.Common.{◌≡◌, ◌<◌, ◌∷◌, ◌++◌, length, S
 use Rattle.art_nodes.proofs.Common.{row_of, with_child, with_children}
 use Rattle.art_arena.proofs.Common.{inner_held, held_at, links_at, cell_of, UpdatesAt, leaves_before, leaves_after, IsBeside, inner_of, links-kept}
 use Rattle.art_operations.proofs.Waiting.{open_node, node-held, node-inner, as_many, child_was_put}
-use Rattle.art_operations.proofs.insert.into_existing.put_leaf.Goals as goal
+use Rattle.art_operations.proofs.insert.into_existing.insert_leaf.Goals as goal
 
 pub link_in-requires : goal.link_in-requires
 link_in-requires g c =

@@ -13,10 +13,10 @@ use std::marker::Model;
 use std::ops::Bound;
 
 /// How many leaves an arena has at least where a walk reads ahead. Where there are fewer, they are near anyway.
-const LEAST: usize = 131_072;
+const MIN_LEAVES: usize = 131_072;
 
 /// How many leaves a walk goes along before it reads ahead, so that a short one pays nothing for it.
-const FIRST: usize = 128;
+const FIRST_LEAVES: usize = 128;
 
 /// How many leaves it goes along where leaves stand in line, so that they are at hand anyway.
 const IN_LINE: usize = 1024;
@@ -31,7 +31,7 @@ const STARTS: usize = 16;
 const GAP: usize = 8;
 
 /// How many leaves are read from each: always so many, since where one chain ends could not be foreseen.
-const MOST: usize = 20;
+const CHAIN_LEAVES: usize = 20;
 
 /// How many children are looked at to find these leaves.
 const LOOKED_AT: usize = 128;
@@ -47,37 +47,37 @@ const STEPS: usize = 8;
 const LEVELS: usize = 4;
 
 /// The slot of no leaf.
-const NONE: usize = usize::MAX;
+const NO_SLOT: usize = usize::MAX;
 
 /// What a walk along leaves reads ahead: from time to time the leaves to come. It changes nothing, and each call names
 /// the arena, and the root of the tree as it is then.
 #[derive(Debug, Drop)]
-pub struct Ahead {
-    // It reads ahead behind so many leaves, or never if it is none.
+pub struct Prefetcher {
+    // It reads ahead after so many leaves, or never if it is none.
     left: usize,
-    seen: u8,
+    checksum: u8,
 }
 
-impl Model for Ahead {
+impl Model for Prefetcher {
     ghost Value = { ⊤ };
 
     ghost view = { λ _. tt };
 }
 
-impl Ahead {
+impl Prefetcher {
     /// Returns what reads ahead for a walk that begins.
     pub fn new() -> Self {
-        Ahead {
-            left: FIRST,
-            seen: 0,
+        Prefetcher {
+            left: FIRST_LEAVES,
+            checksum: 0,
         }
     }
 
     // Another that goes on as this one does.
-    pub(crate) fn another(&self) -> Self {
-        Ahead {
+    pub(crate) fn duplicate(&self) -> Self {
+        Prefetcher {
             left: self.left,
-            seen: self.seen,
+            checksum: self.checksum,
         }
     }
 
@@ -100,41 +100,41 @@ impl Ahead {
         if self.left == 0 {
             // At two places, and by values alone. So it stays a call, and the caller keeps what it has in registers.
             // Below a leaf it reads nothing.
-            (self.left, self.seen) = match (root, leaves.ends()) {
-                (Some(root), Some((first, _))) => read(arena, root, first, self.seen),
-                (_, Some((_, last))) => read(arena, last.to_opaque(), last, self.seen),
-                _ => (0, self.seen),
+            (self.left, self.checksum) = match (root, leaves.ends()) {
+                (Some(root), Some((first, _))) => read(arena, root, first, self.checksum),
+                (_, Some((_, last))) => read(arena, last.to_opaque(), last, self.checksum),
+                _ => (0, self.checksum),
             };
         }
     }
 }
 
-// Reads the leaves behind one together. Returns behind how many it goes on so, if at all, and a byte that can't be told
+// Reads the leaves after one together. Returns after how many it goes on so, if at all, and a byte that can't be told
 // without having read them, so that no compiler leaves the reads out.
 #[inline(never)]
 fn read<K: AsBytes, V, const PREFIX_LEN: usize>(
     arena: &NodeArena<K, V, PREFIX_LEN>,
     root: OpaqueNodePtr,
     first: LeafPtr,
-    seen: u8,
+    checksum: u8,
 ) -> (usize, u8) {
     let is_leaf = root.node_type() == NodeType::Leaf;
-    if is_leaf || arena.leaf_count() < LEAST || !arena.holds(first.to_opaque()) {
-        return (0, seen);
+    if is_leaf || arena.leaf_count() < MIN_LEAVES || !arena.holds(first.to_opaque()) {
+        return (0, checksum);
     }
     if are_in_line(arena, first) {
-        return (IN_LINE, seen);
+        return (IN_LINE, checksum);
     }
     let key = arena.as_key_ref(first).as_bytes();
     let mut starts = Starts::new(first);
-    starts.find(arena, way_to(arena, root, key));
-    starts.go_below(arena);
+    starts.find(arena, low_path_to(arena, root, key));
+    starts.descend_each(arena);
     let mut chains = starts.chains();
-    let (read, seen) = chains.read(arena, seen);
-    (if chains.has_end { read } else { FIRST }, seen)
+    let (read, checksum) = chains.read(arena, checksum);
+    (if chains.has_end { read } else { FIRST_LEAVES }, checksum)
 }
 
-// Whether the leaves to come stand in the slots behind this one, as some of them tell.
+// Whether the leaves to come stand in the slots after this one, as some of them tell.
 fn are_in_line<K, V, const PREFIX_LEN: usize>(
     arena: &NodeArena<K, V, PREFIX_LEN>,
     first: LeafPtr,
@@ -155,7 +155,7 @@ fn are_in_line<K, V, const PREFIX_LEN: usize>(
 
 // The inner nodes above a leaf, each with the first byte whose child is still to come: the lowest, in places in turn.
 #[derive(Drop)]
-struct Way {
+struct LowPath {
     steps: [Step; STEPS],
     top: usize,
     kept: usize,
@@ -172,12 +172,12 @@ struct Step {
 
 // The way of a key down the tree below a root, as far as it goes. It passes prefixes by their lengths. A way through
 // more nodes than `DEPTH` has no step.
-fn way_to<K, V, const PREFIX_LEN: usize>(
+fn low_path_to<K, V, const PREFIX_LEN: usize>(
     arena: &NodeArena<K, V, PREFIX_LEN>,
     root: OpaqueNodePtr,
     key: &[u8],
-) -> Way {
-    let mut way = Way {
+) -> LowPath {
+    let mut path = LowPath {
         steps: [Step::default(); STEPS],
         top: 0,
         kept: 0,
@@ -186,24 +186,24 @@ fn way_to<K, V, const PREFIX_LEN: usize>(
     let mut at = 0usize;
     for _ in 0..DEPTH {
         let Some(inner) = inner_at(arena, name) else {
-            return way;
+            return path;
         };
         at = at.saturating_add(inner.prefix_len());
         let Some(byte) = key.get(at).copied() else {
-            return way;
+            return path;
         };
         let Some(child) = inner.lookup_child(byte) else {
-            return way;
+            return path;
         };
-        way.push(name, byte.checked_add(1));
+        path.push(name, byte.checked_add(1));
         name = child;
         at = at.saturating_add(1);
     }
-    way.kept = 0;
-    way
+    path.kept = 0;
+    path
 }
 
-impl Way {
+impl LowPath {
     // Goes down to a node.
     fn push(&mut self, name: OpaqueNodePtr, from: Option<u8>) {
         self.top = self.top.wrapping_add(1) % STEPS;
@@ -304,22 +304,22 @@ impl Starts {
         Starts { names, len: 1 }
     }
 
-    // Finds others behind a way.
+    // Finds others after a way.
     fn find<K, V, const PREFIX_LEN: usize>(
         &mut self,
         arena: &NodeArena<K, V, PREFIX_LEN>,
-        mut way: Way,
+        mut path: LowPath,
     ) {
         let mut passed = 0usize;
         for _ in 0..LOOKED_AT {
             if self.len >= STARTS {
                 break;
             }
-            let Some((child, leaves)) = way.next(arena) else {
+            let Some((child, leaves)) = path.next(arena) else {
                 break;
             };
             if is_wide(child) {
-                way.push(child, Some(0));
+                path.push(child, Some(0));
                 continue;
             }
             if passed >= GAP {
@@ -332,7 +332,7 @@ impl Starts {
     }
 
     // Goes down from each to its first leaf, level by level.
-    fn go_below<K, V, const PREFIX_LEN: usize>(&mut self, arena: &NodeArena<K, V, PREFIX_LEN>) {
+    fn descend_each<K, V, const PREFIX_LEN: usize>(&mut self, arena: &NodeArena<K, V, PREFIX_LEN>) {
         for _ in 0..LEVELS {
             let mut is_done = true;
             for i in 0..self.len.min(STARTS) {
@@ -354,7 +354,7 @@ impl Starts {
     fn chains(&self) -> Chains {
         let mut chains = Chains {
             at: [LeafPtr::from_slot(self.names[0].slot()); STARTS],
-            ends: [NONE; STARTS],
+            ends: [NO_SLOT; STARTS],
             len: 1,
             has_end: false,
         };
@@ -377,7 +377,7 @@ struct Chains {
     at: [LeafPtr; STARTS],
     ends: [usize; STARTS],
     len: usize,
-    // Whether one is known behind the last.
+    // Whether one is known after the last.
     has_end: bool,
 }
 
@@ -386,12 +386,12 @@ impl Chains {
     fn read<K: AsBytes, V, const PREFIX_LEN: usize>(
         &mut self,
         arena: &NodeArena<K, V, PREFIX_LEN>,
-        seen: u8,
+        checksum: u8,
     ) -> (usize, u8) {
         let mut met = [false; STARTS];
         let mut len = 0usize;
-        let mut bits = seen;
-        for _ in 0..MOST {
+        let mut bits = checksum;
+        for _ in 0..CHAIN_LEAVES {
             for i in 0..self.len.min(STARTS) {
                 let leaf = self.at[i];
                 if arena.holds(leaf.to_opaque()) {

@@ -4,7 +4,7 @@ use Rattle.art_operations.proofs.HeldPairs.{put-at, stored-exact}
 use Rattle.art_operations.proofs.LeafNames.{inserted-names}
 use Rattle.art_operations.proofs.NewNodes.{fewer}
 use Rattle.art_operations.proofs.Results.{both_ok, map_ok}
-use Rattle.art_operations.proofs.pairs.put_pair.Goals as goal
+use Rattle.art_operations.proofs.pairs.insert_at.Goals as goal
 
 pub apply-requires : goal.apply-requires
 apply-requires g c =
@@ -28,20 +28,22 @@ returns-in-Some-clause-stored g c = λ pairs rest can stored.
     c.apply.ensures.exact exact.0 exact.1
 
 pub returns-in-None-clause-ok : goal.returns-in-None-clause-ok
-returns-in-None-clause-ok g c = map_ok c.put_first.result _ _ c.put_first.ensures.ok (λ put is. λ pairs rest can.
+returns-in-None-clause-ok g c = map_ok c.insert_first.result _ _ c.insert_first.ensures.ok (λ put is. λ pairs rest can.
     let none = rw c.in-None.is at can in rw none.0 (is rest none.1))
 
 pub returns-in-None-clause-others : goal.returns-in-None-clause-others
-returns-in-None-clause-others g c = map_ok c.put_first.result _ _ c.put_first.ensures.others (λ put kept. λ pairs rest can. let none = rw c.in-None.is at can in kept rest none.1)
+returns-in-None-clause-others g c = map_ok c.insert_first.result _ _ c.insert_first.ensures.others (λ put kept. λ pairs rest can. let none = rw c.in-None.is at can in kept rest none.1)
 
 pub returns-in-None-clause-room : goal.returns-in-None-clause-room
-returns-in-None-clause-room g c = λ n room. c.put_first.ensures.room n (fewer c.args.arena.now (n + 1) (n + 2) (omega arith) room)
+returns-in-None-clause-room g c = λ n room. c.insert_first.ensures.room n (fewer c.args.arena.now (n + 1) (n + 2) (omega arith) room)
 
 pub returns-in-Some-clause-names : goal.returns-in-Some-clause-names
 returns-in-Some-clause-names g c =
     let has = rw c.in-Some.is at c.requires.2 in
     both_ok c.apply.result _ _ _ c.apply.ensures.ok c.apply.ensures.others (λ put inserted kept.
-    inserted-names g.K.AsBytes.bytes g.row.PREFIX_LEN c.args.arena.now c.apply.new.arena c.in-Some.point.root c.requires.1 has.shape has.is_tree (kept has.shape c.requires.1 has.is_tree has.place) (steps_of c.in-Some.point.path) c.args.key c.args.value put (inserted has.shape c.requires.1 has.is_tree has.place))
+    inserted-names g.K.AsBytes.bytes g.row.PREFIX_LEN c.args.arena.now c.apply.new.arena c.in-Some.point.root c.requires.1 has.shape has.is_tree
+    (kept has.shape c.requires.1 has.is_tree has.place) (steps_of c.in-Some.point.path) c.args.key c.args.value put
+    (inserted has.shape c.requires.1 has.is_tree has.place))
 
 pub returns-in-Some-clause-stored_room : goal.returns-in-Some-clause-stored_room
 returns-in-Some-clause-stored_room g c = λ pairs rest can stored.

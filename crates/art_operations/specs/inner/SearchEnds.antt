@@ -13,11 +13,11 @@ use Rattle.art_operations.specs.declared.insert.point.InsertKind.TheVariants as 
 use Rattle.art_operations.specs.declared.insert.point.InsertPoint.{InsertPoint}
 use Rattle.art_operations.specs.declared.insert.point.PrefixConflict.{PrefixConflict}
 use Rattle.art_operations.specs.declared.insert.point.Stop.{Stop}
-use Rattle.art_operations.specs.declared.insert.point.Way.{Way}
-use Rattle.art_operations.specs.declared.insert.point.Way.TheVariants as way
+use Rattle.art_operations.specs.declared.insert.point.SearchEnd.{SearchEnd}
+use Rattle.art_operations.specs.declared.insert.point.SearchEnd.TheVariants as way
 
 -- what the key meets at the node of this name, where the search ends there in this way and in no conflict
-abbrev pub met_by : Name → Way → Option InsertKind
+abbrev pub met_by : Name → SearchEnd → Option InsertKind
 met_by name way.Same = Some (kind.Exact name.slot)
 met_by name (way.PartsFromLeaf parted) = Some (kind.SplitLeaf name.slot parted)
 met_by name (way.PartsFromPrefix parted) = Some (kind.MismatchPrefix name parted)
@@ -29,25 +29,25 @@ abbrev pub point_at : Name → Stop → InsertKind → InsertPoint
 point_at root stop met = record { root = root; path = stop.path; key_bytes_used = stop.depth; insert_kind = met }
 
 -- what a search that stopped here answers: the place of a key that meets this, or the part whose keys are in conflict
-abbrev pub answer_at : Name → Stop → Option InsertKind → Result InsertPoint PrefixConflict
-answer_at root stop (Some met) = Ok (point_at root stop met)
-answer_at root stop None = Err (record { root = root; path = stop.path; part = stop.node })
+abbrev pub result_at : Name → Stop → Option InsertKind → Result InsertPoint PrefixConflict
+result_at root stop (Some met) = Ok (point_at root stop met)
+result_at root stop None = Err (record { root = root; path = stop.path; part = stop.node })
 
 -- how a search ends at a leaf, by the rest of its key and that of the new one
-abbrev pub IsWayAtLeaf : List ℕ → List ℕ → Way → Type 0
-IsWayAtLeaf old new way.Same = old ≡ new
-IsWayAtLeaf old new (way.PartsFromLeaf parted) = PartAt old new parted
-IsWayAtLeaf old new way.Conflict = IsProperFront old new ⊎ IsProperFront new old
-IsWayAtLeaf old new (way.PartsFromPrefix parted) = ⊥
-IsWayAtLeaf old new (way.NoChild byte) = ⊥
+abbrev pub IsEndAtLeaf : List ℕ → List ℕ → SearchEnd → Type 0
+IsEndAtLeaf old new way.Same = old ≡ new
+IsEndAtLeaf old new (way.PartsFromLeaf parted) = PartAt old new parted
+IsEndAtLeaf old new way.Conflict = IsProperFront old new ⊎ IsProperFront new old
+IsEndAtLeaf old new (way.PartsFromPrefix parted) = ⊥
+IsEndAtLeaf old new (way.NoChild byte) = ⊥
 
 -- and at an inner node, by its prefix and the rest of the key
-abbrev pub IsWayAtInner : List ℕ → List ℕ → Way → Type 0
-IsWayAtInner prefix rest (way.PartsFromPrefix parted) = PartAt prefix rest parted
-IsWayAtInner prefix rest (way.NoChild byte) = (more : List ℕ) × (rest ≡ prefix ++ byte ∷ more)
-IsWayAtInner prefix rest way.Conflict = BeginsWith rest prefix
-IsWayAtInner prefix rest way.Same = ⊥
-IsWayAtInner prefix rest (way.PartsFromLeaf parted) = ⊥
+abbrev pub IsEndAtInner : List ℕ → List ℕ → SearchEnd → Type 0
+IsEndAtInner prefix rest (way.PartsFromPrefix parted) = PartAt prefix rest parted
+IsEndAtInner prefix rest (way.NoChild byte) = (more : List ℕ) × (rest ≡ prefix ++ byte ∷ more)
+IsEndAtInner prefix rest way.Conflict = BeginsWith rest prefix
+IsEndAtInner prefix rest way.Same = ⊥
+IsEndAtInner prefix rest (way.PartsFromLeaf parted) = ⊥
 
 -- a key that goes no further from an inner node ends within its prefix, or with it
 abbrev pub EndsInside : {X : Type 0} → Tree X → List ℕ → Type 0
@@ -55,7 +55,7 @@ EndsInside (leaf x) k = Unit {0}
 EndsInside (inner prefix children) k = pass prefix k ≡ ends
 
 module _ {K V : Type 0} (bytes : K → List ℕ) (key : List ℕ) where
-  -- the key meets this in the part behind this path, where its place is
+  -- the key meets this in the part under this path, where its place is
   abbrev pub IsPlaceAt : List ℕ → Shape K V → InsertKind → Type 0
   IsPlaceAt path s met = MeetsAt bytes key path s met × NoConflict bytes key (leaves s)
 
@@ -64,6 +64,6 @@ module _ {K V : Type 0} (bytes : K → List ℕ) (key : List ℕ) where
   IsEndAt path s (Some met) = IsPlaceAt path s met
   IsEndAt path s None = AllConflict bytes key (leaves s)
 
-  -- how the search ends at the part behind this path, which has this name: the key's place, or a conflict, is here
-  abbrev pub IsWay : List ℕ → Shape K V → Name → Way → Type 0
-  IsWay path s name way = IsEndAt path s (met_by name way)
+  -- how the search ends at the part under this path, which has this name: the key's place, or a conflict, is here
+  abbrev pub IsSearchEnd : List ℕ → Shape K V → Name → SearchEnd → Type 0
+  IsSearchEnd path s name way = IsEndAt path s (met_by name way)

@@ -1,6 +1,6 @@
 use Rattle.std.proofs.Common.{◌≡◌, ◌++◌, reverse, length}
 use Rattle.art_nodes.proofs.Common.{names_of}
-use Rattle.art_walks.proofs.checker.names.put_in_turn.Given as goal
+use Rattle.art_walks.proofs.checker.names.push_children.Given as goal
 
 abbrev pub invariant-loop-child : goal.invariant-loop-child
 invariant-loop-child l = l.waiting.items ++ reverse (names_of l.left) ≡ l.initial.waiting.items ++ reverse (names_of l.fn.children)

@@ -3,7 +3,7 @@ use Rattle.art_operations.proofs.Terms.{KeepsLeavesOf, steps_at, with_pair_over}
 use Rattle.art_operations.proofs.NewNodes.{fewer}
 use Rattle.art_operations.proofs.PutOver.{none-removed, put-over-at, stored-over}
 use Rattle.art_operations.proofs.Results.{map_ok}
-use Rattle.art_operations.proofs.pairs.put_over.Goals as goal
+use Rattle.art_operations.proofs.pairs.insert_over.Goals as goal
 
 pub apply-requires : goal.apply-requires
 apply-requires g c =
@@ -25,13 +25,13 @@ returns-in-Some-clause-stored g c = λ pairs rest can stored.
     let has = rw c.in-Some.is at can in
     c.apply.ensures.exact (stored-over g.K.AsBytes.bytes g.row.PREFIX_LEN c.args.arena.now c.in-Some.over (g.K.AsBytes.bytes c.args.key) pairs has stored)
 
-pub returns-in_ok-put_first-in-None-clause-room : goal.returns-in_ok-put_first-in-None-clause-room
-returns-in_ok-put_first-in-None-clause-room g c = λ n room. c.put_first.ensures.room n (fewer c.args.arena.now (n + 1) (n + 2) (omega arith) room)
+pub returns-in_ok-insert_first-in-None-clause-room : goal.returns-in_ok-insert_first-in-None-clause-room
+returns-in_ok-insert_first-in-None-clause-room g c = λ n room. c.insert_first.ensures.room n (fewer c.args.arena.now (n + 1) (n + 2) (omega arith) room)
 
-pub returns-in_ok-put_first-in-None-clause-ok : goal.returns-in_ok-put_first-in-None-clause-ok
-returns-in_ok-put_first-in-None-clause-ok g c = λ pairs rest can.
+pub returns-in_ok-insert_first-in-None-clause-ok : goal.returns-in_ok-insert_first-in-None-clause-ok
+returns-in_ok-insert_first-in-None-clause-ok g c = λ pairs rest can.
     let none = rw c.in-None.is at can in
-    let put = c.in_ok-put_first-in-None.ensures.ok rest none.1 in
+    let put = c.in_ok-insert_first-in-None.ensures.ok rest none.1 in
     rw none.0 (record { has = put.has; removed = none-removed _ put.old; leaf = put.leaf })
 
 pub returns-in-Some-clause-names : goal.returns-in-Some-clause-names

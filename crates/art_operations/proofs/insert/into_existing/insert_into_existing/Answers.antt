@@ -5,10 +5,10 @@ use Rattle.art_operations.proofs.Inserted.{put_keeps}
 use Rattle.art_operations.proofs.Waiting.{node-inner}
 use Rattle.art_operations.proofs.IntoExisting.{starts, inserted}
 use Rattle.art_operations.proofs.NewNodes.{undone, undone_room}
-use Rattle.art_operations.proofs.insert.into_existing.put_into_existing.Goals as goal
+use Rattle.art_operations.proofs.insert.into_existing.insert_into_existing.Goals as goal
 
-pub make_room-requires : goal.make_room-requires
-make_room-requires g c =
+pub reserve_child-requires : goal.reserve_child-requires
+reserve_child-requires g c =
     let r = c.requires.tree in
     let st = starts _ _ r.0 c.args.point c.args.inner c.args.byte c.in_ok-leaf.leaf c.args.key c.args.value c.args.arena.now c.store_leaf.new.arena r.2 r.3 c.requires.kind c.in_ok-leaf.ensures.ok in
     (omega arith, (_, st.frame, st.outer, _, _, st.awaits, st.path, st.kind))
@@ -17,7 +17,7 @@ pub take_back-requires : goal.take_back-requires
 take_back-requires g c = (omega arith, subst IsSome (sym (c.in-Err.ensures.err (leaf_name c.in_ok-leaf.leaf) ∙ c.in_ok-leaf.ensures.ok.updates.changed)) refl)
 
 pub returns-in-Err-clause-err : goal.returns-in-Err-clause-err
-returns-in-Err-clause-err g c = undone c.args.arena.now c.store_leaf.new.arena c.make_room.new.arena c.take_back.new.arena _ _ c.in_ok-leaf.ensures.ok c.in-Err.ensures.err c.take_back.ensures.updates
+returns-in-Err-clause-err g c = undone c.args.arena.now c.store_leaf.new.arena c.reserve_child.new.arena c.take_back.new.arena _ _ c.in_ok-leaf.ensures.ok c.in-Err.ensures.err c.take_back.ensures.updates
 
 pub returns-in-Err-clause-handed_back : goal.returns-in-Err-clause-handed_back
 returns-in-Err-clause-handed_back g c = c.take_back.ensures.pair _ (c.in-Err.ensures.err (leaf_name c.in_ok-leaf.leaf) ∙ c.in_ok-leaf.ensures.ok.updates.changed)
@@ -28,8 +28,8 @@ returns-in-Err-clause-succeeds g c = λ room. c.in-Err.ensures.succeeds (c.in_ok
 pub returns-in-Err-clause-room : goal.returns-in-Err-clause-room
 returns-in-Err-clause-room g c = λ n room. c.take_back.ensures.room n (c.in-Err.ensures.room n (c.in_ok-leaf.ensures.room (n + 1) (subst (HasRoom c.args.arena.now) (omega arith) room)))
 
-pub put_leaf-requires : goal.put_leaf-requires
-put_leaf-requires g c =
+pub insert_leaf-requires : goal.insert_leaf-requires
+insert_leaf-requires g c =
     let r = c.requires.tree in
     let st = starts _ _ r.0 c.args.point c.args.inner c.args.byte c.in_ok-leaf.leaf c.args.key c.args.value c.args.arena.now c.store_leaf.new.arena r.2 r.3 c.requires.kind c.in_ok-leaf.ensures.ok in
     let made = c.in-Ok.ensures.ok _ st.frame st.outer _ _ st.awaits st.path st.kind in
@@ -46,20 +46,20 @@ pub returns-clause-ok : goal.returns-clause-ok
 returns-clause-ok g c = λ s rest tree at.
     let st = starts _ _ s c.args.point c.args.inner c.args.byte c.in_ok-leaf.leaf c.args.key c.args.value c.args.arena.now c.store_leaf.new.arena tree at c.requires.kind c.in_ok-leaf.ensures.ok in
     let made = c.in-Ok.ensures.ok _ st.frame st.outer _ _ st.awaits st.path st.kind in
-    inserted _ _ s c.args.point c.args.inner c.args.byte c.in_ok-leaf.leaf c.args.key c.args.value c.make_room.new.arena c.put_leaf.new.arena c.in-Ok.place.root c.in-Ok.place.node (record st.frame { name = c.in-Ok.place.node }) st.outer
-    c.inner_node_ptr.result made.0 made.1 st.path st.was c.inner_node_ptr.ensures (c.put_leaf.ensures.put _ _ _ _ _ made.0 made.1)
+    inserted _ _ s c.args.point c.args.inner c.args.byte c.in_ok-leaf.leaf c.args.key c.args.value c.reserve_child.new.arena c.insert_leaf.new.arena c.in-Ok.place.root c.in-Ok.place.node (record st.frame { name = c.in-Ok.place.node }) st.outer
+    c.inner_node_ptr.result made.0 made.1 st.path st.was c.inner_node_ptr.ensures (c.insert_leaf.ensures.put _ _ _ _ _ made.0 made.1)
 
 pub returns-clause-room : goal.returns-clause-room
-returns-clause-room g c = λ n room. c.put_leaf.ensures.room n (c.make_room.ensures.room n (c.in_ok-leaf.ensures.room (n + 1) (subst (HasRoom c.args.arena.now) (omega arith) room)))
+returns-clause-room g c = λ n room. c.insert_leaf.ensures.room n (c.reserve_child.ensures.room n (c.in_ok-leaf.ensures.room (n + 1) (subst (HasRoom c.args.arena.now) (omega arith) room)))
 
 pub returns-clause-others : goal.returns-clause-others
 returns-clause-others g c = λ s rest tree at.
     let st = starts _ _ s c.args.point c.args.inner c.args.byte c.in_ok-leaf.leaf c.args.key c.args.value c.args.arena.now c.store_leaf.new.arena tree at c.requires.kind c.in_ok-leaf.ensures.ok in
     let made = c.in-Ok.ensures.ok _ st.frame st.outer _ _ st.awaits st.path st.kind in
-    put_keeps g.K.AsBytes.bytes g.row.PREFIX_LEN c.args.arena.now c.make_room.new.arena c.put_leaf.new.arena c.put_leaf.new.arena c.args.point.root _ s _ c.in_ok-leaf.leaf c.args.key c.args.value _ _ _ tree (returns-clause-ok g c s rest tree at) st.was
+    put_keeps g.K.AsBytes.bytes g.row.PREFIX_LEN c.args.arena.now c.reserve_child.new.arena c.insert_leaf.new.arena c.insert_leaf.new.arena c.args.point.root _ s _ c.in_ok-leaf.leaf c.args.key c.args.value _ _ _ tree (returns-clause-ok g c s rest tree at) st.was
     (λ n other. c.in-Ok.ensures.links n ∙ (links-update c.args.arena.now c.store_leaf.new.arena c.in_ok-leaf.leaf _ c.in_ok-leaf.ensures.ok.updates).others n other)
-    (c.put_leaf.ensures.others _ _ _ _ _ made.0) (λ n. refl)
+    (c.insert_leaf.ensures.others _ _ _ _ _ made.0) (λ n. refl)
 
 pub returns-in-Err-clause-kept_room : goal.returns-in-Err-clause-kept_room
 returns-in-Err-clause-kept_room g c =
-    undone_room c.args.arena.now c.store_leaf.new.arena c.make_room.new.arena c.take_back.new.arena c.store_leaf.ensures.room_of c.in-Err.ensures.kept_room c.take_back.ensures.room_of c.take_back.ensures.frees c.take_back.ensures.room_for_it
+    undone_room c.args.arena.now c.store_leaf.new.arena c.reserve_child.new.arena c.take_back.new.arena c.store_leaf.ensures.room_of c.in-Err.ensures.kept_room c.take_back.ensures.room_of c.take_back.ensures.frees c.take_back.ensures.room_for_it

@@ -6,7 +6,7 @@ use Rattle.art_operations.proofs.PutBack.{same_inner}
 use Rattle.art_operations.proofs.Waiting.{node-held, node-inner, as_many, has_few}
 use Rattle.art_operations.proofs.Growth.{same-kind}
 use Rattle.art_operations.proofs.Results.{map_ok}
-use Rattle.art_operations.proofs.insert.into_existing.make_room.Goals as goal
+use Rattle.art_operations.proofs.insert.into_existing.reserve_child.Goals as goal
 
 pub inner-requires : goal.inner-requires
 inner-requires g c =
@@ -17,7 +17,10 @@ pub returns-then-may_write-clause-ok : goal.returns-then-may_write-clause-ok
 returns-then-may_write-clause-ok g c = λ leaf f outer l rest awaits path kind. (
   subst (λ (h : Frame _ _). AwaitsLeaf g.K.AsBytes.bytes g.row.PREFIX_LEN c.args.arena.now rest c.args.point.root c.args.inner c.args.byte leaf h outer l) (ap (λ n. record f { name = n }) awaits.node_is) awaits,
   same-kind c.args.inner.kind (width f.before + width f.after) kind
-      (has_few _ _ _ _ _ _ _ _ _ _ awaits (row_of c.args.inner.kind).most (subst (λ m. (length m.children < (row_of c.args.inner.kind).most) ⊎ IsSome (child_at m.children c.args.byte)) (same_inner _ _ _ c.inner.ensures.value (node-held _ _ _ _ _ _ _ _ _ _ awaits)) (rw c.inner.ensures.kind at (c.may_write.ensures.yes c.if-may_write.true)))),
+      (has_few _ _ _ _ _ _ _ _ _ _ awaits (row_of c.args.inner.kind).most
+      (subst (λ m. (length m.children < (row_of c.args.inner.kind).most) ⊎ IsSome (child_at m.children c.args.byte))
+      (same_inner _ _ _ c.inner.ensures.value (node-held _ _ _ _ _ _ _ _ _ _ awaits))
+      (rw c.inner.ensures.kind at (c.may_write.ensures.yes c.if-may_write.true)))),
 )
 
 pub grow_at-requires : goal.grow_at-requires
