@@ -1,5 +1,5 @@
 -- A closure that is asked of pairs in turn, from either end.
-use Rattle.std.proofs.Common.{◌≡◌, ℕ, ◌<◌, ◌==◌, Bool, true, false, List, [], ◌∷◌, ◌++◌, length, reverse, Option, Some, None, Result, Ok, Err, refl, sym, ap, subst, ◌∙◌, arith, inl, inr, append_assoc, length-append, eqb-true}
+use Rattle.std.proofs.Common.{◌≡◌, ℕ, suc, ◌<◌, ◌==◌, Bool, true, false, List, [], ◌∷◌, ◌++◌, length, reverse, Option, Some, None, Result, Ok, Err, refl, sym, ap, subst, ◌∙◌, arith, inl, inr, append_assoc, length-append, eqb-true}
 use Rattle.std.proofs.lemmas.List.{reverse-append}
 use Rattle.std.specs.Bool.{MatchBool}
 use Rattle.std.specs.List.{AllByRecursion}
@@ -81,7 +81,7 @@ module _ {K V F : Type 0} (T : F → K → V → Bool → V → F → Type 0) wh
       first-asked {b} q r f kept others h =
           subst (λ ps. ExtractsNext (AnswersAt T) s.asks ps r f kept others) (sym (from-end end q.pair q.rest s.left q.was)) (b, a.asks, (q.pair.0, q.value), (refl, q.called), h)
 
-      -- it passes it over, and a call goes on behind it
+      -- it passes it over, and a call goes on after it
       pub extracts-later : {E : Type 0} → IsAsked T bytes end s false a → (m : Asking K V F) → m.pairs ≡ a.pairs → m.asks ≡ a.asks → ((p : K × V) × IsAtEnd end p m.left a.left)
           → (r : Option (Result (K × V) E)) (t : Asking K V F) → Extracts T bytes end m r t → Extracts T bytes end s r t
       extracts-later q m pairs asks (p, at) r t e =
@@ -149,8 +149,8 @@ module _ {K V F : Type 0} (T : F → K → V → Bool → V → F → Type 0) wh
 
 -- Of each pair the closure is asked in turn, and the pairs are told from the first.
 module _ {K V F : Type 0} (T : F → K → V → Bool → V → F → Type 0) (bytes : K → List ℕ) where
-  pub callable-behind : (Q : F → K → V → Type 0) (f : F) (p : K × V) (ps : List (K × V)) → CallableOnEachPair T Q f (p ∷ ps) → (b : Bool) (w : V) (h : F) → T f p.0 p.1 b w h → CallableOnEachPair T Q h ps
-  callable-behind Q f p ps can b w h call = record { at = λ front back last k v e calls. can.at (p ∷ front) back last k v (ap (λ l. p ∷ l) e) (h, (b, w, call), calls) }
+  pub callable-after : (Q : F → K → V → Type 0) (f : F) (p : K × V) (ps : List (K × V)) → CallableOnEachPair T Q f (p ∷ ps) → (b : Bool) (w : V) (h : F) → T f p.0 p.1 b w h → CallableOnEachPair T Q h ps
+  callable-after Q f p ps can b w h call = record { at = λ front back last k v e calls. can.at (p ∷ front) back last k v (ap (λ l. p ∷ l) e) (h, (b, w, call), calls) }
 
   -- what is left of the pairs that were to be retained
   pub record Retaining (Q : F → K → V → Type 0) (f : F) (old : List (K × V)) (s : Asking K V F) : Type 0 where
@@ -197,8 +197,30 @@ module _ {K V F : Type 0} (T : F → K → V → Bool → V → F → Type 0) (b
           let ascend = same-ascent r.kept q.pair (q.pair.0, q.value) q.rest refl (subst (AscendsByKey (key_of bytes)) was r.ascend) in
           (q.put ∙ ap (with_pair_put bytes q.pair.0 q.value) was ∙ sym (put_replaced (key_of bytes) (q.pair.0, q.value) r.kept q.pair q.rest refl ascend).new_is, ascend)
 
-      behind-first : {b : Bool} (q : IsAsked T bytes First s b a) → CallableOnEachPair T Q a.asks q.rest
-      behind-first {b} q = callable-behind Q s.asks q.pair q.rest (subst (CallableOnEachPair T Q s.asks) q.was r.callable) b q.value a.asks q.called
+      after-first : {b : Bool} (q : IsAsked T bytes First s b a) → CallableOnEachPair T Q a.asks q.rest
+      after-first {b} q = callable-after Q s.asks q.pair q.rest (subst (CallableOnEachPair T Q s.asks) q.was r.callable) b q.value a.asks q.called
+
+      -- as many pairs are there then, and one less where it is taken out
+      pub asked-long : {b : Bool} → IsAsked T bytes First s b a → length a.pairs ≡ length s.pairs
+      asked-long q =
+          let was : s.pairs ≡ r.kept ++ q.pair ∷ q.rest = r.pairs_are ∙ ap (λ ps. r.kept ++ ps) q.was in
+          ap length (now-is q).0 ∙ length-append r.kept ((q.pair.0, q.value) ∷ q.rest) ∙ sym (length-append r.kept (q.pair ∷ q.rest)) ∙ sym (ap length was)
+
+      pub taken-long : {b : Bool} → IsAsked T bytes First s b a → (p : K × V) (left pairs : List (K × V)) → a.left ≡ p ∷ left → pairs ≡ without_key (key_of bytes) (bytes p.0) a.pairs → suc (length pairs) ≡ length s.pairs
+      taken-long q p left pairs at is =
+          let same = same-end First (q.pair.0, q.value) p q.rest left a.left q.left at in
+          let first : K × V = (q.pair.0, q.value) in
+          let now = now-is q in
+          let gone : pairs ≡ r.kept ++ q.rest =
+          is ∙ ap (λ (x : K × V). without_key (key_of bytes) (bytes x.0) a.pairs) (sym same.0) ∙ ap (without_key (key_of bytes) (bytes q.pair.0)) now.0 ∙ sym (taken (key_of bytes) first r.kept q.rest now.1).new_is in
+          let long = ap length gone ∙ length-append r.kept q.rest in
+          let had = ap length now.0 ∙ length-append r.kept (first ∷ q.rest) in
+          let asked = asked-long q in
+          omega (arith, long, had, asked)
+
+      -- so one is there
+      pub asked-some : {b : Bool} → IsAsked T bytes First s b a → 0 < length a.pairs
+      asked-some q = let had = ap length (now-is q).0 ∙ length-append r.kept ((q.pair.0, q.value) ∷ q.rest) in omega (arith, had)
 
       -- it is kept
       pub retaining-kept : IsAsked T bytes First s true a → (m : Asking K V F) → m.pairs ≡ a.pairs → m.asks ≡ a.asks → ((p : K × V) × (a.left ≡ p ∷ m.left)) → Retaining Q f old m
@@ -210,7 +232,7 @@ module _ {K V F : Type 0} (T : F → K → V → Bool → V → F → Type 0) (b
             kept = r.kept ++ first ∷ [];
             pairs_are = pairs ∙ now.0 ∙ ap (λ ps. r.kept ++ first ∷ ps) rest ∙ sym (append_assoc r.kept (first ∷ []) m.left);
             ascend = subst (AscendsByKey (key_of bytes)) (sym (pairs ∙ now.0)) now.1;
-            callable = subst (CallableOnEachPair T Q m.asks) rest (subst (λ g. CallableOnEachPair T Q g q.rest) (sym asks) (behind-first q));
+            callable = subst (CallableOnEachPair T Q m.asks) rest (subst (λ g. CallableOnEachPair T Q g q.rest) (sym asks) (after-first q));
             retains = λ ps h.
                 let on = subst (λ g. RetainsPairs T g q.rest ps) asks (subst (λ qs. RetainsPairs T m.asks qs ps) (sym rest) h) in
                 subst (RetainsPairs T f old) (sym (append_assoc r.kept (first ∷ []) ps)) (r.retains (first ∷ ps) (subst (λ qs. RetainsPairs T s.asks qs (first ∷ ps)) (sym q.was) (true, q.value, a.asks, ps, q.called, on, refl)));
@@ -232,7 +254,7 @@ module _ {K V F : Type 0} (T : F → K → V → Bool → V → F → Type 0) (b
             kept = r.kept;
             pairs_are = left ∙ ap (λ ps. r.kept ++ ps) rest;
             ascend = subst (AscendsByKey (key_of bytes)) (sym left) (less-ascent r.kept first q.rest now.1);
-            callable = subst (CallableOnEachPair T Q m.asks) rest (subst (λ g. CallableOnEachPair T Q g q.rest) (sym asks) (behind-first q));
+            callable = subst (CallableOnEachPair T Q m.asks) rest (subst (λ g. CallableOnEachPair T Q g q.rest) (sym asks) (after-first q));
             retains = λ ps h.
                 let on = subst (λ g. RetainsPairs T g q.rest ps) asks (subst (λ qs. RetainsPairs T m.asks qs ps) (sym rest) h) in
                 r.retains ps (subst (λ qs. RetainsPairs T s.asks qs ps) (sym q.was) (false, q.value, a.asks, ps, q.called, on, refl));

@@ -4,15 +4,16 @@ use Rattle.std.specs.List.{AllByRecursion}
 use Rattle.std.specs.Prelude.{IfErr, OnOk}
 use Rattle.art_arena.proofs.Common.{Arena, Held, cell_of, inner_held, leaf_held, key_of, AscendsByKey, all_append}
 use Rattle.art_nodes.proofs.Common.{Name}
-use Rattle.art_operations.proofs.Common.{Builds, BuildsTo, HasLeavesOf, HasPairs, IsBlocked, with_pair_put, IsEmptySpine, fresh}
+use Rattle.art_operations.proofs.Common.{Builds, BuildsTo, HasKey, HasLeavesOf, HasPairs, IsBlocked, with_pair_put, IsEmptySpine, fresh}
 use Rattle.art_operations.specs.Builders.{IsPushRefused}
 use Rattle.art_operations.specs.declared.build.PushRefused.{PushRefused}
-use Rattle.art_operations.specs.declared.build.PushRefused.TheVariants.{NotBehind, Memory}
+use Rattle.art_operations.specs.declared.build.PushRefused.TheVariants.{NotAfter, Memory}
 use Rattle.art_operations.specs.declared.build.TreeBuilder.{TreeBuilder}
 use Rattle.art_map.proofs.Terms.{HasGathered, HasGatheredInOrder, nodes_of}
 use Rattle.art_map.specs.inner.Pushes.{pair_handed_back}
 use Rattle.art_map.specs.declared.map.builder.TreeMapBuilder.{TreeMapBuilder}
 use Rattle.art_map.proofs.Puts.{free-last, put-last}
+use Rattle.art_map.proofs.StoredKeys.{new-last}
 
 -- what is so where its opposite was told
 pub is-false : (b : Bool) → not b ≡ true → b ≡ false
@@ -31,9 +32,13 @@ built-ascend {K} {V} bytes P arena builder pairs builds = of builder.last builds
     of None b = subst (AscendsByKey (key_of bytes)) (sym b.0) tt
     of (Some last) b = b.ascends
 
--- and none blocks the key of a pair that was taken behind them
-pub free-behind : {K V : Type 0} (bytes : K → List ℕ) (P : ℕ) (arena : Arena K V) (builder : TreeBuilder) (pairs : List (K × V)) (k : K) (v : V) → Builds bytes P arena builder (pairs ++ (k, v) ∷ []) → IsBlocked (key_of bytes) (bytes k) pairs → ⊥
-free-behind bytes P arena builder pairs k v builds = free-last bytes pairs (k, v) (built-ascend bytes P arena builder (pairs ++ (k, v) ∷ []) builds)
+-- and none blocks the key of a pair that was taken after them
+pub free-after : {K V : Type 0} (bytes : K → List ℕ) (P : ℕ) (arena : Arena K V) (builder : TreeBuilder) (pairs : List (K × V)) (k : K) (v : V) → Builds bytes P arena builder (pairs ++ (k, v) ∷ []) → IsBlocked (key_of bytes) (bytes k) pairs → ⊥
+free-after bytes P arena builder pairs k v builds = free-last bytes pairs (k, v) (built-ascend bytes P arena builder (pairs ++ (k, v) ∷ []) builds)
+
+-- nor has one of them its key
+pub new-after : {K V : Type 0} (bytes : K → List ℕ) (P : ℕ) (arena : Arena K V) (builder : TreeBuilder) (pairs : List (K × V)) (k : K) (v : V) → Builds bytes P arena builder (pairs ++ (k, v) ∷ []) → HasKey (key_of bytes) (bytes k) pairs → ⊥
+new-after bytes P arena builder pairs k v builds = new-last bytes pairs (k, v) (built-ascend bytes P arena builder (pairs ++ (k, v) ∷ []) builds)
 
 -- what stands under no name is no node
 held-none : {K V : Type 0} (o : Option (Held K V)) → cell_of o ≡ None → o ≡ None
@@ -70,10 +75,10 @@ module _ {K V : Type 0} {P : ℕ} (bytes : K → List ℕ) (is_key : K → Type 
   is-settled (Ok x) e has = subst (λ o. MatchBool o (HasGatheredInOrder bytes is_key b pairs) (b.map.pairs ≡ pairs)) (sym e) has
   is-settled (Err e) f has = tt
 
-  -- a pair that goes behind all others is put in there
-  pub taken-behind : (was : List (K × V)) (k : K) (v : V) → pairs ≡ with_pair_put bytes k v was → b.in_order ≡ true → Builds bytes P b.arena b.builder (was ++ (k, v) ∷ [])
+  -- a pair that goes after all others is put in there
+  pub taken-after : (was : List (K × V)) (k : K) (v : V) → pairs ≡ with_pair_put bytes k v was → b.in_order ≡ true → Builds bytes P b.arena b.builder (was ++ (k, v) ∷ [])
       → AllByRecursion (λ p. is_key p.0) was → is_key k → b.map.pairs ≡ [] → HasGathered bytes is_key b pairs
-  taken-behind was k v pairs_are e builds keys one none =
+  taken-after was k v pairs_are e builds keys one none =
       let last = put-last bytes was (k, v) (built-ascend bytes P b.arena b.builder (was ++ (k, v) ∷ []) builds) in
       is-in-order e
       (subst (HasGatheredInOrder bytes is_key b) (sym (pairs_are ∙ last)) (builds, all_append (λ p. is_key p.0) was ((k, v) ∷ []) keys (one, tt), none))
@@ -100,7 +105,7 @@ module _ {K V : Type 0} {P : ℕ} (bytes : K → List ℕ) (is_key : K → Type 
 
 -- a pair that is handed back is the one that came
 pub handed-back : {K V : Type 0} (B : Type 0) (key : K) (value : V) (refused : PushRefused K V) (gone : K × V) → gone ≡ pair_handed_back refused → IsPushRefused key value B refused → (gone.0 ≡ key) × (gone.1 ≡ value)
-handed-back B key value (NotBehind k v) gone is back = (ap (λ p. p.0) is ∙ back.0, ap (λ p. p.1) is ∙ back.1)
+handed-back B key value (NotAfter k v) gone is back = (ap (λ p. p.0) is ∙ back.0, ap (λ p. p.1) is ∙ back.1)
 handed-back B key value (Memory k v) gone is back = (ap (λ p. p.0) is ∙ back.0, ap (λ p. p.1) is ∙ back.1)
 
 -- what an error tells where one thing is so, it tells where another is so from which that one follows

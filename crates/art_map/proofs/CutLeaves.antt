@@ -9,13 +9,13 @@ use Rattle.art_map.proofs.Puts.{ascends-left, ascends-right}
 pub pairs-long : {K V : Type 0} (ls : List (LeafAt K V)) → length (pairs_of ls) ≡ length ls
 pairs-long {K} {V} ls = length-map {B = K × V} ls (λ (l : LeafAt K V). (l.key, l.value))
 
-module _ {K V : Type 0} (bytes : K → List ℕ) (arena : Arena K V) (cursor : LeafCursor) (had : List (K × V)) (among : StandsInList arena cursor bytes had) (behind : among.back ≡ []) where
-  -- the cursor stands behind all leaves
+module _ {K V : Type 0} (bytes : K → List ℕ) (arena : Arena K V) (cursor : LeafCursor) (had : List (K × V)) (among : StandsInList arena cursor bytes had) (following : among.back ≡ []) where
+  -- the cursor stands after all leaves
   pub all-before : StandsBetween arena cursor among.front []
-  all-before = subst (StandsBetween arena cursor among.front) behind among.stands
+  all-before = subst (StandsBetween arena cursor among.front) following among.stands
 
   pub pairs-before : pairs_of among.front ≡ had
-  pairs-before = ap pairs_of (sym (append-nil among.front)) ∙ ap (λ xs. pairs_of (among.front ++ xs)) (sym behind) ∙ among.pairs_are
+  pairs-before = ap pairs_of (sym (append-nil among.front)) ∙ ap (λ xs. pairs_of (among.front ++ xs)) (sym following) ∙ among.pairs_are
 
   pub long-before : length among.front ≡ length had
   long-before = sym (pairs-long among.front) ∙ ap length pairs-before

@@ -7,9 +7,9 @@ use Rattle.art_bytes.proofs.Common.{before_zero}
 use Rattle.art_arena.proofs.Common.{key_of, same_key, other_key, bytes_from_same}
 use Rattle.art_operations.proofs.Common.{without_key, with_pair_put}
 use Rattle.art_map.proofs.Terms.{has_bytes, ended}
-use Rattle.art_map.proofs.FoundBehind.{found-inserted, found-removed}
+use Rattle.art_map.proofs.FoundAfter.{found-inserted, found-removed}
 
--- with the zero behind both, two are the same where they are without it
+-- with the zero after both, two are the same where they are without it
 pub ended-same : (k l : List ℕ) → bytes_eq (ended k) (ended l) ≡ bytes_eq k l
 ended-same k l = by_test (bytes_eq k l) refl
   where

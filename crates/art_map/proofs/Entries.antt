@@ -1,20 +1,22 @@
 -- What an entry shows: the pair of its leaf, before and after it is written.
-use Rattle.std.proofs.Common.{◌≡◌, ℕ, Bool, true, false, cond, List, [], ◌∷◌, Option, Some, None, IsSome, Result, Ok, Err, IfOk, IfErr, OnOk, OnErr, refl, sym, ap, subst, ◌∙◌}
+use Rattle.std.proofs.Common.{◌≡◌, ℕ, Bool, true, false, cond, List, [], ◌∷◌, Option, Some, None, IsSome, Result, Ok, Err, IsOk, IfOk, IfErr, OnOk, OnErr, refl, sym, ap, subst, ◌∙◌}
 use mathlib.Core.Bool.{Bool-set}
 use Rattle.std.proofs.lemmas.Slice.Eq.{bytes_eq-Decides}
 use Rattle.art_bytes.specs.declared.as_bytes.AsBytes as as_bytes
-use Rattle.art_arena.proofs.Common.{cell_of, node_at, Cell, branches, leaf_name, pair, key_of, leaf-there}
+use Rattle.art_arena.proofs.Common.{cell_of, node_at, Cell, branches, leaf_name, pair, key_of, leaf-there, HasRoom, KeepsRoomOf}
+use Rattle.art_arena.specs.arena.Arena.{UsesRoom}
 use Rattle.art_operations.proofs.Common.{without_key, with_pair_put}
-use Rattle.art_map.proofs.Terms.{IsFound, HasPairAt, HasPairUnder, leaf_pair, pair_under, has_leaf, KeepsAllLeaves, with_value_at, Contents, has_bytes, Vacant, the, option_key, entry_key, entry_value, entry_pairs, pairs_without, with_entry_value, IsEntryOf, IsSame, IsWritten, OccupiedEntry}
+use Rattle.art_map.proofs.Terms.{IsFound, HasPairAt, HasPairUnder, leaf_pair, pair_under, has_leaf, KeepsAllLeaves, with_value_at, Contents, has_bytes, Vacant, unwrapped, option_key, entry_key, entry_value, entry_pairs, pairs_without, with_entry_value, IsEntryOf, IsSame, IsWritten, OccupiedEntry}
 use Rattle.std.specs.Map.{lookup_entry}
 use Rattle.std.specs.Option.{unwrap_or}
 use Rattle.art_map.specs.Entries.{Occupied}
 use Rattle.art_map.specs.declared.map.entry.VacantEntry.{VacantEntry}
 use Rattle.art_map.proofs.LeafNames.{then-names, written-all}
 use Rattle.art_map.proofs.LookedUp.{lookup-value}
+use Rattle.art_map.proofs.RoomKept.{pair-room, used-room}
 use Rattle.art_map.proofs.Written.{one-pair, put-again, without-again, without-put}
 
-the-is : {X : Type 0} (o : Option X) (there : IsSome o) (x : X) → o ≡ Some x → the o there ≡ x
+the-is : {X : Type 0} (o : Option X) (there : IsSome o) (x : X) → o ≡ Some x → unwrapped o there ≡ x
 the-is None there x e = absurd (cc)
 the-is (Some y) there x e = cc
 
@@ -30,10 +32,10 @@ module _ {K V : Type 0} {P : ℕ} {M : Type 0} {g : as_bytes.Ghosts K} where
     pub value-is : (k : K) (v : V) → HasPairAt o.map.now o.leaf (k, v) → entry_value (Occupied o) ≡ Some v
     value-is k v has = ap (λ (p : K × V). Some p.1) (the-is (pair_under o.map.now o.leaf) o.held (k, v) (ap leaf_pair has))
 
-    pub has-pair : HasPairAt o.map.now o.leaf (the (pair_under o.map.now o.leaf) o.held)
+    pub has-pair : HasPairAt o.map.now o.leaf (unwrapped (pair_under o.map.now o.leaf) o.held)
     has-pair = go (node_at o.map.now.nodes (leaf_name o.leaf)) o.held
       where
-        go : (c : Option (Cell K V)) (h : IsSome (leaf_pair c)) → c ≡ Some (pair (the (leaf_pair c) h).0 (the (leaf_pair c) h).1)
+        go : (c : Option (Cell K V)) (h : IsSome (leaf_pair c)) → c ≡ Some (pair (unwrapped (leaf_pair c) h).0 (unwrapped (leaf_pair c) h).1)
         go None h = absurd (cc)
         go (Some (pair k v)) h = refl
         go (Some (branches node)) h = absurd (cc)
@@ -48,6 +50,7 @@ module _ {K V : Type 0} {P : ℕ} {M : Type 0} {g : as_bytes.Ghosts K} where
       value = value;
       writes = λ u. rw (pairs, key) (put-again g.bytes (entry_key (Occupied o)) w u o.map.now.pairs);
       names = subst (KeepsAllLeaves g.bytes o.map.now) (sym is) (written-all g.bytes o.map.now o.leaf _ has-pair w);
+      room = subst (λ n. KeepsRoomOf o.map.now.nodes n.nodes) (sym is) (pair-room o.map.now o.leaf _ has-pair w);
     }
 
     -- written, it leaves the same pairs where it is removed
@@ -83,24 +86,28 @@ module _ {K V : Type 0} {P : ℕ} {M : Type 0} {g : as_bytes.Ghosts K} where
         written-as d w refl (pairs w ∙ ap (λ k. with_pair_put g.bytes k w o.map.now.pairs) (sym key)) same (ap (λ (p : K × V). Some p.1) now) refl
 
   -- a vacant entry whose pair was put in is written
-  pub put-as : (e : VacantEntry K V P M g) (m : Contents K V) (v : V) → m.pairs ≡ entry_pairs (Vacant e) v → KeepsAllLeaves g.bytes e.map.now m → (d : OccupiedEntry K V P M g) → (d.map.ghost_name ≡ e.map.ghost_name) × (d.map.now ≡ m) → (entry_key (Occupied d) ≡ e.key) × (entry_value (Occupied d) ≡ Some v)
+  pub put-as : (e : VacantEntry K V P M g) (m : Contents K V) (v : V) → m.pairs ≡ entry_pairs (Vacant e) v → KeepsAllLeaves g.bytes e.map.now m
+      → UsesRoom 2 e.map.now.nodes m.nodes → (d : OccupiedEntry K V P M g) → (d.map.ghost_name ≡ e.map.ghost_name) × (d.map.now ≡ m)
+      → (entry_key (Occupied d) ≡ e.key) × (entry_value (Occupied d) ≡ Some v)
       → IsWritten (Vacant e) v (Occupied d)
-  put-as e m v put names d same told = record {
+  put-as e m v put names room d same told = record {
     same_map = same.0;
     pairs = ap (λ n. n.pairs) same.1 ∙ put;
     key = told.0;
     value = told.1;
     writes = λ u. rw (told.0, same.1, put) (put-again g.bytes e.key v u e.map.now.pairs);
     names = subst (KeepsAllLeaves g.bytes e.map.now) (sym same.1) names;
+    room = subst (λ n. UsesRoom 2 e.map.now.nodes n.nodes) (sym same.1) room;
   }
 
 module _ {K V : Type 0} (m : Contents K V) (slot : ℕ) (p q : K × V) (has : HasPairAt m slot p) (lent : HasPairAt m slot q) where
   -- the leaf of a pair that was put in, with another value
-  pub put-lent : (bytes : K → List ℕ) (old : Contents K V) → m.pairs ≡ with_pair_put bytes p.0 p.1 old.pairs → KeepsAllLeaves bytes old m → ((w : V) → (with_value_at m slot w).pairs ≡ with_pair_put bytes q.0 w m.pairs) → (w : V)
-      → ((with_value_at m slot w).pairs ≡ with_pair_put bytes p.0 w old.pairs) × KeepsAllLeaves bytes old (with_value_at m slot w)
-  put-lent bytes old put names written w = (
+  pub put-lent : (bytes : K → List ℕ) (old : Contents K V) → m.pairs ≡ with_pair_put bytes p.0 p.1 old.pairs → KeepsAllLeaves bytes old m → UsesRoom 2 old.nodes m.nodes → ((w : V) → (with_value_at m slot w).pairs ≡ with_pair_put bytes q.0 w m.pairs) → (w : V)
+      → ((with_value_at m slot w).pairs ≡ with_pair_put bytes p.0 w old.pairs) × KeepsAllLeaves bytes old (with_value_at m slot w) × UsesRoom 2 old.nodes (with_value_at m slot w).nodes
+  put-lent bytes old put names room written w = (
     written w ∙ rw ((one-pair m slot p q has lent).0, put) (put-again bytes p.0 p.1 w old.pairs),
     then-names bytes (with_value_at m slot w).nodes m.nodes old.nodes (written-all bytes m slot p has w) names,
+    used-room m slot old.nodes 2 room p has w,
   )
 
 module _ {K V : Type 0} where
@@ -142,6 +149,11 @@ ok-more (Err e) more a = tt
 pub err-more : {X E : Type 0} {A B : E → Type 0} (r : Result X E) → ((e : E) → A e → B e) → IfErr r A → IfErr r B
 err-more (Ok x) more a = tt
 err-more (Err e) more a = more e a
+
+-- what holds of an `Err`, where what would make it none is absurd
+pub err-never : {X E : Type 0} {A B : E → Type 0} {R : Type 0} (r : Result X E) → ((e : E) → A e → (R → ⊥) → B e) → IfErr r A → (R → IsOk r) → IfErr r B
+err-never (Ok x) more a never = tt
+err-never (Err e) more a never = more e a (λ room. let ok = never room in absurd (cc))
 
 pub ok-on : {X E C : Type 0} {A B : X → Type 0} (r : Result X E) → ((x : X) → A x → B x → C) → IfOk r A → IfOk r B → OnOk r C
 ok-on (Ok x) more a b = more x a b

@@ -72,27 +72,27 @@ module _ {K V : Type 0} (bytes : K → List ℕ) (P : ℕ) where
       run-left : (r : IsRun bytes P m ends) → pairs_left m.nodes ends ≡ pairs_of r.run
       run-left r = run-pairs m.nodes ends (length r.run) (record { leaves = r.run; walk = run-walk r; stored = run-stored r; len_is = refl })
 
-    -- behind a step the leaves between the ends are a run
-    run-behind : (end : End) (slot : ℕ) (ends : Ends) → (s : IsNextAt bytes P m end slot ends) → IsRun bytes P m ends
-    run-behind First slot ends s = record {
+    -- after a step the leaves between the ends are a run
+    run-later : (end : End) (slot : ℕ) (ends : Ends) → (s : IsNextAt bytes P m end slot ends) → IsRun bytes P m ends
+    run-later First slot ends s = record {
       front = s.front ++ s.leaf ∷ [];
       run = s.run;
       back = s.back;
       leaves = subst (AreLeaves bytes P m) (sym (append_assoc s.front (s.leaf ∷ []) (s.run ++ s.back))) s.leaves;
       ends_are = s.ends_are;
     }
-    run-behind Last slot ends s = record { front = s.front; run = s.run; back = s.leaf ∷ s.back; leaves = s.leaves; ends_are = s.ends_are }
+    run-later Last slot ends s = record { front = s.front; run = s.run; back = s.leaf ∷ s.back; leaves = s.leaves; ends_are = s.ends_are }
 
-    run-is : (end : End) (slot : ℕ) (ends : Ends) (s : IsNextAt bytes P m end slot ends) → (run-behind end slot ends s).run ≡ s.run
-    unfolding run-behind
+    run-is : (end : End) (slot : ℕ) (ends : Ends) (s : IsNextAt bytes P m end slot ends) → (run-later end slot ends s).run ≡ s.run
+    unfolding run-later
     run-is First slot ends s = refl
     run-is Last slot ends s = refl
 
-    pub behind-some : (end : End) (slot : ℕ) (ends : Ends) → ∥ IsNextAt bytes P m end slot ends ∥₁ → ∥ IsRun bytes P m ends ∥₁
-    behind-some end slot ends some = ∥∥₁_map some (run-behind end slot ends)
+    pub later-some : (end : End) (slot : ℕ) (ends : Ends) → ∥ IsNextAt bytes P m end slot ends ∥₁ → ∥ IsRun bytes P m ends ∥₁
+    later-some end slot ends some = ∥∥₁_map some (run-later end slot ends)
 
     step-left : (end : End) (slot : ℕ) (ends : Ends) (s : IsNextAt bytes P m end slot ends) → pairs_left m.nodes ends ≡ pairs_of s.run
-    step-left end slot ends s = run-left ends (run-behind end slot ends s) ∙ ap pairs_of (run-is end slot ends s)
+    step-left end slot ends s = run-left ends (run-later end slot ends s) ∙ ap pairs_of (run-is end slot ends s)
 
     -- a step at an end
     module _ (end : End) (old new : Ends) (result : Option ℕ)
@@ -128,7 +128,7 @@ module _ {K V : Type 0} (bytes : K → List ℕ) (P : ℕ) where
       pub run-again : ∥ IsRun bytes P m old ∥₁ → 0 < length (pairs_left m.nodes old) → ∥ IsRun bytes P m new ∥₁
       run-again some low = ∥∥₁_map some (λ r.
           let at = the-end r low in
-          run-behind end at.item.slot new (stepped r at at.item.slot (next at.item at.rest r.run at.is (run-walk old r)).0))
+          run-later end at.item.slot new (stepped r at at.item.slot (next at.item at.rest r.run at.is (run-walk old r)).0))
 
       pub some-step : ∥ IsRun bytes P m old ∥₁ → 0 < length (pairs_left m.nodes old) → (slot : ℕ) → result ≡ Some slot → ∥ IsNextAt bytes P m end slot new ∥₁
       some-step some low slot e = ∥∥₁_map some (λ r. stepped r (the-end r low) slot e)
@@ -231,7 +231,7 @@ module _ {K V : Type 0} (bytes : K → List ℕ) (P : ℕ) where
     -- or where it was refused
     module _ (kept : (ls : List (LeafAt K V)) → AreLeaves bytes P m ls → AreLeaves bytes P n ls) where
       pub kept-some : ∥ IsNextAt bytes P m end slot ends ∥₁ → ∥ IsRun bytes P n ends ∥₁
-      kept-some some = ∥∥₁_map (behind-some m end slot ends some) (λ r. record { front = r.front; run = r.run; back = r.back; leaves = kept _ r.leaves; ends_are = r.ends_are })
+      kept-some some = ∥∥₁_map (later-some m end slot ends some) (λ r. record { front = r.front; run = r.run; back = r.back; leaves = kept _ r.leaves; ends_are = r.ends_are })
 
     -- whichever came of it
     pub either-some : {T E : Type 0} (r : Result T E) → OnOk r ((ls : List (LeafAt K V)) → AreLeaves bytes P m ls → (there : IsAmong slot ls) → AreLeaves bytes P n (there.front ++ there.back))
@@ -242,7 +242,7 @@ module _ {K V : Type 0} (bytes : K → List ℕ) (P : ℕ) where
     module _ (kept : (ls : List (LeafAt K V)) → AreLeaves bytes P m ls → AreLeaves bytes P n ls) where
       pub empty-some : ∥ IsNextAt bytes P m end slot ends ∥₁ → (nowhere : Ends) → nowhere ≡ None → ∥ IsRun bytes P n nowhere ∥₁
       empty-some some nowhere e = ∥∥₁_map some (λ s.
-          let r = run-behind m end slot ends s in
+          let r = run-later m end slot ends s in
           let all = r.front ++ (r.run ++ r.back) in
           subst (IsRun bytes P n) (sym e) (record { front = all; run = []; back = []; leaves = subst (AreLeaves bytes P n) (sym (append-nil all)) (kept all r.leaves); ends_are = refl }))
 

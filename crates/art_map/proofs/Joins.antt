@@ -29,7 +29,7 @@ module _ {K V : Type 0} (bytes : K → List ℕ) (query : List ℕ) where
   abbrev pub from : List (K × V) → List (K × V)
   from pairs = pairs_between bytes (Included query) Unbounded pairs
 
-  -- behind a key that is not below the query none is
+  -- after a key that is not below the query none is
   none-below : (k : K) (pairs : List (K × V)) → is_le (bytes_cmp query (bytes k)) ≡ true → AllByRecursion (λ p. IsBefore (bytes k) (key_of bytes p)) pairs → below pairs ≡ []
   none-below k [] at later = refl
   none-below k (p ∷ ps) at later =
@@ -74,15 +74,15 @@ some-left shows s t None steps came = absurd (cc)
 some-left shows s t (Some x) steps came = ap length steps
 
 module _ {K V : Type 0} (bytes : K → List ℕ) (p : K × V) (rest left taken : List (K × V)) (at : left ≡ rest ++ p ∷ []) (up : AscendsByKey (key_of bytes) (left ++ taken)) where
-  behind : AscendsByKey (key_of bytes) (p ∷ taken)
-  behind = ascends-right bytes rest (p ∷ taken) (subst (AscendsByKey (key_of bytes)) (append_assoc rest (p ∷ []) taken) (subst (λ xs. AscendsByKey (key_of bytes) (xs ++ taken)) at up))
+  following : AscendsByKey (key_of bytes) (p ∷ taken)
+  following = ascends-right bytes rest (p ∷ taken) (subst (AscendsByKey (key_of bytes)) (append_assoc rest (p ∷ []) taken) (subst (λ xs. AscendsByKey (key_of bytes) (xs ++ taken)) at up))
 
   -- the last pair of one list can be put in before those of a list that goes on there
   pub free-joined : IsBlocked (key_of bytes) (bytes p.0) taken → ⊥
-  free-joined = free-first bytes p taken behind
+  free-joined = free-first bytes p taken following
 
   pub put-joined : rest ++ with_pair_put bytes p.0 p.1 taken ≡ left ++ taken
-  put-joined = ap (λ xs. rest ++ xs) (put-first bytes p taken behind) ∙ sym (append_assoc rest (p ∷ []) taken) ∙ ap (λ xs. xs ++ taken) (sym at)
+  put-joined = ap (λ xs. rest ++ xs) (put-first bytes p taken following) ∙ sym (append_assoc rest (p ∷ []) taken) ∙ ap (λ xs. xs ++ taken) (sym at)
 
 -- where there is room, a pair is refused for a conflict
 pub blocked : {K V B R : Type 0} (k : K) (v : V) (e : PairRefused K V) → IsPairRefused k v B e → (R → IsForConflict e) → R → B

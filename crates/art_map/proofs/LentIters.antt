@@ -9,7 +9,7 @@ use Rattle.art_arena.specs.declared.ends.End.TheVariants.{First, Last}
 use Rattle.art_walks.proofs.Common.{Ends, leaves_left}
 use Rattle.art_walks.proofs.Counted.{counted-length}
 use Rattle.art_map.proofs.Terms.{Contents, with_value_at, left_at, run_pairs, slot_at, IsRunIn, with_lent_value, counted_left, counted_unwritten}
-use Rattle.art_map.specs.LentIters.{iter_before, iter_behind, iter_left, IsIterEnd}
+use Rattle.art_map.specs.LentIters.{iter_before, iter_after, iter_left, IsIterEnd}
 use Rattle.art_map.specs.declared.map.iter_mut.IterMut.{IterMut}
 use Rattle.art_map.proofs.LentWalks.{LendsAt, of-leaf, to-leaf}
 
@@ -29,11 +29,20 @@ module _ {K V : Type 0} (m : Contents K V) (ends : Ends) (run : ∥ IsRunIn m en
 module _ {K V : Type 0} {P : ℕ} {g : as_bytes.Ghosts K} (walk : IterMut K V P g) (slot : ℕ) (new : Ends) where
   -- what a walk remembers does not tell it from another
   abbrev Lands : V → IterMut K V P g → Option ℕ → Ends → Type 0
-  Lands w d o e = (valid : ∥ IsRunIn (with_lent_value walk.map.now o w) e ∥₁) (counted : walk.len - 1 ≡ leaves_left (with_lent_value walk.map.now o w).nodes e) → ◌≡◌ {A = IterMut K V P g} (record { map = record walk.map { now = with_lent_value walk.map.now o w }; leaves = e; len = walk.len - 1; ahead = walk.ahead; valid = valid; counted = counted }) d
+  Lands w d o e = (valid : ∥ IsRunIn (with_lent_value walk.map.now o w) e ∥₁) (counted : walk.len - 1 ≡ leaves_left (with_lent_value walk.map.now o w).nodes e)
+      → ◌≡◌ {A = IterMut K V P g} (record {
+        map = record walk.map { now = with_lent_value walk.map.now o w };
+        leaves = e;
+        len = walk.len - 1;
+        ahead
+            = walk.ahead;
+        valid = valid;
+        counted = counted;
+      }) d
 
   pub same-left : (end : End) → Some slot ≡ slot_at end walk.leaves → new ≡ left_at end walk.map.now walk.leaves → (w : V) → Lands w (iter_left end walk w) (Some slot) new
   same-left First here left w =
-      let d = iter_behind walk w in
+      let d = iter_after walk w in
       to-leaf slot new (Lands w d) here left (λ valid counted i. record { map = d.map; leaves = d.leaves; len = d.len; ahead = d.ahead; valid = ∥∥₁_prop valid d.valid i; counted = Coded-set coded_ℕ _ _ counted d.counted i })
   same-left Last here left w =
       let d = iter_before walk w in
@@ -41,5 +50,5 @@ module _ {K V : Type 0} {P : ℕ} {g : as_bytes.Ghosts K} (walk : IterMut K V P 
 
   -- the pair that is lent
   pub is-lent : (end : End) → Some slot ≡ slot_at end walk.leaves → new ≡ left_at end walk.map.now walk.leaves → (p : K × V) → LendsAt g.bytes walk.map.now end walk.leaves p (Some slot) new → IsIterEnd end walk p
-  is-lent First here left p lent = let is = of-leaf slot new (LendsAt g.bytes walk.map.now First walk.leaves p) here left lent in record { rest_is = is.0; pairs = is.1 }
-  is-lent Last here left p lent = let is = of-leaf slot new (LendsAt g.bytes walk.map.now Last walk.leaves p) here left lent in record { rest_is = is.0; pairs = is.1 }
+  is-lent First here left p lent = let is = of-leaf slot new (LendsAt g.bytes walk.map.now First walk.leaves p) here left lent in record { rest_is = is.0; pairs = is.1; room = is.2 }
+  is-lent Last here left p lent = let is = of-leaf slot new (LendsAt g.bytes walk.map.now Last walk.leaves p) here left lent in record { rest_is = is.0; pairs = is.1; room = is.2 }

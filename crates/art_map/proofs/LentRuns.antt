@@ -42,7 +42,7 @@ module _ {K V : Type 0} where
             | false ↦ later
           ]
 
-  -- a list, cut behind a leaf
+  -- a list, cut after a leaf
   record Cut (b : ℕ) (ls : List (LeafAt K V)) : Type 0 where
     pub front : List (LeafAt K V)
     pub back : List (LeafAt K V)

@@ -2,12 +2,13 @@
 use Rattle.std.proofs.Common.{◌≡◌, ℕ, List, Option, Some, sym, subst}
 use mathlib.Core.Logic.{∥∥₁_prop}
 use Rattle.art_bytes.specs.declared.as_bytes.AsBytes as as_bytes
+use Rattle.art_arena.proofs.Common.{KeepsRoomOf}
 use Rattle.art_arena.specs.declared.ends.End.{End}
 use Rattle.art_arena.specs.declared.ends.End.TheVariants.{First, Last}
 use Rattle.art_operations.proofs.Common.{IsAtEnd, with_pair_put}
 use Rattle.art_walks.proofs.Common.{Ends}
 use Rattle.art_map.proofs.Terms.{Contents, with_value_at, left_at, run_pairs, slot_at, IsRunIn, with_lent_value, still_left, still_unwritten}
-use Rattle.art_map.specs.LentWalks.{range_before, range_behind, range_left, IsRangeEnd}
+use Rattle.art_map.specs.LentWalks.{range_before, range_after, range_left, IsRangeEnd}
 use Rattle.art_map.specs.declared.map.walks_mut.RangeMut.{RangeMut}
 
 -- what is so of the end of a run, and of what is left of it, is so of the leaf that stands there, and the other way round
@@ -30,6 +31,7 @@ module _ {K V : Type 0} (m : Contents K V) (end : End) (ends new : Ends) (run : 
 abbrev pub LendsAt : {K V : Type 0} → (K → List ℕ) → Contents K V → End → Ends → K × V → Option ℕ → Ends → Type 0
 LendsAt {K} {V} bytes m end ends p o e =
     ((w : V) → IsAtEnd end p (run_pairs (with_lent_value m o w) e) (run_pairs m ends)) × ((w : V) → (with_lent_value m o w).pairs ≡ with_pair_put bytes p.0 w m.pairs)
+    × ((w : V) → KeepsRoomOf m.nodes (with_lent_value m o w).nodes)
 
 module _ {K V : Type 0} {P : ℕ} {g : as_bytes.Ghosts K} (walk : RangeMut K V P g) (slot : ℕ) (new : Ends) where
   -- what a walk remembers does not tell it from another
@@ -38,7 +40,7 @@ module _ {K V : Type 0} {P : ℕ} {g : as_bytes.Ghosts K} (walk : RangeMut K V P
 
   pub same-left : (end : End) → Some slot ≡ slot_at end walk.leaves → new ≡ left_at end walk.map.now walk.leaves → (w : V) → Lands w (range_left end walk w) (Some slot) new
   same-left First here left w =
-      let d = range_behind walk w in
+      let d = range_after walk w in
       to-leaf slot new (Lands w d) here left (λ valid i. record { map = d.map; leaves = d.leaves; ahead = d.ahead; valid = ∥∥₁_prop valid d.valid i })
   same-left Last here left w =
       let d = range_before walk w in
@@ -46,5 +48,5 @@ module _ {K V : Type 0} {P : ℕ} {g : as_bytes.Ghosts K} (walk : RangeMut K V P
 
   -- the pair that is lent
   pub is-lent : (end : End) → Some slot ≡ slot_at end walk.leaves → new ≡ left_at end walk.map.now walk.leaves → (p : K × V) → LendsAt g.bytes walk.map.now end walk.leaves p (Some slot) new → IsRangeEnd end walk p
-  is-lent First here left p lent = let is = of-leaf slot new (LendsAt g.bytes walk.map.now First walk.leaves p) here left lent in record { rest_is = is.0; pairs = is.1 }
-  is-lent Last here left p lent = let is = of-leaf slot new (LendsAt g.bytes walk.map.now Last walk.leaves p) here left lent in record { rest_is = is.0; pairs = is.1 }
+  is-lent First here left p lent = let is = of-leaf slot new (LendsAt g.bytes walk.map.now First walk.leaves p) here left lent in record { rest_is = is.0; pairs = is.1; room = is.2 }
+  is-lent Last here left p lent = let is = of-leaf slot new (LendsAt g.bytes walk.map.now Last walk.leaves p) here left lent in record { rest_is = is.0; pairs = is.1; room = is.2 }

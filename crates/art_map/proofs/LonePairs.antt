@@ -3,13 +3,14 @@ use Rattle.std.proofs.Common.{◌≡◌, ℕ, Some, sym, ap, ap₂, subst, ◌�
 use Rattle.std.specs.Prelude.{MatchOption, option_map}
 use Rattle.std.specs.Borrow.{MutBor}
 use Rattle.art_bytes.specs.declared.as_bytes.AsBytes as as_bytes
-use Rattle.art_arena.proofs.Common.{cell_of, held_at, leaf_name, leaf-there}
+use Rattle.art_arena.proofs.Common.{KeepsRoomOf, cell_of, held_at, leaf_name, leaf-there}
 use Rattle.art_operations.proofs.Common.{with_pair_put, held-some}
 use Rattle.art_map.proofs.Terms.{Contents, HasPairAt, leaf_pair, KeepsAllLeaves, with_value_at}
 use Rattle.art_map.specs.LoneLeaves.{pair_where}
 use Rattle.art_map.specs.LonePairs.{IsLoneWritten, shown_pair}
 use Rattle.art_map.specs.declared.map.prefix_entry.lone.LonePairMut.{LonePairMut}
 use Rattle.art_map.proofs.LeafNames.{written-all}
+use Rattle.art_map.proofs.RoomKept.{pair-room}
 
 module _ {K V : Type 0} (m : Contents K V) where
   -- a leaf of a pair has it
@@ -37,4 +38,5 @@ module _ {K V : Type 0} {P : ℕ} {g : as_bytes.Ghosts K} (e : LonePairMut K V P
         pair = ap₂ pair_where now (leaf ∙ is) ∙ where-written e.map.now slot p has w ∙ sym (ap (option_map (λ (q : K × V). (q.0, w))) lone-shown);
         pairs = subst (λ o. MatchOption o (n.map.now.pairs ≡ e.map.now.pairs) (λ q. n.map.now.pairs ≡ with_pair_put g.bytes q.0 w e.map.now.pairs)) (sym lone-shown) (ap (λ (m : Contents K V). m.pairs) now ∙ written w);
         names = subst (KeepsAllLeaves g.bytes e.map.now) (sym now) (written-all g.bytes e.map.now slot p has w);
+        room = subst (λ (m : Contents K V). KeepsRoomOf e.map.now.nodes m.nodes) (sym now) (pair-room e.map.now slot p has w);
       }

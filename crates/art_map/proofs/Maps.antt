@@ -6,10 +6,12 @@ use Rattle.std.proofs.lemmas.List.{append-nil, length-map}
 use Rattle.art_bytes.proofs.Common.{BeginsWith}
 use Rattle.art_nodes.proofs.Common.{Name}
 use Rattle.art_nodes.specs.declared.leaf.LeafNode.{LeafNode}
-use Rattle.art_arena.proofs.Common.{Arena, held_at, node_at, links_at, SameNodes, pair, leaf_name, leaf_where, with_leaf_value, first_slot, last_slot, times, IsList, Shape, LeafAt, leaves, pairs_of, key_of, Stores, StoresBelow, StoresOnly, IsIn, is_before, put_in_order, AscendsByKey, cell-some, nodes-subtree, in_middle, all_at, all_append, all_left, all_right, tree-list}
+use Rattle.art_arena.proofs.Common.{Arena, held_at, node_at, links_at, SameNodes, pair, leaf_name, leaf_where, with_leaf_value, first_slot, last_slot, times, IsList, Shape, LeafAt, leaves, pairs_of, key_of, Stores, StoresBelow, StoresOnly, IsIn, is_before, put_in_order, AscendsByKey}
+use Rattle.art_arena.proofs.Common.{cell-some, nodes-subtree, in_middle, all_at, all_append, all_left, all_right, tree-list}
 use Rattle.art_arena.specs.declared.ends.End.{End}
 use Rattle.art_arena.specs.declared.ends.End.TheVariants.{First, Last}
-use Rattle.art_operations.proofs.Common.{HasKey, IsBlocked, without_key, overlapping, overlaps, removed_by, HasPairs, HasPut, HasPutOver, HasTaken, HasTakenEnd, IsAtEnd, IsPlaced, with_pair_put, with_pair_over, pair_in, held-some, pairs-same, nothing_taken, stored-free, leaf_pair, pairs_ascend, held_leaf, pairs-parts, written}
+use Rattle.art_operations.proofs.Common.{HasKey, IsBlocked, without_key, overlapping, overlaps, removed_by, HasPairs, HasPut, HasPutOver, HasTaken, HasTakenEnd, IsAtEnd, IsPlaced, with_pair_put, with_pair_over, pair_in, held-some, pairs-same, nothing_taken, stored-free, leaf_pair}
+use Rattle.art_operations.proofs.Common.{pairs_ascend, held_leaf, pairs-parts, written}
 use Rattle.art_operations.specs.declared.insert.point.InsertPoint.{InsertPoint}
 use Rattle.art_operations.specs.declared.delete.result.DeleteResult.{DeleteResult}
 use Rattle.art_operations.specs.declared.insert.result.InsertResult.{InsertResult}
@@ -63,7 +65,7 @@ module _ {K V : Type 0} (bytes : K → List ℕ) where
       let other = all_at (λ (q : K × V). is_key q.0) p pairs keys i in
       elim c.1 [
         | inl ahead ↦ c.0 (law key p.0 one other ahead)
-        | inr behind ↦ c.0 (sym (law p.0 key other one behind))
+        | inr following ↦ c.0 (sym (law p.0 key other one following))
       ]
 
   -- a place is found for a key that a pair has

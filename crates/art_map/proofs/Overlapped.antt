@@ -6,7 +6,7 @@ use Rattle.std.proofs.lemmas.Bool.{cases_order, or_right}
 use Rattle.std.proofs.lemmas.List.Elements.{filter-append}
 use Rattle.art_bytes.proofs.Common.{BeginsWith, IsBefore, before_trans}
 use Rattle.art_arena.proofs.Common.{leaf_where, passing, first_slot, last_slot, times, LeafAt, pairs_of, AscendsByKey, begins_with, eqb-self, ends_with, times-append, times-here, all_weaker, begins_same, begins_true}
-use Rattle.art_operations.proofs.Common.{AreEndsWhere, overlaps, before, behind, before_no_overlap, behind_no_overlap, IsConvex}
+use Rattle.art_operations.proofs.Common.{AreEndsWhere, overlaps, before, following, before_no_overlap, after_no_overlap, IsConvex}
 use Rattle.art_map.proofs.Terms.{Contents, first_item, IsFound, IsLoneAt, lone_item, IsWalkOf}
 use Rattle.art_map.proofs.LookedUp.{first-at}
 
@@ -30,10 +30,10 @@ pub overlap_convex : (key : List ℕ) → IsConvex (λ k. overlaps key k)
 overlap_convex key a b c ab bc on_a on_c = elim (overlap_or_order key b) [
   | inl o ↦ o
   | inr (inl h) ↦ let f = before_no_overlap key c (before_trans key b c h bc) in absurd (cc)
-  | inr (inr h) ↦ let f = behind_no_overlap key a (before_trans a b key ab h) in absurd (cc)
+  | inr (inr h) ↦ let f = after_no_overlap key a (before_trans a b key ab h) in absurd (cc)
 ]
 
--- a key before a front of another comes before that one, and one behind it behind
+-- a key before a front of another comes before that one, and one after it after
 before_longer : (k l r : List ℕ) → IsBefore k l → IsBefore k (l ++ r)
 before_longer [] l r h = absurd h
 before_longer (a ∷ k) [] r h = absurd h
@@ -59,11 +59,11 @@ module _ {K V : Type 0} (bytes : K → List ℕ) (key : List ℕ) where
   one_over : (front : List (LeafAt K V)) (l : LeafAt K V) (back : List (LeafAt K V)) → BeginsWith (bytes l.key) key → AscendsByKey (λ (m : LeafAt K V). bytes m.key) (front ++ l ∷ back) → Over (front ++ l ∷ back) ≡ l ∷ []
   one_over front l back (r, e) up =
       let key_before = all_weaker _ (λ (m : LeafAt K V). overlaps key (bytes m.key) ≡ false)
-      (λ m b. behind_no_overlap key (bytes m.key) (subst (IsBefore (bytes m.key)) (sym e) (before_longer (bytes m.key) (bytes l.key) r b))) front (before (λ (m : LeafAt K V). bytes m.key) l front back up) in
-      let key_behind = all_weaker _ (λ (m : LeafAt K V). overlaps key (bytes m.key) ≡ false)
-      (λ m b. before_no_overlap key (bytes m.key) (subst (λ k. IsBefore k (bytes m.key)) (sym e) (longer_before (bytes l.key) r (bytes m.key) b))) back (behind (λ (m : LeafAt K V). bytes m.key) l front back up) in
+      (λ m b. after_no_overlap key (bytes m.key) (subst (IsBefore (bytes m.key)) (sym e) (before_longer (bytes m.key) (bytes l.key) r b))) front (before (λ (m : LeafAt K V). bytes m.key) l front back up) in
+      let key_after = all_weaker _ (λ (m : LeafAt K V). overlaps key (bytes m.key) ≡ false)
+      (λ m b. before_no_overlap key (bytes m.key) (subst (λ k. IsBefore k (bytes m.key)) (sym e) (longer_before (bytes l.key) r (bytes m.key) b))) back (following (λ (m : LeafAt K V). bytes m.key) l front back up) in
       filter-append (λ (m : LeafAt K V). overlaps key (bytes m.key)) front (l ∷ back)
-      ∙ ap₂ (λ xs ys. xs ++ ys) (none_over front key_before) (rw (over_front (bytes l.key) r e) (ap (λ xs. l ∷ xs) (none_over back key_behind)))
+      ∙ ap₂ (λ xs ys. xs ++ ys) (none_over front key_before) (rw (over_front (bytes l.key) r e) (ap (λ xs. l ∷ xs) (none_over back key_after)))
     where
       over_front : (k r : List ℕ) → key ≡ k ++ r → overlaps key k ≡ true
       over_front k r e = or_right (begins_with key k) (begins_with k key) (begins_same k key (r, e))

@@ -3,16 +3,17 @@ use Rattle.std.proofs.Common.{◌≡◌, ℕ, ◌+◌, ◌-◌, ◌^◌, ◌<◌
 use mathlib.Core.HLevel.{⊥_prop}
 use mathlib.Core.Logic.{∥∥₁_elim}
 use Rattle.art_nodes.proofs.Common.{Name}
-use Rattle.art_arena.proofs.Common.{Arena, node_at, SameNodes, first_slot, IsSubtree, Shape, LeafAt, leaves, pairs_of, key_of, steps_of, StoresBeside, begins_with, with_front, without_front, nodes-subtree, some_leaf, nodes-same}
+use Rattle.art_arena.proofs.Common.{Arena, node_at, SameNodes, first_slot, IsSubtree, Shape, LeafAt, erase, leaves, pairs_of, key_of, steps_of, StoresBeside, begins_with, with_front, without_front, nodes-subtree, some_leaf, nodes-same}
 use Rattle.art_operations.proofs.Common.{node_count, ForLongest, OpeningReads, HasCut, HasPairs, HasPairsWhere, HasRoomAbove, IsCutBeside, IsSubtreeAnswer, IsSubtreePoint, leaves_with, ShrinksWithout, HasTreeWhere, OfTree, OfTreeWhere, leaf_pair, without-shrinks}
+use Rattle.art_operations.specs.Openings.{ReadsExactly, part_reads}
 use Rattle.art_operations.specs.declared.delete.subtree.SubtreeDeletePoint.{SubtreeDeletePoint}
 use Rattle.art_operations.specs.declared.delete.subtree.SubtreeDeleteResult.{SubtreeDeleteResult}
 use Rattle.art_operations.specs.declared.delete.subtree.PreparedSubtreeDelete.{PreparedSubtreeDelete}
 use Rattle.art_operations.proofs.CutPairs.{cut-pairs, with-map}
 use Rattle.art_operations.proofs.DecidedParts.{known-subtree}
 use Rattle.art_walks.proofs.Common.{PairsWithin, all-filter}
-use Rattle.art_walks.proofs.MapReads.{keys-within}
-use Rattle.art_map.proofs.Terms.{Contents, contents, pairs_from, IsMap, cut_visits, IsFoundPart, IsPrefixPart, IsReadyPart, ShrinksAtCut}
+use Rattle.art_walks.proofs.MapReads.{keys-within, tree-read}
+use Rattle.art_map.proofs.Terms.{Contents, contents, pairs_from, IsMap, cut_reads, cut_visits, IsFoundPart, IsPrefixPart, IsReadyPart, ShrinksAtCut}
 use Rattle.art_map.proofs.Below.{has-seen}
 use Rattle.art_map.proofs.Maps.{make}
 
@@ -86,6 +87,14 @@ module _ {K V : Type 0} (bytes : K → List ℕ) (P : ℕ) (front : List ℕ) wh
       pub few-reads : (old new : ℕ) → OfTree bytes P arena top (λ s. ForLongest bytes s (λ longest. OpeningReads longest (length front) old new)) → (longest : ℕ) → PairsWithin bytes longest (pairs_from arena root) → OpeningReads longest (length front) old new
       few-reads old new few longest short =
           few has_top.0 (nodes-subtree bytes P (node_at arena) top has_top.0 has_top.1.nodes) longest (keys-within bytes P arena top (pairs_from arena root) ([], has_top) longest short)
+
+      -- so many nodes were read, told by the pairs alone
+      pub exact-reads : (count : ℕ) → OfTree bytes P arena top (λ s. ReadsExactly (part_reads (key_of bytes) P (erase s) front) 0 count) → count ≡ cut_reads bytes P front (pairs_from arena root)
+      exact-reads count reads =
+          let read =
+          tree-read bytes P arena top (pairs_from arena root) ([], has_top) (λ t. part_reads (key_of bytes) P t front) 0 count
+          (reads has_top.0 (nodes-subtree bytes P (node_at arena) top has_top.0 has_top.1.nodes)) in
+          omega (arith, read)
 
     -- a part stands in the tree
     pub part-there : (root : Option Name) → IsMap bytes is_key P arena root → (point : SubtreeDeletePoint) → ∥ IsPrefixPart bytes P (contents arena root) front root point ∥₁

@@ -5,7 +5,8 @@ use Rattle.art_bytes.specs.declared.as_bytes.AsBytes as as_bytes
 use Rattle.art_operations.proofs.Common.{with_pair_put}
 use Rattle.art_map.specs.Entries as entry
 use Rattle.std.specs.Map.{set_value}
-use Rattle.art_map.proofs.Terms.{Contents, has_bytes, HasPairAt, HasPairUnder, IsAt, IsFound, is_held, still_held, stored_slot, IsLoneAt, lone_item, overlaps_query, KeepsAllLeaves, KeepsLeaves, with_value_at, Inner, IsOccupiedFilled, IsOccupiedWritten, IsShownWritten, Leaf, kind_at, occupied_kind, occupied_value, prefix_pairs_with, prefix_value, OccupiedEntry}
+use Rattle.art_map.proofs.Terms.{Contents, has_bytes, HasPairAt, HasPairUnder, IsAt, IsFound, is_held, still_held, stored_slot, IsLoneAt, lone_item, overlaps_query, KeepsAllLeaves, KeepsLeaves, with_value_at, Inner, IsOccupiedFilled, IsOccupiedWritten, IsShownWritten, Leaf, kind_at}
+use Rattle.art_map.proofs.Terms.{occupied_kind, occupied_value, prefix_pairs_with, prefix_value, OccupiedEntry}
 use Rattle.art_map.specs.PrefixEntries.{Occupied}
 use Rattle.art_map.specs.declared.map.prefix_entry.PrefixOccupied.{PrefixOccupied}
 use Rattle.art_map.specs.declared.map.prefix_entry.PrefixOccupiedKind.{PrefixOccupiedKind}
@@ -13,6 +14,9 @@ use Rattle.art_map.specs.declared.map.prefix_entry.Spot.{Spot}
 use Rattle.art_map.specs.declared.map.prefix_entry.Spot.TheVariants.{New, Stored}
 use Rattle.std.specs.Borrow.{MutBor}
 use Rattle.art_map.proofs.LeafNames.{all-names, written-all}
+use Rattle.art_map.proofs.RoomKept.{pair-room}
+use Rattle.art_arena.proofs.Common.{Arena, KeepsRoomOf}
+use Rattle.art_map.specs.Room.{LeavesRoom}
 use Rattle.art_map.proofs.Entries.{found-entry, is-written, key-is, same-written, value-is}
 
 pub slot-of : {K : Type 0} (s : Spot K) (slot : ℕ) → stored_slot s ≡ Some slot → s ≡ Stored slot
@@ -65,6 +69,9 @@ module _ {K V : Type 0} {P : ℕ} {M : Type 0} {g : as_bytes.Ghosts K} (e : Pref
     pub names-shown : (w : V) → KeepsLeaves g.bytes e.map.now (with_value_at e.map.now slot w)
     names-shown w = all-names g.bytes e.map.now (with_value_at e.map.now slot w) (written-all g.bytes e.map.now slot (k, v) has w)
 
+    pub room-shown : (w : V) → KeepsRoomOf e.map.now.nodes (with_value_at e.map.now slot w).nodes
+    room-shown w = pair-room e.map.now slot (k, v) has w
+
     -- the entry, once the value is written
     pub shown-stored : ((w : V) → (with_value_at e.map.now slot w).pairs ≡ with_pair_put g.bytes k w e.map.now.pairs) → (w : V) (n : PrefixOccupied K V P M g) → n.map ≡ record e.map { now = with_value_at e.map.now slot w } → n.spot ≡ e.spot → IsShownWritten (occupied_kind e) w (occupied_kind n)
     shown-stored written w n map spot =
@@ -79,9 +86,13 @@ module _ {K V : Type 0} {P : ℕ} {M : Type 0} {g : as_bytes.Ghosts K} (e : Pref
         (subst (λ d. IsShownWritten (Leaf o) w d) (sym (kind-stored n slot on there)) (subst (λ (m : MutBor (Contents K V)). (h : HasPairUnder m.now slot) → So (record { map = m; leaf = slot; mark = n.mark; held = h })) (sym map) did there))
 
   module _ (k : K) (is : e.spot ≡ New k) where
-    pub shown-new : (n : PrefixOccupied K V P M g) → n.map.ghost_name ≡ e.map.ghost_name → n.spot ≡ e.spot → (w : V) → n.map.now.pairs ≡ set_value (overlaps_query g.bytes (g.bytes k)) e.map.now.pairs w → KeepsAllLeaves g.bytes e.map.now n.map.now
+    pub shown-new : (n : PrefixOccupied K V P M g) → n.map.ghost_name ≡ e.map.ghost_name → n.spot ≡ e.spot → (w : V) → n.map.now.pairs ≡ set_value (overlaps_query g.bytes (g.bytes k)) e.map.now.pairs w → KeepsAllLeaves g.bytes e.map.now n.map.now → KeepsRoomOf e.map.now.nodes n.map.now.nodes
         → IsShownWritten (occupied_kind e) w (occupied_kind n)
-    shown-new n map spot w pairs names = subst (λ (p : PrefixOccupiedKind K V P M g × PrefixOccupiedKind K V P M g). IsShownWritten p.0 w p.1) (λ i. (sym (kind-new e k is) i, sym (kind-new n k (spot ∙ is)) i)) (record { same_map = map; key = refl; pairs = pairs; names = names })
+    shown-new n map spot w pairs names room = subst (λ (p : PrefixOccupiedKind K V P M g × PrefixOccupiedKind K V P M g). IsShownWritten p.0 w p.1) (λ i. (sym (kind-new e k is) i, sym (kind-new n k (spot ∙ is)) i)) (record { same_map = map; key = refl; pairs = pairs; names = names; room = room })
+
+-- where a key has a value, the room that stays is what is left
+pub stored-leaves : {K V : Type 0} (o : Option V) (v : V) (old new : Arena K V) → o ≡ Some v → KeepsRoomOf old new → LeavesRoom o old new
+stored-leaves o v old new is kept = subst (λ x. LeavesRoom x old new) (sym is) kept
 
 module _ {K V : Type 0} (test : K → Bool) (m : Contents K V) where
   -- the leaf of a lone pair has it

@@ -1,9 +1,10 @@
 -- Room that a map in the making has left, beside the nodes that it has still to make.
 use Rattle.std.proofs.Common.{◌≡◌, ◌≤◌, ℕ, suc, ◌+◌, ◌*◌, true, false, MatchBool, List, [], ◌∷◌, ◌++◌, length, length-append, sym, subst, ◌∙◌, arith}
-use Rattle.art_arena.proofs.Common.{Arena, HasRoom}
+use Rattle.art_arena.proofs.Common.{Arena, HasRoom, KeepsRoomOf}
 use Rattle.art_arena.specs.arena.Arena.{UsesRoom}
 use Rattle.art_operations.proofs.Common.{HasRoomBeside}
-use Rattle.art_map.proofs.Terms.{HasRoomLeft}
+use Rattle.art_map.proofs.Terms.{HasRoomLeft, KeepsRoomLeft}
+use Rattle.art_map.proofs.RoomKept.{kinds-kept}
 use Rattle.art_map.specs.declared.map.builder.TreeMapBuilder.{TreeMapBuilder}
 
 module _ {K V : Type 0} {P : ℕ} (b : TreeMapBuilder K V P) (n : ℕ) where
@@ -21,9 +22,9 @@ module _ {K V : Type 0} {P : ℕ} (b : TreeMapBuilder K V P) (n : ℕ) where
   map-left e room = subst (λ o. MatchBool o (HasRoomBeside b.arena b.builder n) (HasRoom b.map.nodes n)) (sym e) room
 
 module _ {K V : Type 0} {P : ℕ} (was now : TreeMapBuilder K V P) (n : ℕ) where
-  -- a pair that goes behind the others uses room for two nodes of each kind at most
-  pub left-behind : was.in_order ≡ true → now.in_order ≡ true → ((m : ℕ) → HasRoomBeside was.arena was.builder (m + 2) → HasRoomBeside now.arena now.builder m) → HasRoomLeft was (n + 2) → HasRoomLeft now n
-  left-behind e f uses left = tree-left now n f (uses n (left-of-tree was (n + 2) e left))
+  -- a pair that goes after the others uses room for two nodes of each kind at most
+  pub left-after : was.in_order ≡ true → now.in_order ≡ true → ((m : ℕ) → HasRoomBeside was.arena was.builder (m + 2) → HasRoomBeside now.arena now.builder m) → HasRoomLeft was (n + 2) → HasRoomLeft now n
+  left-after e f uses left = tree-left now n f (uses n (left-of-tree was (n + 2) e left))
 
   -- so does one that is inserted
   pub left-inserted : was.in_order ≡ false → now.in_order ≡ false → UsesRoom 2 was.map.nodes now.map.nodes → HasRoomLeft was (n + 2) → HasRoomLeft now n
@@ -33,6 +34,14 @@ module _ {K V : Type 0} {P : ℕ} (was now : TreeMapBuilder K V P) (n : ℕ) whe
   pub left-settled : (made : Arena K V) → was.in_order ≡ true → now.in_order ≡ false → ((m : ℕ) → 1 ≤ m → HasRoomBeside was.arena was.builder m → HasRoom made m) → UsesRoom 2 made now.map.nodes
       → HasRoomLeft was (n + 2) → HasRoomLeft now n
   left-settled made e f keeps uses left = map-left now n f (uses n (keeps (n + 2) (omega arith) (left-of-tree was (n + 2) e left)))
+
+module _ {K V : Type 0} {P : ℕ} (was now : TreeMapBuilder K V P) where
+  -- where the map keeps its room, so does the map in the making, also where a map was made of the tree first
+  pub kept-inserted : was.in_order ≡ false → now.in_order ≡ false → KeepsRoomOf was.map.nodes now.map.nodes → KeepsRoomLeft was now
+  kept-inserted e f kept n some left = map-left now n f (kinds-kept was.map.nodes now.map.nodes kept n (left-of-map was n e left))
+
+  pub kept-settled : (made : Arena K V) → was.in_order ≡ true → now.in_order ≡ false → ((m : ℕ) → 1 ≤ m → HasRoomBeside was.arena was.builder m → HasRoom made m) → KeepsRoomOf made now.map.nodes → KeepsRoomLeft was now
+  kept-settled made e f keeps kept n some left = map-left now n f (kinds-kept made now.map.nodes kept n (keeps n some (left-of-tree was n e left)))
 
 module _ {K V : Type 0} {P : ℕ} (b : TreeMapBuilder K V P) where
   -- the room that pairs used, two nodes a pair: of none, and of one more

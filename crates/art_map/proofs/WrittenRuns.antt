@@ -36,7 +36,7 @@ module _ {K V : Type 0} (bytes : K → List ℕ) (P : ℕ) (m : Contents K V) wh
               → f ++ record { slot = slot; key = k; value = w } ∷ b ≡ g ++ record { slot = slot; key = l; value = w } ∷ c
           rebuilt f g k l b c x y z = rw (x, y, z) refl
 
-  -- a leaf at an end of a run stands in front of the others, or behind them
+  -- a leaf at an end of a run stands in front of the others, or after them
   pub with-leaf : (end : End) (front : List (LeafAt K V)) (l : LeafAt K V) (ys zs back : List (LeafAt K V)) → IsAtEnd end l ys zs → front ++ (zs ++ back) ≡ with_end bytes P m end front l ys back
   with-leaf First front l ys zs back e = ap (λ xs. front ++ (xs ++ back)) e
   with-leaf Last front l ys zs back e = ap (λ xs. front ++ (xs ++ back)) e ∙ ap (λ xs. front ++ xs) (append_assoc ys (l ∷ []) back)

@@ -1,11 +1,12 @@
 -- A closure that is asked of a map's pairs, one after another, whether they leave the map.
 use Rattle.std.specs.Prelude.{◌≡◌, ◌⊎◌, ⊤, ℕ, Bool, false, cond, List, [], ◌∷◌, ◌++◌, reverse, Option, Some, None}
-use Rattle.std.specs.Prelude.{Result, Ok, Err}
+use Rattle.std.specs.Prelude.{Result, Ok, Err, length, option_to_list}
 use Rattle.std.specs.List.{FoldsTo}
 use Rattle.std.specs.List.Retain.{ExtractsNext}
 use Rattle.std.specs.Borrow.{Bor, MutBor}
 use Rattle.std.specs.Map.Calls.{CalledAtPair, SomeCallAtPair, TakesPair}
 use denote.Param.Members.{Mut}
+use Rattle.art_arena.specs.arena.Arena.{UsesRoom}
 use Rattle.art_arena.specs.arena.Shapes.{key_of}
 use Rattle.art_arena.specs.declared.ends.End.{End}
 use Rattle.art_arena.specs.declared.ends.End.TheVariants.{First, Last}
@@ -50,7 +51,7 @@ module _ {K V F : Type 0} (T : F → K → V → Bool → V → F → Type 0) wh
         → FoldsTo (SomeCallAtPair T) f met f' → Q f' p.0 p.1
 
   -- f was called at each pair in turn, as where pairs are retained, up to that with the key k. Of that one it said
-  -- false, and yet it stays with the value that f left there, and so do those behind it
+  -- false, and yet it stays with the value that f left there, and so do those after it
   abbrev pub StopsAt : F → List (K × V) → K → List (K × V) → Type 0
   StopsAt f [] k new = ⊥
   StopsAt f (p ∷ ps) k new =
@@ -95,10 +96,12 @@ module _ {K V F : Type 0} {P : ℕ} {g : as_bytes.Ghosts K} where
     abbrev pub CanExtractIf : ExtractIf K V F P g → Type 0
     CanExtractIf e = CallableFromEnds (CalledAtPair f) (TakesPair f) (asking e).asks (asking e).left
 
-    -- one call of an extraction from this end, after which no leaf is new
+    -- one call of an extraction from this end, after which no leaf is new. Where it gives something, room
+    -- for one node may be used up; else none is
     abbrev pub ExtractsIf : {E : Type 0} → End → ExtractIf K V F P g → Option (Result (K × V) E) → ExtractIf K V F P g
         → Type 0
     ExtractsIf end s r t =
         ((extract_map t).ghost_name ≡ (extract_map s).ghost_name)
         × Extracts (CalledAtPair f) g.bytes end (asking s) r (asking t)
         × AddsNoLeaf g.bytes (extract_map s).now (extract_map t).now
+        × UsesRoom (length (option_to_list r)) (extract_map s).now.nodes (extract_map t).now.nodes

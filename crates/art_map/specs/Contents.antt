@@ -4,7 +4,7 @@ use Rattle.std.specs.List.{AllByRecursion}
 use Rattle.std.specs.Map.{lookup, lookup_entry}
 use Rattle.art_nodes.specs.Name.{Name}
 use Rattle.art_nodes.specs.declared.leaf.LeafNode.{LeafNode}
-use Rattle.art_arena.specs.arena.Arena.{Arena, SameNodes, node_at, held_at, slots_of}
+use Rattle.art_arena.specs.arena.Arena.{Arena, KeepsRoomOf, SameNodes, node_at, held_at, slots_of}
 use Rattle.art_arena.specs.arena.Cells.{Cell, pair, branches, leaf_name}
 use Rattle.art_arena.specs.tree.Tenants.{begins_with}
 use Rattle.art_operations.specs.Pairs.{HasPairs}
@@ -81,8 +81,12 @@ module _ {K V : Type 0} where
   HasLeafAt m slot = IsSome (held_at m.nodes (leaf_name slot))
 
   -- every node of a map is what it was, and its root has the same name
+  abbrev pub HasSameNodes : Contents K V → Contents K V → Type 0
+  HasSameNodes old new = SameNodes old.nodes new.nodes × (new.root ≡ old.root)
+
+  -- and what room there was for nodes of each kind stays
   abbrev pub IsUntouched : Contents K V → Contents K V → Type 0
-  IsUntouched old new = SameNodes old.nodes new.nodes × (new.root ≡ old.root)
+  IsUntouched old new = SameNodes old.nodes new.nodes × (new.root ≡ old.root) × KeepsRoomOf old.nodes new.nodes
 
   -- it has the same pairs too
   abbrev pub IsKept : Contents K V → Contents K V → Type 0

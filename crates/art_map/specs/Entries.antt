@@ -8,6 +8,7 @@ use mathlib.Core.Bool.{true≢false}
 use denote.Param.{number}
 use mir.Syntax.{named}
 use Rattle.art_bytes.specs.declared.as_bytes.AsBytes as as_bytes
+use Rattle.art_arena.specs.arena.Arena.{HasRoom}
 use Rattle.art_arena.specs.arena.Shapes.{key_of}
 use Rattle.art_operations.specs.KeyedLists.{without_key}
 use Rattle.art_operations.specs.Pairs.{with_pair_put}
@@ -16,6 +17,7 @@ use Rattle.art_map.specs.Contents.{Contents, found_pair, found_value, IsKept}
 use Rattle.art_map.specs.Found.{pair_under, still_held}
 use Rattle.art_map.specs.LeafNames.{KeepsAllLeaves}
 use Rattle.art_map.specs.Lends.{with_value_at}
+use Rattle.art_map.specs.Room.{LeavesRoom}
 use Rattle.art_map.specs.declared.map.entry.Entry.{Entry}
 use Rattle.art_map.specs.declared.map.entry.OccupiedEntry.{OccupiedEntry}
 use Rattle.art_map.specs.contracts.map.TreeMap as map
@@ -27,9 +29,9 @@ option_key None = None
 option_key (Some p) = Some p.0
 
 -- what is there
-abbrev pub the : {X : Type 0} (o : Option X) → IsSome o → X
-the None there = absurd (true≢false (sym there))
-the (Some x) there = x
+abbrev pub unwrapped : {X : Type 0} (o : Option X) → IsSome o → X
+unwrapped None there = absurd (true≢false (sym there))
+unwrapped (Some x) there = x
 
 module _ {K V : Type 0} {P : ℕ} {M : Type 0} {g : as_bytes.Ghosts K} where
   -- the reference to the map
@@ -39,18 +41,20 @@ module _ {K V : Type 0} {P : ℕ} {M : Type 0} {g : as_bytes.Ghosts K} where
 
   -- the stored key, or where none is stored the one that would go in
   abbrev pub entry_key : Entry K V P M g → K
-  entry_key (Occupied o) = (the (pair_under o.map.now o.leaf) o.held).0
+  entry_key (Occupied o) = (unwrapped (pair_under o.map.now o.leaf) o.held).0
   entry_key (Vacant e) = e.key
 
   -- the value of the key, if it is stored
   abbrev pub entry_value : Entry K V P M g → Option V
-  entry_value (Occupied o) = Some (the (pair_under o.map.now o.leaf) o.held).1
+  entry_value (Occupied o) = Some (unwrapped (pair_under o.map.now o.leaf) o.held).1
   entry_value (Vacant e) = None
 
-  -- a refusal is of a key that is not stored: it hands the key back, and a value that is one of these
+  -- a refusal is of a key that is not stored, where there was no room for two nodes: it hands the key back, and a value
+  -- that is one of these
   abbrev pub IsRefusedEntry : {A : Type 0} → Entry K V P M g → (V → Type 0) → Result A (InsertRefused K V) → Type 0
   IsRefusedEntry e Gives result =
-      IfErr result (λ refused. (entry_value e ≡ None) × (refused.key ≡ entry_key e) × Gives refused.value)
+      IfErr result (λ refused. (entry_value e ≡ None) × (refused.key ≡ entry_key e) × Gives refused.value
+      × (HasRoom (entry_map e).now.nodes 2 → ⊥))
 
   -- the entry has this pair, or there is neither
   abbrev pub IsPairOf : Option (K × V) → Option (OccupiedEntry K V P M g) → Type 0
@@ -79,6 +83,7 @@ module _ {K V : Type 0} {P : ℕ} {M : Type 0} {g : as_bytes.Ghosts K} where
     pub value : entry_value d ≡ Some w
     pub writes : (u : V) → entry_pairs d u ≡ entry_pairs e u
     pub names : KeepsAllLeaves g.bytes (entry_map e).now (entry_map d).now
+    pub room : LeavesRoom (entry_value e) (entry_map e).now.nodes (entry_map d).now.nodes
 
   -- d is the entry e
   pub record IsSame (e d : Entry K V P M g) : Type 0 where
@@ -112,14 +117,16 @@ module _ (K V : RattleType) (P : ℕ) (key : as_bytes.Ghosts K.Denot) where
       let row = occupied.the_row (record { mir = named 1; lft = [] }) K V (number P) map_row key in
       follows row V o.ghost_name r.ghost_name (with_entry_value o.now)
 
-  -- once the borrow r ends, the map has the last value written through r under the entry's key, and each leaf has the
-  -- key that it had; where there is no borrow, its pairs and nodes are as they were
+  -- once the borrow r ends, the map has the last value written through r under the entry's key, each leaf has the key
+  -- that it had, and all room stays or that of two nodes may be used; where there is no borrow, its pairs, nodes and
+  -- room are as they were
   abbrev pub lends_entry : {E : Type 0} → Entry K.Denot V.Denot P map_row.Denot key → Result (MutBor V.Denot) E → Fml
   lends_entry e r =
       LendsSoOk map_row V (entry_map e) r
-      (λ n w. (n.pairs ≡ entry_pairs e w) × KeepsAllLeaves key.bytes (entry_map e).now n) (IsKept (entry_map e).now)
+      (λ n w. (n.pairs ≡ entry_pairs e w) × KeepsAllLeaves key.bytes (entry_map e).now n
+      × LeavesRoom (entry_value e) (entry_map e).now.nodes n.nodes) (IsKept (entry_map e).now)
 
-  -- where r has no entry, the pairs and the nodes of the map are as they were
+  -- where r has no entry, the pairs, the nodes and the room of the map are as they were
   abbrev pub rests_if_refused : {E : Type 0} → Entry K.Denot V.Denot P map_row.Denot key
       → Result (OccupiedEntry K.Denot V.Denot P map_row.Denot key) E → Fml
   rests_if_refused e r =

@@ -3,6 +3,7 @@ use Rattle.std.specs.Prelude.{◌≡◌, ℕ, List, [], Option, Some, None, OnSo
 use Rattle.std.specs.Borrow.{Fml, RattleType, MutBor, LendsSo}
 use denote.Param.{number}
 use mir.Syntax.{named}
+use Rattle.art_arena.specs.arena.Arena.{KeepsRoomOf}
 use Rattle.art_arena.specs.declared.ends.End.{End}
 use Rattle.art_bytes.specs.declared.as_bytes.AsBytes as as_bytes
 use Rattle.art_operations.specs.Pairs.{IsAtEnd, with_pair_put}
@@ -21,12 +22,13 @@ module _ {K V : Type 0} {P : ℕ} {g : as_bytes.Ghosts K} where
   abbrev pub left_of : Extraction K V P g → List (K × V)
   left_of e = pairs_left e.map.now.nodes e.leaves
 
-  -- d is e, once w is the value of the pair at this end of those; each leaf has the key that it had
+  -- d is e, once w is the value of the pair at this end of those; each leaf has the key that it had, and room stays
   pub record IsWrittenAt (end : End) (e d : Extraction K V P g) (w : V) : Type 0 where
     pub same_map : (map_of d).ghost_name ≡ (map_of e).ghost_name
     pub left : (k : K) (v : V) (rest : List (K × V)) → IsAtEnd end (k, v) rest (left_of e)
         → IsAtEnd end (k, w) rest (left_of d) × ((map_of d).now.pairs ≡ with_pair_put g.bytes k w (map_of e).now.pairs)
     pub names : KeepsAllLeaves g.bytes (map_of e).now (map_of d).now
+    pub room : KeepsRoomOf (map_of e).now.nodes (map_of d).now.nodes
 
 -- the value of the pair at this end is lent, or there is no pair
 abbrev pub IsLentAt : {K V : Type 0} → End → List (K × V) → Option (MutBor V) → Type 0

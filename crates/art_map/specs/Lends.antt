@@ -3,6 +3,7 @@ use Rattle.std.specs.Prelude.{◌≡◌, ℕ, Bool, Option}
 use Rattle.std.specs.Borrow.{Fml, RattleType, MutBor, Lends, LendsSo}
 use Rattle.std.specs.Map.{set_value}
 use Rattle.art_bytes.specs.declared.as_bytes.AsBytes as as_bytes
+use Rattle.art_arena.specs.arena.Arena.{KeepsRoomOf}
 use Rattle.art_arena.specs.arena.Lends.{with_leaf_value}
 use Rattle.art_map.specs.Contents.{Contents, contents}
 use Rattle.art_map.specs.LeafNames.{KeepsAllLeaves}
@@ -17,9 +18,10 @@ module _ (K V P : RattleType) (key : as_bytes.Ghosts K.Denot) (m : MutBor (Conte
   abbrev pub lends_value_at : ℕ → MutBor V.Denot → Fml
   lends_value_at slot r = Lends (the_row K V P key) V m r (with_value_at m.now slot)
 
-  -- once the borrow r ends, the key that passes the test has the last value written through r, and each leaf has the
-  -- key that it had; at `None` the map is as it was
+  -- once the borrow r ends, the key that passes the test has the last value written through r, each leaf has the key
+  -- that it had, and room stays; at `None` the map is as it was
   abbrev pub lends_get : (K.Denot → Bool) → Option (MutBor V.Denot) → Fml
   lends_get test r =
       LendsSo (the_row K V P key) V m r
-      (λ n w. (n.pairs ≡ set_value test m.now.pairs w) × KeepsAllLeaves key.bytes m.now n) (λ n. n ≡ m.now)
+      (λ n w. (n.pairs ≡ set_value test m.now.pairs w) × KeepsAllLeaves key.bytes m.now n
+      × KeepsRoomOf m.now.nodes n.nodes) (λ n. n ≡ m.now)

@@ -7,7 +7,7 @@ use Rattle.art_bytes.specs.declared.as_bytes.AsBytes as as_bytes
 use Rattle.art_arena.specs.declared.ends.End.{End}
 use Rattle.art_arena.specs.declared.ends.End.TheVariants.{First, Last}
 use Rattle.art_walks.specs.Walked.{start_of}
-use Rattle.art_map.specs.LentRuns.{end_of, left_behind, left_before, run_pairs, with_lent_value}
+use Rattle.art_map.specs.LentRuns.{end_of, left_after, left_before, run_pairs, with_lent_value}
 use Rattle.art_map.specs.LentWalks.{IsLent}
 use Rattle.art_map.specs.lemmas.LentSteps.{counted_left, still_left}
 use Rattle.art_map.specs.declared.map.iter_mut.IterMut.{IterMut}
@@ -18,11 +18,11 @@ module _ {K V : Type 0} {P : ℕ} {g : as_bytes.Ghosts K} where
   abbrev pub iter_rest : IterMut K V P g → List (K × V)
   iter_rest walk = run_pairs walk.map.now walk.leaves
 
-  -- the walk behind its first pair, and before its last, once w is the value of that pair
-  abbrev pub iter_behind : IterMut K V P g → V → IterMut K V P g
-  iter_behind walk w = record walk {
+  -- the walk after its first pair, and before its last, once w is the value of that pair
+  abbrev pub iter_after : IterMut K V P g → V → IterMut K V P g
+  iter_after walk w = record walk {
     map = record walk.map { now = with_lent_value walk.map.now (start_of walk.leaves) w };
-    leaves = left_behind walk.map.now walk.leaves;
+    leaves = left_after walk.map.now walk.leaves;
     len = walk.len - 1;
     valid = still_left walk.map.now First walk.leaves walk.valid w;
     counted = counted_left walk.map.now First walk.leaves walk.valid w walk.len walk.counted;
@@ -39,12 +39,12 @@ module _ {K V : Type 0} {P : ℕ} {g : as_bytes.Ghosts K} where
 
   -- and at this end
   abbrev pub iter_left : End → IterMut K V P g → V → IterMut K V P g
-  iter_left First = iter_behind
+  iter_left First = iter_after
   iter_left Last = iter_before
 
   -- p is the first of the pairs still to come, and the last, and is lent
   abbrev pub IsIterFirst : IterMut K V P g → K × V → Type 0
-  IsIterFirst walk = IsLent g.bytes iter_rest (λ d. d.map.now) (λ p ps. p ∷ ps) walk (iter_behind walk)
+  IsIterFirst walk = IsLent g.bytes iter_rest (λ d. d.map.now) (λ p ps. p ∷ ps) walk (iter_after walk)
 
   abbrev pub IsIterLast : IterMut K V P g → K × V → Type 0
   IsIterLast walk = IsLent g.bytes iter_rest (λ d. d.map.now) (λ p ps. ps ++ p ∷ []) walk (iter_before walk)

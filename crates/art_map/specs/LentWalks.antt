@@ -4,21 +4,24 @@ use Rattle.std.specs.Borrow.{Fml, RattleType, MutBor, Lends, LendsIf}
 use denote.Param.{number}
 use mir.Syntax.{named}
 use Rattle.art_bytes.specs.declared.as_bytes.AsBytes as as_bytes
+use Rattle.art_arena.specs.arena.Arena.{KeepsRoomOf}
 use Rattle.art_arena.specs.declared.ends.End.{End}
 use Rattle.art_arena.specs.declared.ends.End.TheVariants.{First, Last}
 use Rattle.art_operations.specs.Pairs.{with_pair_put}
 use Rattle.art_walks.specs.Walked.{start_of}
 use Rattle.art_map.specs.Contents.{Contents}
-use Rattle.art_map.specs.LentRuns.{end_of, left_behind, left_before, run_pairs, with_lent_value}
+use Rattle.art_map.specs.LentRuns.{end_of, left_after, left_before, run_pairs, with_lent_value}
 use Rattle.art_map.specs.lemmas.LentSteps.{still_left}
 use Rattle.art_map.specs.declared.map.walks_mut.RangeMut.{RangeMut}
 use Rattle.art_map.specs.contracts.map.walks_mut.RangeMut as range
 
--- a walk lends this pair: once w is its value, it has the pairs that are left, and its map has the value under the key
+-- a walk lends this pair: once w is its value, it has the pairs that are left, and its map has the value under the
+-- key, and its room
 pub record IsLent {K V W : Type 0} (bytes : K → List ℕ) (rest : W → List (K × V)) (map : W → Contents K V)
     (order : K × V → List (K × V) → List (K × V)) (walk : W) (left : V → W) (p : K × V) : Type 0 where
   pub rest_is : (w : V) → rest walk ≡ order p (rest (left w))
   pub pairs : (w : V) → (map (left w)).pairs ≡ with_pair_put bytes p.0 w (map walk).pairs
+  pub room : (w : V) → KeepsRoomOf (map walk).nodes (map (left w)).nodes
 
 -- a walk lends the value of a pair, or has none left
 abbrev pub LendsValue : {K V : Type 0} → (K × V → Type 0) → List (K × V) → Option (MutBor V) → Type 0
@@ -30,11 +33,11 @@ module _ {K V : Type 0} {P : ℕ} {g : as_bytes.Ghosts K} where
   abbrev pub range_rest : RangeMut K V P g → List (K × V)
   range_rest walk = run_pairs walk.map.now walk.leaves
 
-  -- the walk behind its first pair, and before its last, once w is the value of that pair
-  abbrev pub range_behind : RangeMut K V P g → V → RangeMut K V P g
-  range_behind walk w = record walk {
+  -- the walk after its first pair, and before its last, once w is the value of that pair
+  abbrev pub range_after : RangeMut K V P g → V → RangeMut K V P g
+  range_after walk w = record walk {
     map = record walk.map { now = with_lent_value walk.map.now (start_of walk.leaves) w };
-    leaves = left_behind walk.map.now walk.leaves;
+    leaves = left_after walk.map.now walk.leaves;
     valid = still_left walk.map.now First walk.leaves walk.valid w;
   }
 
@@ -47,12 +50,12 @@ module _ {K V : Type 0} {P : ℕ} {g : as_bytes.Ghosts K} where
 
   -- and at this end
   abbrev pub range_left : End → RangeMut K V P g → V → RangeMut K V P g
-  range_left First = range_behind
+  range_left First = range_after
   range_left Last = range_before
 
   -- p is the first of the pairs still to come, and the last, and is lent
   abbrev pub IsRangeFirst : RangeMut K V P g → K × V → Type 0
-  IsRangeFirst walk = IsLent g.bytes range_rest (λ d. d.map.now) (λ p ps. p ∷ ps) walk (range_behind walk)
+  IsRangeFirst walk = IsLent g.bytes range_rest (λ d. d.map.now) (λ p ps. p ∷ ps) walk (range_after walk)
 
   abbrev pub IsRangeLast : RangeMut K V P g → K × V → Type 0
   IsRangeLast walk = IsLent g.bytes range_rest (λ d. d.map.now) (λ p ps. ps ++ p ∷ []) walk (range_before walk)

@@ -1,4 +1,5 @@
 pub mod Contents
+pub mod Room
 pub mod Audit
 pub mod Changes
 pub mod Lends
@@ -10,6 +11,7 @@ pub mod LoneLeaves
 pub mod LonePairs
 pub mod PrefixRemovals
 pub mod Laws
+pub mod PairLaws
 pub mod Walked
 pub mod Ranges
 pub mod Leaves

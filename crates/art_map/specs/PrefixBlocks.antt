@@ -4,13 +4,14 @@ use Rattle.art_nodes.specs.Name.{Name}
 use Rattle.art_arena.specs.arena.Shapes.{key_of}
 use Rattle.art_arena.specs.arena.Steps.{steps_of}
 use Rattle.art_arena.specs.tree.Tenants.{with_front}
+use Rattle.art_arena.specs.tree.TreeOf.{tree_of}
 use Rattle.art_operations.specs.NodeCounts.{node_count}
-use Rattle.art_operations.specs.Openings.{OpeningReads}
+use Rattle.art_operations.specs.Openings.{OpeningReads, part_reads}
 use Rattle.art_operations.specs.Pairs.{IsSubtreeFor}
 use Rattle.art_operations.specs.Subtrees.{HasRoomAbove, ShrinksWithout}
 use Rattle.art_operations.specs.declared.delete.subtree.PreparedSubtreeDelete.{PreparedSubtreeDelete}
 use Rattle.art_operations.specs.declared.delete.subtree.SubtreeDeletePoint.{SubtreeDeletePoint}
-use Rattle.art_walks.specs.MapReads.{PairsWithin}
+use Rattle.art_walks.specs.MapReads.{PairsWithin, of_tree}
 use Rattle.art_map.specs.Contents.{Contents}
 
 -- the part, for whose loss there is room, if there is one, and how many nodes were read to find it
@@ -25,15 +26,21 @@ module _ {K V : Type 0} (bytes : K → List ℕ) where
   ShrinksAtCut front pairs =
       (with_front (key_of bytes) front pairs ≡ [] → ⊥) × ShrinksWithout (key_of bytes) pairs front
 
-  -- So many nodes are counted where the pairs behind a prefix go: those that were read to find them, and those of their
+  -- so many nodes of the tree of the pairs are read to find those with a prefix; the greatest count stays
+  abbrev pub cut_reads : ℕ → List ℕ → List (K × V) → ℕ
+  cut_reads P front pairs =
+      min (of_tree (λ t. part_reads (key_of bytes) P t front) (tree_of (key_of bytes) pairs)) (2 ^ 64 - 1)
+
+  -- So many nodes are counted where the pairs with a prefix go: those that were read to find them, and those of their
   -- part, which are freed. The greatest count stays.
   abbrev pub cut_visits : List ℕ → List (K × V) → ℕ → ℕ
   cut_visits front pairs reads =
       min (reads + node_count (key_of bytes) (with_front (key_of bytes) front pairs)) (2 ^ 64 - 1)
 
   -- what is read to find them, and counted with what is freed
-  pub record AreCutVisits (front : List ℕ) (pairs : List (K × V)) (visits : ℕ) : Type 0 where
+  pub record AreCutVisits (P : ℕ) (front : List ℕ) (pairs : List (K × V)) (visits : ℕ) : Type 0 where
     pub reads : ℕ
+    pub exact : reads ≡ cut_reads P front pairs
     pub least : pairs ≢ [] → 1 ≤ reads
     pub none : pairs ≡ [] → reads ≡ 0
     pub few : (longest : ℕ) → PairsWithin bytes longest pairs → OpeningReads longest (length front) 0 reads

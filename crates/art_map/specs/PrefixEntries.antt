@@ -7,6 +7,7 @@ use Rattle.std.specs.Map.{set_value}
 use Rattle.std.specs.Option.{OnSome}
 use denote.Param.{number}
 use mir.Syntax.{named}
+use Rattle.art_arena.specs.arena.Arena.{HasRoom, KeepsRoomOf, UsesRoom}
 use Rattle.art_arena.specs.arena.Shapes.{key_of}
 use Rattle.art_bytes.specs.declared.as_bytes.AsBytes as as_bytes
 use Rattle.art_operations.specs.KeyedLists.{IsBlocked, overlapping}
@@ -16,6 +17,7 @@ use Rattle.art_map.specs.Contents.{Contents, IsKept}
 use Rattle.art_map.specs.LeafNames.{KeepsAllLeaves, KeepsLeaves}
 use Rattle.art_map.specs.Entries as entry
 use Rattle.art_map.specs.Overlapped.{lone_item, overlaps_query}
+use Rattle.art_map.specs.Room.{LeavesRoom}
 use Rattle.art_map.specs.declared.map.entry.OccupiedEntry.{OccupiedEntry}
 use Rattle.art_map.specs.declared.map.prefix_entry.InnerOccupiedEntry.{InnerOccupiedEntry}
 use Rattle.art_map.specs.declared.map.prefix_entry.PrefixEntry.{PrefixEntry}
@@ -38,13 +40,14 @@ module _ {K V : Type 0} {P : ℕ} {M : Type 0} where
   with_contents e m = record { map = record e.map { now = m }; key = e.key; mark = e.mark }
 
   -- n is the entry e, once w is the value of the only pair that an insertion would remove; each leaf has the key that
-  -- it had
+  -- it had, and room stays
   pub record IsWithLoneValue (bytes : K → List ℕ) (e : InnerOccupiedEntry K V P M) (w : V)
       (n : InnerOccupiedEntry K V P M) : Type 0 where
     pub same_map : n.map.ghost_name ≡ e.map.ghost_name
     pub key : n.key ≡ e.key
     pub pairs : n.map.now.pairs ≡ set_value (overlaps_query bytes (bytes e.key)) e.map.now.pairs w
     pub names : KeepsAllLeaves bytes e.map.now n.map.now
+    pub room : KeepsRoomOf e.map.now.nodes n.map.now.nodes
 
 module _ {K V : Type 0} {P : ℕ} {M : Type 0} {g : as_bytes.Ghosts K} where
   -- the entry of its own kind that a prefix entry is, where stored keys overlap its key
@@ -83,11 +86,13 @@ module _ {K V : Type 0} {P : ℕ} {M : Type 0} {g : as_bytes.Ghosts K} where
   prefix_value (Occupied o) = occupied_value (occupied_kind o)
   prefix_value (Vacant e) = None
 
-  -- a refusal is of a key that is not stored: it hands the key back, and a value that is one of these
+  -- a refusal is of a key that is not stored, where there was no room for two nodes: it hands the key back, and a value
+  -- that is one of these
   abbrev pub IsRefusedPrefix : {A : Type 0} → PrefixEntry K V P M g → (V → Type 0) → Result A (InsertRefused K V)
       → Type 0
   IsRefusedPrefix e Gives result =
-      IfErr result (λ refused. (prefix_value e ≡ None) × (refused.key ≡ prefix_key e) × Gives refused.value)
+      IfErr result (λ refused. (prefix_value e ≡ None) × (refused.key ≡ prefix_key e) × Gives refused.value
+      × (HasRoom (prefix_map e).now.nodes 2 → ⊥))
 
   -- the pairs of the map, once w is the value of the key
   abbrev pub occupied_pairs_with : PrefixOccupiedKind K V P M g → V → List (K × V)
@@ -116,6 +121,7 @@ module _ {K V : Type 0} {P : ℕ} {M : Type 0} {g : as_bytes.Ghosts K} where
     pub value : entry.entry_value (entry.Occupied d) ≡ Some w
     pub writes : (u : V) → entry.entry_pairs (entry.Occupied d) u ≡ with_pair_over g.bytes e.key u e.map.now.pairs
     pub names : KeepsLeaves g.bytes e.map.now d.map.now
+    pub room : UsesRoom 2 e.map.now.nodes d.map.now.nodes
 
   -- d is the entry, once w is the value of its key
   abbrev pub IsOccupiedWritten : PrefixOccupiedKind K V P M g → V → OccupiedEntry K V P M g → Type 0
@@ -177,16 +183,18 @@ module _ (K V : RattleType) (P : ℕ) (key : as_bytes.Ghosts K.Denot) where
       → MutBor T.Denot → (T.Denot → InnerOccupiedEntry K.Denot V.Denot P map_row.Denot) → Fml
   lends_from_inner T = Lends (inner.the_row (record { mir = named 1; lft = [] }) K V (number P) map_row key) T
 
-  -- once the borrow r ends, the map has the last value written through r under the entry's key, and each key that stays
-  -- has its leaf; where there is none, its pairs and nodes are as they were
+  -- once the borrow r ends, the map has the last value written through r under the entry's key, each key that stays has
+  -- its leaf, and all room stays or that of two nodes may be used; where there is no borrow, its pairs, nodes and room
+  -- are as they were
   abbrev pub lends_prefix : {E : Type 0} → PrefixEntry K.Denot V.Denot P map_row.Denot key
       → Result (MutBor V.Denot) E → Fml
   lends_prefix e r =
       LendsSoOk map_row V (prefix_map e) r
-      (λ n w. (n.pairs ≡ prefix_pairs_with e w) × KeepsLeaves key.bytes (prefix_map e).now n)
+      (λ n w. (n.pairs ≡ prefix_pairs_with e w) × KeepsLeaves key.bytes (prefix_map e).now n
+      × LeavesRoom (prefix_value e) (prefix_map e).now.nodes n.nodes)
       (IsKept (prefix_map e).now)
 
-  -- where r has no entry, the pairs and the nodes of the map are as they were
+  -- where r has no entry, the pairs, the nodes and the room of the map are as they were
   abbrev pub prefix_rests : {E : Type 0} → PrefixEntry K.Denot V.Denot P map_row.Denot key
       → Result (OccupiedEntry K.Denot V.Denot P map_row.Denot key) E → Fml
   prefix_rests e r =
@@ -197,7 +205,7 @@ module _ (K V : RattleType) (P : ℕ) (key : as_bytes.Ghosts K.Denot) where
       → Result (MutBor V.Denot) E → Fml
   lends_inner e r =
       LendsSoOk map_row V e.map r (λ n w. (n.pairs ≡ with_pair_over key.bytes e.key w e.map.now.pairs)
-      × KeepsLeaves key.bytes e.map.now n) (IsKept e.map.now)
+      × KeepsLeaves key.bytes e.map.now n × UsesRoom 2 e.map.now.nodes n.nodes) (IsKept e.map.now)
 
   abbrev pub inner_rests : {E : Type 0} → InnerOccupiedEntry K.Denot V.Denot P map_row.Denot
       → Result (OccupiedEntry K.Denot V.Denot P map_row.Denot key) E → Fml

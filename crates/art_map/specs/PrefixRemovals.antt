@@ -1,9 +1,10 @@
--- What a contract says of the removal of all keys behind a prefix.
-use Rattle.std.specs.Prelude.{ℕ, List, Result}
+-- What a contract says of the removal of all keys with a prefix.
+use Rattle.std.specs.Prelude.{◌≡◌, ℕ, List, Result}
 use Rattle.std.specs.Borrow.{Fml, RattleType, MutBor, RestsIfErr}
 use denote.Param.{number}
 use Rattle.art_bytes.specs.declared.as_bytes.AsBytes as as_bytes
-use Rattle.art_map.specs.Contents.{Contents, IsKept}
+use Rattle.art_arena.specs.arena.Arena.{KeepsRoom}
+use Rattle.art_map.specs.Contents.{Contents, HasSameNodes}
 use Rattle.art_map.specs.declared.map.prefix_removal.PrefixRemoval.{PrefixRemoval}
 use Rattle.art_map.specs.contracts.map.TreeMap as map
 
@@ -16,7 +17,7 @@ module _ {K V : Type 0} {P : ℕ} {M : Type 0} {g : as_bytes.Ghosts K} where
   abbrev pub removal_prefix : PrefixRemoval K V P M g → List ℕ
   removal_prefix r = r.front.items
 
-  -- how many nodes were read to find the keys behind it
+  -- how many nodes were read to find the keys with it
   abbrev pub removal_reads : PrefixRemoval K V P M g → ℕ
   removal_reads r = r.block.reads
 
@@ -25,8 +26,9 @@ module _ (K V : RattleType) (P : ℕ) (key : as_bytes.Ghosts K.Denot) where
   abbrev map_row : RattleType
   map_row = map.the_row K V (number P) key
 
-  -- where no removal is made ready, the map has the pairs that it had, and every node of it is what it was
+  -- where no removal is made ready, the map has the pairs that it had, every node of it is what it was, and room stays
   abbrev pub rests_if_unprepared : {E : Type 0} → MutBor (Contents K.Denot V.Denot)
       → Result (PrefixRemoval K.Denot V.Denot P map_row.Denot key) E → Fml
   rests_if_unprepared m r =
-      RestsIfErr map_row m (λ e. (removal_map e).ghost_name) r (IsKept m.now)
+      RestsIfErr map_row m (λ e. (removal_map e).ghost_name) r
+      (λ n. (n.pairs ≡ m.now.pairs) × HasSameNodes m.now n × KeepsRoom m.now.nodes n.nodes)

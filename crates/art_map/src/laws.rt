@@ -1,39 +1,42 @@
 //! The laws of what a look-up finds after a change, how many pairs there are then, and which, in the words of the
 //! contracts of `TreeMap`. Each function does nothing, and its contract is the law.
-#![tactic(auto, using(crate::proofs::FoundBehind::laws, crate::proofs::BehindChanges::change_laws, crate::proofs::EndedKeys::ended_laws))]
+#![tactic(auto, using(crate::proofs::FoundAfter::laws, crate::proofs::AfterChanges::change_laws, crate::proofs::PairChanges::pair_laws, crate::proofs::EndedKeys::ended_laws))]
 
 ghost use Rattle.std.specs.Prelude.{◌≡◌};
 ghost use Rattle.art_arena.specs.arena.Shapes.{key_of};
 ghost use Rattle.art_arena.specs.tree.Order.{AscendsByKey};
-ghost use Rattle.art_map.specs.Laws.{FoundBehindInsertion, FoundBehindPrefixInsertion, FoundBehindPrefixRemoval};
-ghost use Rattle.art_map.specs.Laws.{FoundBehindRemoval, FoundOfEndedKeys, FoundWithinBounds, FoundWithinPrefix};
-ghost use Rattle.art_map.specs.Laws.{FoundAmongRetained, FoundBehindInsertions, FoundBehindWrite};
-ghost use Rattle.art_map.specs.Laws.{LongBehindInsertion, LongBehindPrefixRemoval, LongBehindRemoval, LongBehindWrite};
-ghost use Rattle.art_map.specs.Laws.{FirstIsLeast, IsInBehindInsertion};
+ghost use Rattle.art_map.specs.Laws.{FoundAfterInsertion, FoundAfterPrefixInsertion, FoundAfterPrefixRemoval};
+ghost use Rattle.art_map.specs.Laws.{FoundAfterRemoval, FoundOfEndedKeys, FoundWithinBounds, FoundWithinPrefix};
+ghost use Rattle.art_map.specs.Laws.{FoundAmongRetained, FoundAfterInsertions, FoundAfterWrite};
+ghost use Rattle.art_map.specs.Laws.{LongAfterInsertion, LongAfterPrefixRemoval, LongAfterRemoval, LongAfterWrite};
+ghost use Rattle.art_map.specs.PairLaws.{LongAmongRetained, LongAfterInsertions, LongAfterPrefixInsertion};
+ghost use Rattle.art_map.specs.PairLaws.{IsInAmongRetained, IsInAfterInsertion, IsInAfterInsertions, IsInAfterWrite};
+ghost use Rattle.art_map.specs.PairLaws.{IsInAfterPrefixInsertion, IsInAfterPrefixRemoval, IsInAfterRemoval};
+ghost use Rattle.art_map.specs.PairLaws.{FirstIsLeast, FoundByKey, FoundByPrefix, LastIsGreatest};
 
 use crate::map::TreeMap;
 use art_bytes::AsBytes;
 
-/// After `insert`, `try_insert`, `put_at` and their like the bytes of the new key find its value. All others find what
-/// they found before.
-pub fn found_behind_insertion<K, V>()
-    ensures { FoundBehindInsertion K V }
+/// After `insert`, `try_insert`, `insert_at` and their like the bytes of the new key find its value. All others find
+/// what they found before.
+pub fn found_after_insertion<K, V>()
+    ensures { FoundAfterInsertion K V }
 {}
 
 /// After `remove` and `remove_entry` the bytes of the key find nothing. All others find what they found before.
-pub fn found_behind_removal<K, V>()
-    ensures { FoundBehindRemoval K V }
+pub fn found_after_removal<K, V>()
+    ensures { FoundAfterRemoval K V }
 {}
 
 /// After `prefix_insert` the bytes of the new key find its value, and all others that overlap them find nothing. The
 /// rest find what they found before.
-pub fn found_behind_prefix_insertion<K, V>()
-    ensures { FoundBehindPrefixInsertion K V }
+pub fn found_after_prefix_insertion<K, V>()
+    ensures { FoundAfterPrefixInsertion K V }
 {}
 
 /// After `remove_prefix` the bytes that begin with the prefix find nothing. All others find what they found before.
-pub fn found_behind_prefix_removal<K, V>()
-    ensures { FoundBehindPrefixRemoval K V }
+pub fn found_after_prefix_removal<K, V>()
+    ensures { FoundAfterPrefixRemoval K V }
 {}
 
 /// Among the pairs of `prefix` the bytes that begin with the prefix find what they find in the map, and all others find
@@ -49,14 +52,14 @@ pub fn found_within_bounds<K, V>()
 
 /// After a value is written through `get_mut` the bytes of its key find that value, if they found one. All others find
 /// what they found before.
-pub fn found_behind_write<K, V>()
-    ensures { FoundBehindWrite K V }
+pub fn found_after_write<K, V>()
+    ensures { FoundAfterWrite K V }
 {}
 
 /// After `extend`, `append` and their like bytes find the value of the last pair with that key of those that were put
 /// in. If there is none, they find what they found before.
-pub fn found_behind_insertions<K, V>()
-    ensures { FoundBehindInsertions K V }
+pub fn found_after_insertions<K, V>()
+    ensures { FoundAfterInsertions K V }
 {}
 
 /// Among the pairs that pass a test of their bytes and value, bytes find the value that they find in the map, if that
@@ -67,33 +70,99 @@ pub fn found_among_retained<K, V>()
 {}
 
 /// After an insertion a map has one pair more, unless the key was stored.
-pub fn long_behind_insertion<K, V>()
-    ensures { LongBehindInsertion K V }
+pub fn long_after_insertion<K, V>()
+    ensures { LongAfterInsertion K V }
 {}
 
 /// After a removal a map has one pair less, if the key was stored.
-pub fn long_behind_removal<K, V>()
-    ensures { LongBehindRemoval K V }
+pub fn long_after_removal<K, V>()
+    ensures { LongAfterRemoval K V }
 {}
 
 /// The pairs that begin with a prefix and the others are all pairs.
-pub fn long_behind_prefix_removal<K, V>()
-    ensures { LongBehindPrefixRemoval K V }
+pub fn long_after_prefix_removal<K, V>()
+    ensures { LongAfterPrefixRemoval K V }
 {}
 
 /// After a value is written a map has as many pairs as before.
-pub fn long_behind_write<K, V>()
-    ensures { LongBehindWrite K V }
+pub fn long_after_write<K, V>()
+    ensures { LongAfterWrite K V }
 {}
 
-/// After an insertion each pair is the new one, or was there under other bytes.
-pub fn is_in_behind_insertion<K, V>()
-    ensures { IsInBehindInsertion K V }
+/// After a prefix insertion a map has one pair more, and those less that the key overlaps.
+pub fn long_after_prefix_insertion<K, V>()
+    ensures { LongAfterPrefixInsertion K V }
+{}
+
+/// After `extend`, `append` and their like a map has more pairs by the number of different keys that were put in and
+/// were not stored.
+pub fn long_after_insertions<K, V>()
+    ensures { LongAfterInsertions K V }
+{}
+
+/// The pairs that pass a test and the others are all pairs. So it is where `retain` keeps those that pass, and where a
+/// walk gives those of a range.
+pub fn long_among_retained<K, V>()
+    ensures { LongAmongRetained K V }
+{}
+
+/// After an insertion the pairs are the new one and those that were there under other bytes.
+pub fn is_in_after_insertion<K, V>()
+    ensures { IsInAfterInsertion K V }
+{}
+
+/// After a removal the pairs are those that were there under other bytes.
+pub fn is_in_after_removal<K, V>()
+    ensures { IsInAfterRemoval K V }
+{}
+
+/// After a prefix insertion the pairs are the new one and those that were there under bytes that its key doesn't
+/// overlap.
+pub fn is_in_after_prefix_insertion<K, V>()
+    ensures { IsInAfterPrefixInsertion K V }
+{}
+
+/// After `remove_prefix` the pairs are those that were there under bytes that don't begin with the prefix.
+pub fn is_in_after_prefix_removal<K, V>()
+    ensures { IsInAfterPrefixRemoval K V }
+{}
+
+/// After a value is written the pair of its key has that value. The others are those that were there under other bytes.
+pub fn is_in_after_write<K, V>()
+    ensures { IsInAfterWrite K V }
+{}
+
+/// After `extend`, `append` and their like the pairs are the last of each key of those that were put in, and those that
+/// were there under bytes that no new key has.
+pub fn is_in_after_insertions<K, V>()
+    ensures { IsInAfterInsertions K V }
+{}
+
+/// Among the pairs that pass a test are those of the map that pass it. So it is where `retain` keeps these, and where a
+/// walk gives those of a range or of a prefix.
+pub fn is_in_among_retained<K, V>()
+    ensures { IsInAmongRetained K V }
 {}
 
 /// The key of the first pair comes before all others.
 pub fn first_is_least<K, V>()
     ensures { FirstIsLeast K V }
+{}
+
+/// The key of the last pair comes after all others.
+pub fn last_is_greatest<K, V>()
+    ensures { LastIsGreatest K V }
+{}
+
+/// `get_key_value` and its like find a pair exactly if it is in the map and its key has the bytes.
+pub fn found_by_key<K, V>()
+    ensures { FoundByKey K V }
+{}
+
+/// `prefix_get_key_value` and its like find a pair exactly if it is in the map and its key begins the bytes, or equals
+/// them.
+pub fn found_by_prefix<K, V>()
+    ensures { FoundByPrefix K V }
 {}
 
 /// If keys end with a zero and have no other, as those of `ZeroEnded`, the bytes with a zero at their end find what the

@@ -1,6 +1,6 @@
 //! The map itself: what it keeps, how it is made, and its length.
 ghost use Rattle.std.specs.Prelude.{◌≡◌, ◌==◌, [], length};
-ghost use Rattle.art_arena.specs.arena.Arena.{KeepsRoom};
+ghost use Rattle.art_arena.specs.arena.Arena.{KeepsRoom, KeepsRoomOf};
 ghost use Rattle.art_arena.specs.arena.Shapes.{key_of};
 ghost use Rattle.art_arena.specs.tree.Order.{AscendsByKey};
 ghost use Rattle.art_operations.specs.Runs.{HoldsTreeOf};
@@ -11,6 +11,7 @@ mod bulk;
 mod changes;
 mod clones;
 mod collects;
+mod compact;
 mod compared;
 mod end_entries;
 pub mod entry;
@@ -145,6 +146,7 @@ impl<K: AsBytes, V, const PREFIX_LEN: usize> TreeMap<K, V, PREFIX_LEN> {
         V: Drop,
         ensures pairs { self.new.pairs ≡ [] }
         ensures room { KeepsRoom self.old.nodes self.new.nodes }
+        ensures room_of { KeepsRoomOf self.old.nodes self.new.nodes }
     {
         self.root = None;
         self.arena.clear();

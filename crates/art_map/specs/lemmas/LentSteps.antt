@@ -20,12 +20,12 @@ use Rattle.art_arena.proofs.shapes.Subtrees.{cell_held}
 use Rattle.art_arena.proofs.tree.Order.{all_left, all_right}
 use Rattle.art_operations.specs.Pairs.{IsAtEnd}
 use Rattle.art_walks.specs.Runs.{Ends, HasEnds, IsWalk}
-use Rattle.art_walks.specs.Walked.{AreStored, IsCounted, ends_behind, leaves_left}
+use Rattle.art_walks.specs.Walked.{AreStored, IsCounted, ends_after, leaves_left}
 use Rattle.art_walks.proofs.RunLengths.{measured, recounted}
 use Rattle.art_walks.proofs.RunSteps.{eqb-apart, front-alone, front-step, back-alone, back-step, once_in}
 use Rattle.art_map.specs.Contents.{Contents}
 use Rattle.art_map.specs.Lends.{with_value_at}
-use Rattle.art_map.specs.LentRuns.{before_last, behind_first, ends_before, left_at, slot_at, IsRunIn, with_lent_value}
+use Rattle.art_map.specs.LentRuns.{before_last, after_first, ends_before, left_at, slot_at, IsRunIn, with_lent_value}
 
 module _ {X : Type 0} where
   -- the item at an end of a list, and the others
@@ -75,10 +75,10 @@ module _ {K V : Type 0} where
 
 module _ {K V : Type 0} (links : ℕ → Option Links) (a b : ℕ) (l : LeafAt K V) (ys : List (LeafAt K V)) where
   -- what is left of a walk, told by the links
-  front-walk : IsWalk links (Some (a, b)) (l ∷ ys) → IsWalk links (behind_first links (Some (a, b))) ys
+  front-walk : IsWalk links (Some (a, b)) (l ∷ ys) → IsWalk links (after_first links (Some (a, b))) ys
   front-walk walk = here (eqb a b) refl
     where
-      here : (t : Bool) → eqb a b ≡ t → IsWalk links (cond t None (ends_behind (links a) b)) ys
+      here : (t : Bool) → eqb a b ≡ t → IsWalk links (cond t None (ends_after (links a) b)) ys
       here true e = front-alone links a b l ys walk (eqb-true a b e)
       here false e = let step = front-step links a b l ys walk (eqb-apart a b e) in rw step.2 step.3
 

@@ -4,33 +4,34 @@ ghost use Rattle.std.specs.Prelude.{IfErr, IfOk, IsOk, MatchResult, OnErr, OnOk}
 ghost use Rattle.std.specs.Iterator.{IsFinite};
 ghost use Rattle.std.specs.List.{AllByRecursion};
 ghost use Rattle.std.specs.Map.Iter.{deref_pair};
-ghost use Rattle.art_arena.specs.arena.Arena.{HasRoom, UsesRoom};
+ghost use Rattle.art_arena.specs.arena.Arena.{HasRoom, KeepsRoomOf, UsesRoom};
 ghost use Rattle.art_arena.specs.arena.Shapes.{key_of};
 ghost use Rattle.art_operations.specs.Builders.{Builds, HasRoomBeside};
 ghost use Rattle.art_operations.specs.Insertions.{HandsPairBack, IsForConflict, IsPairRefused};
 ghost use Rattle.art_operations.specs.KeyedLists.{HasKey, IsBlocked};
 ghost use Rattle.art_operations.specs.LeafNames.{HasLeavesOf};
 ghost use Rattle.art_operations.specs.Pairs.{with_pair_put};
-ghost use Rattle.art_map.specs.Builders.{GathersWith, HasGathered, HasGatheredInOrder, HasRoomLeft, nodes_of};
+ghost use Rattle.art_map.specs.Builders.{GathersWith, HasGathered, HasGatheredInOrder, HasRoomLeft, KeepsRoomLeft};
+ghost use Rattle.art_map.specs.Builders.{nodes_of};
 ghost use Rattle.art_map.specs.inner.Pushes.{pair_handed_back};
 
 use crate::map::TreeMap;
 use art_arena::NodeArena;
 use art_bytes::{AsBytes, NoPrefixesBytes};
-use art_nodes::known;
+use art_nodes::assume_proved;
 use art_operations::{InsertRefused, PairRefused, PushRefused, SpineRoom, TreeBuilder};
 use std::alloc::Global;
 use std::mem;
 
-// So many pairs are inserted before the first look whether keys go behind the last again.
+// So many pairs are inserted before the first look whether keys go after the last again.
 const FIRST_PAUSE: usize = 8;
 
 // Each look doubles their number, up to this one.
 const LONGEST_PAUSE: usize = 1024;
 
-/// A map in the making, which takes pairs one after another. As long as each key goes behind the last, no place is
+/// A map in the making, which takes pairs one after another. As long as each key goes after the last, no place is
 /// looked for, and an inner node is made once, with all its children. From the first that doesn't, pairs are inserted.
-/// Eight pairs later it looks whether keys go behind the last again, and so no place is looked for again, until one
+/// Eight pairs later it looks whether keys go after the last again, and so no place is looked for again, until one
 /// doesn't. Each look doubles the number of pairs that are inserted before the next one, up to 1024.
 ///
 /// Where there is no memory to go on without a search, it inserts the pair instead. So a pair is refused only if an
@@ -48,7 +49,7 @@ const LONGEST_PAUSE: usize = 1024;
 #[derive(Drop)]
 pub struct TreeMapBuilder<K: AsBytes, V, const PREFIX_LEN: usize> {
     alloc: Global,
-    // Whether keys go behind the last. If one didn't, the map has the pairs.
+    // Whether keys go after the last. If one didn't, the map has the pairs.
     in_order: bool,
     // If not, so many pairs are inserted before the next look,
     wait: usize,
@@ -150,6 +151,9 @@ impl<K: AsBytes + Drop, V: Drop, const PREFIX_LEN: usize> TreeMapBuilder<K, V, P
         ensures names { HasLeavesOf K.bytes (nodes_of self.new) (nodes_of self.old) }
         ensures succeeds { IfErr result (λ e. HasRoomLeft self.old 2 → IsForConflict e) }
         ensures room { (n : ℕ) → HasRoomLeft self.old (n + 2) → HasRoomLeft self.new n }
+        ensures kept_room { OnErr result (KeepsRoomLeft self.old self.new) }
+        ensures stored_room { (pairs : List (K × V)) → HasGathered K.bytes K.is_key self.old pairs
+            → HasKey (key_of K.bytes) (K.bytes key) pairs → KeepsRoomLeft self.old self.new }
         ensures keys { (pairs : List (K × V)) → HasGathered K.bytes K.is_key self.old pairs
             → AllByRecursion (λ p. K.is_key p.0) pairs }
         ensures key { K.is_key key }
@@ -158,7 +162,7 @@ impl<K: AsBytes + Drop, V: Drop, const PREFIX_LEN: usize> TreeMapBuilder<K, V, P
         self.put_on(key, value)
     }
 
-    // Takes a pair behind the last one, where keys go there and there is memory for that, or inserts it.
+    // Takes a pair after the last one, where keys go there and there is memory for that, or inserts it.
     fn put_on(&mut self, key: K, value: V) -> Result<(), PairRefused<K, V>>
         requires fits_in_memory { PREFIX_LEN < 2 ^ 62 }
         requires taken { (pairs : List (K × V)) × HasGathered K.bytes K.is_key self.old pairs }
@@ -175,12 +179,15 @@ impl<K: AsBytes + Drop, V: Drop, const PREFIX_LEN: usize> TreeMapBuilder<K, V, P
         ensures names { HasLeavesOf K.bytes (nodes_of self.new) (nodes_of self.old) }
         ensures succeeds { IfErr result (λ e. HasRoomLeft self.old 2 → IsForConflict e) }
         ensures room { (n : ℕ) → HasRoomLeft self.old (n + 2) → HasRoomLeft self.new n }
+        ensures kept_room { OnErr result (KeepsRoomLeft self.old self.new) }
+        ensures stored_room { (pairs : List (K × V)) → HasGathered K.bytes K.is_key self.old pairs
+            → HasKey (key_of K.bytes) (K.bytes key) pairs → KeepsRoomLeft self.old self.new }
         ensures keys { (pairs : List (K × V)) → HasGathered K.bytes K.is_key self.old pairs
             → AllByRecursion (λ p. K.is_key p.0) pairs }
         ensures key { K.is_key key }
     {
         // Its bytes tell that it is a key.
-        let _known = key.as_bytes();
+        let _key_bytes = key.as_bytes();
         if !self.in_order {
             return self.insert(key, value);
         }
@@ -194,8 +201,8 @@ impl<K: AsBytes + Drop, V: Drop, const PREFIX_LEN: usize> TreeMapBuilder<K, V, P
         }
     }
 
-    // Where pairs are inserted, looks after a pause whether keys go behind the last again, as this one does. Then the
-    // map's tree is opened again, and pairs go on behind its last one. The next pause is twice as long, up to a limit.
+    // Where pairs are inserted, looks after a pause whether keys go after the last again, as this one does. Then the
+    // map's tree is opened again, and pairs go on after its last one. The next pause is twice as long, up to a limit.
     // The builder has the pairs that it had.
     #[inline]
     fn resume(&mut self, key: &[u8])
@@ -251,6 +258,9 @@ impl<K: AsBytes + Drop, V: Drop, const PREFIX_LEN: usize> TreeMapBuilder<K, V, P
         ensures names { HasLeavesOf K.bytes self.new.map.nodes self.old.map.nodes }
         ensures succeeds { IfErr result (λ e. HasRoom self.old.map.nodes 2 → IsForConflict e) }
         ensures room { UsesRoom 2 self.old.map.nodes self.new.map.nodes }
+        ensures kept_room { OnErr result (KeepsRoomOf self.old.map.nodes self.new.map.nodes) }
+        ensures stored_room { HasKey (key_of K.bytes) (K.bytes key) self.old.map.pairs
+            → KeepsRoomOf self.old.map.nodes self.new.map.nodes }
         ensures keys { AllByRecursion (λ p. K.is_key p.0) self.old.map.pairs }
         ensures key { K.is_key key }
     {
@@ -343,7 +353,7 @@ impl<K: NoPrefixesBytes + Drop, V: Drop, const PREFIX_LEN: usize> TreeMapBuilder
     /// Takes a pair. It replaces a pair whose key has the same bytes.
     ///
     /// Fails only if an insertion of the pair would be out of memory, and never if it has the key. The error returns
-    /// the pair, and the builder has the pairs that it had.
+    /// the pair, and the builder has the pairs that it had. Neither uses up room.
     ///
     /// ```
     /// let mut builder: TreeMapBuilder<_, _, 16> = TreeMapBuilder::new(rt.alloc());
@@ -365,12 +375,15 @@ impl<K: NoPrefixesBytes + Drop, V: Drop, const PREFIX_LEN: usize> TreeMapBuilder
         ensures names { HasLeavesOf K.bytes (nodes_of self.new) (nodes_of self.old) }
         ensures succeeds { HasRoomLeft self.old 2 → IsOk result }
         ensures room { (n : ℕ) → HasRoomLeft self.old (n + 2) → HasRoomLeft self.new n }
+        ensures kept_room { OnErr result (KeepsRoomLeft self.old self.new) }
+        ensures stored_room { (pairs : List (K × V)) → HasGathered K.bytes K.is_key self.old pairs
+            → HasKey (key_of K.bytes) (K.bytes key) pairs → KeepsRoomLeft self.old self.new }
     {
         match self.try_put(key, value) {
             Ok(()) => Ok(()),
             Err(PairRefused::Memory { key, value }) => Err(InsertRefused { key, value }),
             Err(PairRefused::Conflict { .. }) => {
-                known(false);
+                assume_proved(false);
                 unreachable!()
             }
         }
@@ -382,7 +395,7 @@ fn handed_back<K, V>(refused: PushRefused<K, V>) -> (K, V)
     ensures { result ≡ pair_handed_back refused }
 {
     match refused {
-        PushRefused::NotBehind { key, value } | PushRefused::Memory { key, value } => (key, value),
+        PushRefused::NotAfter { key, value } | PushRefused::Memory { key, value } => (key, value),
     }
 }
 
@@ -420,12 +433,17 @@ impl<K: AsBytes + Drop, V: Drop, const PREFIX_LEN: usize> TreeMap<K, V, PREFIX_L
         requires taken { (pairs : List (K × V)) × HasGathered K.bytes K.is_key builder pairs }
         ensures pairs { (pairs : List (K × V)) → HasGathered K.bytes K.is_key builder pairs → self.new.pairs ≡ pairs }
         ensures names { HasLeavesOf K.bytes self.new.nodes (nodes_of builder) }
+        ensures room { (n : ℕ) → HasRoomLeft builder n → HasRoom self.new.nodes n }
     {
         *self = builder.finish();
     }
 
     // The map of the pairs of which a tree is being built.
-    fn of_tree(alloc: Global, arena: NodeArena<K, V, PREFIX_LEN>, builder: TreeBuilder) -> Self
+    pub(super) fn of_tree(
+        alloc: Global,
+        arena: NodeArena<K, V, PREFIX_LEN>,
+        builder: TreeBuilder,
+    ) -> Self
         requires fits_in_memory { PREFIX_LEN < 2 ^ 62 }
         requires builds { (pairs : List (K × V)) × Builds K.bytes PREFIX_LEN arena builder pairs
             × AllByRecursion (λ p. K.is_key p.0) pairs }

@@ -1,10 +1,11 @@
 //! Maps that are made of many pairs, and many pairs that are inserted one after another.
-ghost use Rattle.std.specs.Prelude.{◌≡◌, [], IfErr, IfOk};
+ghost use Rattle.std.specs.Prelude.{◌≡◌, ◌<◌, ◌^◌, [], IfErr, IfOk};
 ghost use Rattle.std.specs.Iterator.{IsFinite};
 ghost use Rattle.std.specs.Map.Iter.{deref_pair};
-ghost use Rattle.art_arena.specs.arena.Arena.{HasRoom};
+ghost use Rattle.art_arena.specs.arena.Shapes.{key_of};
+ghost use Rattle.art_operations.specs.KeyedLists.{HasKey};
 ghost use Rattle.art_map.specs.Asked.{with_pairs_put};
-ghost use Rattle.art_map.specs.Bulk.{ExtendsWith, IsMadeOf, IsOfList};
+ghost use Rattle.art_map.specs.Bulk.{ExtendsWith, IsFirstOfList, IsMadeOf};
 ghost use Rattle.art_map.specs.LeafNames.{KeepsAllLeaves};
 
 use crate::map::TreeMap;
@@ -16,11 +17,12 @@ use std::alloc::Global;
 
 impl<K: NoPrefixesBytes + Drop, V: Drop, const PREFIX_LEN: usize> TreeMap<K, V, PREFIX_LEN> {
     /// Inserts the pairs that an iterator gives, one after another. Each replaces a pair whose key has the same bytes.
-    /// The iterator has to end. As long as keys go behind the last one of the map, no place is looked for: from the
+    /// The iterator has to end. As long as keys go after the last one of the map, no place is looked for: from the
     /// ninth pair on, or from the first one if the map is empty. See `TreeMapBuilder`.
     ///
     /// Fails only if an insertion of a pair would be out of memory, and so never with as many pairs as `reserve` made
-    /// room for. The error returns that pair. The pairs before it stay in the map, and the iterator is dropped.
+    /// room for. The error returns that pair, whose key is not stored if nodes fit in memory (`nodes_fit`). The pairs
+    /// before it stay in the map, and the iterator is dropped.
     ///
     /// ```
     /// let mut map = TreeMap::new(rt.alloc());
@@ -35,7 +37,9 @@ impl<K: NoPrefixesBytes + Drop, V: Drop, const PREFIX_LEN: usize> TreeMap<K, V, 
             → U.IntoIter.can_next it × IsFinite (U.IntoIter.remaining it) }
         ensures names { KeepsAllLeaves K.bytes self.old self.new }
         ensures pairs { ExtendsWith K.bytes (λ pair. pair) U.into_iter_gives U.IntoIter.next_gives iter
-            (HasRoom self.old.nodes) self.old.pairs result self.new.pairs }
+            self.old result self.new }
+        ensures stored { PREFIX_LEN < 2 ^ 62
+            → IfErr result (λ e. HasKey (key_of K.bytes) (K.bytes e.key) self.new.pairs → ⊥) }
     {
         if !self.fits_in_memory() {
             let mut pairs = iter.into_iter();
@@ -70,7 +74,9 @@ impl<K: NoPrefixesBytes + Drop, V: Drop, const PREFIX_LEN: usize> TreeMap<K, V, 
             → U.IntoIter.can_next it × IsFinite (U.IntoIter.remaining it) }
         ensures names { KeepsAllLeaves K.bytes self.old self.new }
         ensures pairs { ExtendsWith K.bytes deref_pair U.into_iter_gives U.IntoIter.next_gives iter
-            (HasRoom self.old.nodes) self.old.pairs result self.new.pairs }
+            self.old result self.new }
+        ensures stored { PREFIX_LEN < 2 ^ 62
+            → IfErr result (λ e. HasKey (key_of K.bytes) (K.bytes e.key) self.new.pairs → ⊥) }
     {
         if !self.fits_in_memory() {
             let mut pairs = iter.into_iter();
@@ -120,7 +126,8 @@ impl<K: NoPrefixesBytes + Drop, V: Drop, const PREFIX_LEN: usize> TreeMap<K, V, 
     /// Makes a map of the pairs of a vector, as `from_iter` does. Of pairs whose keys have the same bytes the last
     /// counts.
     ///
-    /// Fails if there is no memory for a pair, which the error returns. All else is dropped.
+    /// Fails if there is no memory for a pair, which the error returns. It is the first with its key. All else is
+    /// dropped.
     ///
     /// ```
     /// let pairs = vec![in rt.alloc(); (*b"cd", 2), (*b"ab", 1)]?;
@@ -129,7 +136,7 @@ impl<K: NoPrefixesBytes + Drop, V: Drop, const PREFIX_LEN: usize> TreeMap<K, V, 
     /// ```
     pub fn from_vec(alloc: Global, pairs: Vec<(K, V)>) -> Result<Self, InsertRefused<K, V>>
         ensures ok { IfOk result (λ made. made.pairs ≡ with_pairs_put K.bytes pairs.items []) }
-        ensures err { IfErr result (IsOfList pairs.items) }
+        ensures err { IfErr result (IsFirstOfList K.bytes pairs.items) }
     {
         TreeMap::from_iter(alloc, pairs)
     }

@@ -1,7 +1,9 @@
 //! Insertions: of a pair whose key overlaps no other, in place of an equal key, or in place of all that overlap.
-ghost use Rattle.std.specs.Prelude.{◌≡◌, ℕ, List, [], length, IfOk, IfErr, IsOk, OnErr, OnOk};
+ghost use Rattle.std.specs.Prelude.{◌≡◌, ℕ, List, [], length, None, Some, IfOk, IfErr, IsOk, MatchResult, OnErr};
+ghost use Rattle.std.specs.Prelude.{OnOk};
 ghost use Rattle.std.specs.List.{AllByRecursion};
-ghost use Rattle.art_arena.specs.arena.Arena.{HasRoom, UsesRoom};
+ghost use Rattle.std.specs.Map.{set_value};
+ghost use Rattle.art_arena.specs.arena.Arena.{HasRoom, KeepsRoomOf, UsesRoom};
 ghost use Rattle.art_arena.specs.arena.Shapes.{key_of};
 ghost use Rattle.art_operations.specs.Insertions.{HandsPairBack, IsForConflict, IsPairRefused};
 ghost use Rattle.art_operations.specs.KeyedLists.{HasKey, IsBlocked, overlapping};
@@ -14,11 +16,12 @@ use crate::map::TreeMap;
 use crate::map::refused::TryInsertError;
 use art_arena::LeafPtr;
 use art_bytes::{AsBytes, NoPrefixesBytes};
-use art_nodes::{LeafNode, known};
+use art_nodes::{LeafNode, assume_proved};
 use art_operations::{
     InsertPoint, InsertPrefixError, InsertRefused, KeyPrefix, PairRefused, PrefixConflict,
-    find_place, insert_pair, put_pair,
+    find_place, insert_at, insert_pair,
 };
+use std::mem::replace;
 
 // The pair of a leaf, if there is one.
 #[inline(always)]
@@ -43,7 +46,7 @@ impl<K: AsBytes, V, const PREFIX_LEN: usize> TreeMap<K, V, PREFIX_LEN> {
     ghost use Rattle.art_operations.specs.Pairs.{IsPlaced};
     ghost use Rattle.art_map.specs.Found.{IsFound};
 
-    /// Finds where a key with the query's bytes goes, for `put_at`. It allocates nothing.
+    /// Finds where a key with the query's bytes goes, for `insert_at`. It allocates nothing.
     ///
     /// Fails if the key is a prefix of a stored key, or a stored key is a prefix of it. The error names the part of the
     /// tree that has these keys.
@@ -51,11 +54,11 @@ impl<K: AsBytes, V, const PREFIX_LEN: usize> TreeMap<K, V, PREFIX_LEN> {
     /// ```
     /// let mut map = TreeMap::new(rt.alloc());
     /// map.try_insert(StrKey("ab"), 1)?;
-    /// assert!(rt; map.place(&StrKey("cd")).is_ok());
-    /// assert!(rt; map.place(&StrKey("abc")).is_err());
+    /// assert!(rt; map.find_place(&StrKey("cd")).is_ok());
+    /// assert!(rt; map.find_place(&StrKey("abc")).is_err());
     /// ```
     #[inline(always)]
-    pub fn place<Q: AsBytes>(&self, key: &Q) -> Result<Option<InsertPoint>, PrefixConflict>
+    pub fn find_place<Q: AsBytes>(&self, key: &Q) -> Result<Option<InsertPoint>, PrefixConflict>
         ensures placed { IsPlaced K.bytes PREFIX_LEN self.now.nodes (Q.bytes key.now) result self.now.pairs [] }
         ensures place { IfOk result (IsPlaceFor K.bytes PREFIX_LEN self.now.nodes self.now.root (Q.bytes key.now)) }
         ensures part { IfErr result
@@ -81,21 +84,21 @@ impl<K: AsBytes, V, const PREFIX_LEN: usize> TreeMap<K, V, PREFIX_LEN> {
         }
     }
 
-    /// Inserts a pair at the place that `place` found for its key in this map as it is. It replaces a pair whose key
-    /// has the same bytes, and returns that pair's value.
+    /// Inserts a pair at the place that `find_place` found for its key in this map as it is. It replaces a pair whose
+    /// key has the same bytes, and returns that pair's value.
     ///
-    /// Fails only if out of memory, and never if the key is stored. The error returns the pair. The map and its nodes
-    /// are unchanged then, so the place is still right.
+    /// Fails only if out of memory, and never if the key is stored or the nodes have room for two more. The error
+    /// returns the pair. The map and its nodes are unchanged then, so the place is still right.
     ///
     /// ```
     /// let mut map = TreeMap::new(rt.alloc());
-    /// if let Ok(place) = map.place(&StrKey("ab")) {
-    ///     map.put_at(place, StrKey("ab"), 1)?;
+    /// if let Ok(place) = map.find_place(&StrKey("ab")) {
+    ///     map.insert_at(place, StrKey("ab"), 1)?;
     /// }
     /// assert_eq!(rt; map.get(&StrKey("ab")), Some(&1));
     /// ```
     #[inline(always)]
-    pub fn put_at(
+    pub fn insert_at(
         &mut self,
         place: Option<InsertPoint>,
         key: K,
@@ -111,14 +114,50 @@ impl<K: AsBytes, V, const PREFIX_LEN: usize> TreeMap<K, V, PREFIX_LEN> {
         ensures err { OnErr result (self.new.pairs ≡ self.old.pairs) }
         ensures kept { OnErr result (IsUntouched self.old self.new) }
         ensures handed_back { HandsPairBack key value result }
+        ensures succeeds { HasRoom self.old.nodes 2 → IsOk result }
+        ensures room { UsesRoom 2 self.old.nodes self.new.nodes }
+        ensures stored_room { HasKey (key_of K.bytes) (K.bytes key) self.old.pairs
+            → KeepsRoomOf self.old.nodes self.new.nodes }
     {
-        let (_leaf, old) = self.put_leaf_at(place, key, value)?;
+        let (_leaf, old) = self.insert_leaf_at(place, key, value)?;
         Ok(old)
     }
 
-    // Inserts a pair as `put_at` does, and returns its leaf too.
+    /// Replaces the value at the place that `find_place` found for a key in this map as it is, and returns the old one.
+    /// If the key is not stored, it returns the value that was passed. It copies no key, and allocates nothing.
+    ///
+    /// ```
+    /// let mut map = TreeMap::new(rt.alloc());
+    /// map.try_insert(StrKey("ab"), 1)?;
+    /// if let Ok(place) = map.find_place(&StrKey("ab")) {
+    ///     assert_eq!(rt; map.replace_at(&place, 2), Ok(1));
+    /// }
+    /// assert_eq!(rt; map.get(&StrKey("ab")), Some(&2));
+    /// ```
+    pub fn replace_at(&mut self, place: &Option<InsertPoint>, value: V) -> Result<V, V>
+        requires { (key : List ℕ) × IsPlaceFor K.bytes PREFIX_LEN self.old.nodes self.old.root key place.now }
+        ensures value { (key : List ℕ) → IsPlaceFor K.bytes PREFIX_LEN self.old.nodes self.old.root key place.now
+            → MatchResult result (λ old. found_value K.bytes key self.old.pairs ≡ Some old)
+            (λ back. (found_value K.bytes key self.old.pairs ≡ None) × (back ≡ value)) }
+        ensures pairs { OnOk result ((key : List ℕ)
+            → IsPlaceFor K.bytes PREFIX_LEN self.old.nodes self.old.root key place.now
+            → self.new.pairs ≡ set_value (has_bytes K.bytes key) self.old.pairs value) }
+        ensures names { OnOk result (KeepsAllLeaves K.bytes self.old self.new) }
+        ensures room { OnOk result (KeepsRoomOf self.old.nodes self.new.nodes) }
+        ensures same { OnErr result (self.new ≡ self.old) }
+    {
+        match self.stored_at(place) {
+            Some(leaf) => {
+                let (_key, stored) = self.pair_mut_at(leaf);
+                Ok(replace(stored, value))
+            }
+            None => Err(value),
+        }
+    }
+
+    // Inserts a pair as `insert_at` does, and returns its leaf too.
     #[inline(always)]
-    pub(super) fn put_leaf_at(
+    pub(super) fn insert_leaf_at(
         &mut self,
         place: Option<InsertPoint>,
         key: K,
@@ -135,9 +174,13 @@ impl<K: AsBytes, V, const PREFIX_LEN: usize> TreeMap<K, V, PREFIX_LEN> {
         ensures err { OnErr result (self.new.pairs ≡ self.old.pairs) }
         ensures kept { OnErr result (IsUntouched self.old self.new) }
         ensures handed_back { HandsPairBack key value result }
+        ensures succeeds { HasRoom self.old.nodes 2 → IsOk result }
+        ensures room { UsesRoom 2 self.old.nodes self.new.nodes }
+        ensures stored_room { HasKey (key_of K.bytes) (K.bytes key) self.old.pairs
+            → KeepsRoomOf self.old.nodes self.new.nodes }
     {
-        let _known = key.as_bytes();
-        match put_pair(&mut self.arena, place, key, value) {
+        let _key_bytes = key.as_bytes();
+        match insert_at(&mut self.arena, place, key, value) {
             Ok(put) => {
                 self.root = Some(put.new_root);
                 let leaf = put.leaf_node_ptr;
@@ -148,7 +191,7 @@ impl<K: AsBytes, V, const PREFIX_LEN: usize> TreeMap<K, V, PREFIX_LEN> {
     }
 
     // Inserts a pair at the place that is remembered for its key, and returns its leaf.
-    pub(super) fn put_leaf(
+    pub(super) fn insert_leaf(
         &mut self,
         place: Option<InsertPoint>,
         key: K,
@@ -164,9 +207,11 @@ impl<K: AsBytes, V, const PREFIX_LEN: usize> TreeMap<K, V, PREFIX_LEN> {
         ensures err { OnErr result (self.new.pairs ≡ self.old.pairs) }
         ensures kept { OnErr result (IsUntouched self.old self.new) }
         ensures handed_back { HandsPairBack key value result }
+        ensures succeeds { HasRoom self.old.nodes 2 → IsOk result }
+        ensures room { UsesRoom 2 self.old.nodes self.new.nodes }
     {
         let _opened = &self.root;
-        let (leaf, _old) = self.put_leaf_at(place, key, value)?;
+        let (leaf, _old) = self.insert_leaf_at(place, key, value)?;
         Ok(leaf)
     }
 
@@ -185,10 +230,12 @@ impl<K: AsBytes, V, const PREFIX_LEN: usize> TreeMap<K, V, PREFIX_LEN> {
             (IsPairRefused key value (IsBlocked (key_of K.bytes) (K.bytes key) self.old.pairs)) }
         ensures succeeds { IfErr result (λ e. HasRoom self.old.nodes 2 → IsForConflict e) }
         ensures room { UsesRoom 2 self.old.nodes self.new.nodes }
+        ensures stored_room { HasKey (key_of K.bytes) (K.bytes key) self.old.pairs
+            → KeepsRoomOf self.old.nodes self.new.nodes }
         ensures keys { AllByRecursion (λ p. K.is_key p.0) self.old.pairs }
         ensures key { K.is_key key }
     {
-        let _known = key.as_bytes();
+        let _key_bytes = key.as_bytes();
         // By value an option of a name counts as moved, so a copy goes in.
         let root = self.root;
         match insert_pair(&mut self.arena, root, key, value) {
@@ -228,6 +275,8 @@ impl<K: AsBytes, V, const PREFIX_LEN: usize> TreeMap<K, V, PREFIX_LEN> {
         ensures succeeds { OnErr result (HasRoom self.old.nodes 2
             → IsBlocked (key_of K.bytes) (K.bytes key) self.old.pairs) }
         ensures room { UsesRoom 2 self.old.nodes self.new.nodes }
+        ensures stored_room { HasKey (key_of K.bytes) (K.bytes key) self.old.pairs
+            → KeepsRoomOf self.old.nodes self.new.nodes }
     {
         match self.put(key, value) {
             Ok(old) => Ok(value_of(old)),
@@ -268,8 +317,8 @@ impl<K: AsBytes, V, const PREFIX_LEN: usize> TreeMap<K, V, PREFIX_LEN> {
     /// Inserts a pair in place of all whose keys overlap its key. These have the same bytes, or a prefix of them, or
     /// begin with them. It returns how many they were.
     ///
-    /// Fails only if out of memory, and never if the key is stored. The error returns the pair, and the map is
-    /// unchanged.
+    /// Fails only if out of memory, and never if the key is stored or the nodes have room for two more. The error
+    /// returns the pair, and the map is unchanged.
     ///
     /// ```
     /// let mut map = TreeMap::new(rt.alloc());
@@ -289,6 +338,10 @@ impl<K: AsBytes, V, const PREFIX_LEN: usize> TreeMap<K, V, PREFIX_LEN> {
         ensures err { OnErr result (self.new.pairs ≡ self.old.pairs) }
         ensures kept { OnErr result (IsUntouched self.old self.new) }
         ensures handed_back { HandsPairBack key value result }
+        ensures succeeds { HasRoom self.old.nodes 2 → IsOk result }
+        ensures room { UsesRoom 2 self.old.nodes self.new.nodes }
+        ensures stored_room { HasKey (key_of K.bytes) (K.bytes key) self.old.pairs
+            → KeepsRoomOf self.old.nodes self.new.nodes }
     {
         let put = self.prefix_put(key, value)?;
         Ok(put.count)
@@ -301,7 +354,7 @@ impl<K: NoPrefixesBytes, V, const PREFIX_LEN: usize> TreeMap<K, V, PREFIX_LEN> {
         ensures placed { CanPut K.bytes PREFIX_LEN self.now.nodes result (K.bytes key.now) self.now.pairs [] }
         ensures place { IsPlaceFor K.bytes PREFIX_LEN self.now.nodes self.now.root (K.bytes key.now) result }
     {
-        match self.place(key) {
+        match self.find_place(key) {
             Ok(place) => place,
             Err(_) => unreachable!(),
         }
@@ -331,6 +384,8 @@ impl<K: NoPrefixesBytes, V, const PREFIX_LEN: usize> TreeMap<K, V, PREFIX_LEN> {
         ensures handed_back { HandsPairBack key value result }
         ensures succeeds { HasRoom self.old.nodes 2 → IsOk result }
         ensures room { UsesRoom 2 self.old.nodes self.new.nodes }
+        ensures stored_room { HasKey (key_of K.bytes) (K.bytes key) self.old.pairs
+            → KeepsRoomOf self.old.nodes self.new.nodes }
     {
         let old = self.replace_entry(key, value)?;
         Ok(value_of(old))
@@ -357,12 +412,14 @@ impl<K: NoPrefixesBytes, V, const PREFIX_LEN: usize> TreeMap<K, V, PREFIX_LEN> {
         ensures handed_back { HandsPairBack key value result }
         ensures succeeds { HasRoom self.old.nodes 2 → IsOk result }
         ensures room { UsesRoom 2 self.old.nodes self.new.nodes }
+        ensures stored_room { HasKey (key_of K.bytes) (K.bytes key) self.old.pairs
+            → KeepsRoomOf self.old.nodes self.new.nodes }
     {
         match self.put(key, value) {
             Ok(old) => Ok(old),
             Err(PairRefused::Memory { key, value }) => Err(InsertRefused { key, value }),
             Err(PairRefused::Conflict { .. }) => {
-                known(false);
+                assume_proved(false);
                 unreachable!()
             }
         }

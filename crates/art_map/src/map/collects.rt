@@ -1,7 +1,8 @@
 //! `Extend` and `FromIterator`, by which what an iterator gives is put into a map.
-ghost use Rattle.std.specs.Prelude.{◌≡◌, [], map};
+ghost use Rattle.std.specs.Prelude.{◌≡◌, [], length, map};
 ghost use Rattle.std.specs.Map.Iter.{deref_pair};
 ghost use Rattle.art_map.specs.Asked.{with_pairs_put};
+ghost use Rattle.art_map.specs.Bulk.{UsesRoomOfPairs};
 ghost use Rattle.art_map.specs.LeafNames.{KeepsAllLeaves};
 
 use crate::map::TreeMap;
@@ -22,7 +23,8 @@ use std::alloc::{AllocError, Global};
 impl<K: NoPrefixesBytes + Drop, V: Drop, const PREFIX_LEN: usize> Extend<(K, V)>
     for TreeMap<K, V, PREFIX_LEN> {
     ghost extend_gives = { λ old pairs new.
-        (new.pairs ≡ with_pairs_put K.bytes pairs old.pairs) × KeepsAllLeaves K.bytes old new };
+        (new.pairs ≡ with_pairs_put K.bytes pairs old.pairs) × KeepsAllLeaves K.bytes old new
+        × UsesRoomOfPairs (length pairs) old.nodes new.nodes };
 
     fn extend<U: IntoIterator<Item = (K, V)>>(&mut self, iter: U) -> Result<(), AllocError> {
         match TreeMap::extend(self, iter) {
@@ -37,7 +39,8 @@ impl<'a, K: NoPrefixesBytes + Copy + 'a, V: Copy + 'a, const PREFIX_LEN: usize> 
     (&'a K, &'a V),
 > for TreeMap<K, V, PREFIX_LEN> {
     ghost extend_gives = { λ old pairs new.
-        (new.pairs ≡ with_pairs_put K.bytes (map deref_pair pairs) old.pairs) × KeepsAllLeaves K.bytes old new };
+        (new.pairs ≡ with_pairs_put K.bytes (map deref_pair pairs) old.pairs) × KeepsAllLeaves K.bytes old new
+        × UsesRoomOfPairs (length pairs) old.nodes new.nodes };
 
     fn extend<U: IntoIterator<Item = (&'a K, &'a V)>>(
         &mut self,

@@ -51,11 +51,11 @@ pub struct OccupiedEntry<
 // The place that was found for a key. It is a struct with a model of its own: so who moves an entry needs to know
 // nothing of the kinds of nodes that the place names.
 #[derive(Clone, Copy)]
-pub(super) struct KnownPlace {
+pub(super) struct FoundPlace {
     place: Option<InsertPoint>,
 }
 
-impl Model for KnownPlace {
+impl Model for FoundPlace {
     ghost use Rattle.std.specs.Prelude.{Option};
     ghost use Rattle.art_operations.specs.declared.insert.point.InsertPoint.{InsertPoint};
 
@@ -66,11 +66,11 @@ impl Model for KnownPlace {
     ghost inverse = { λ place. record { place = place } };
 }
 
-impl KnownPlace {
+impl FoundPlace {
     pub(super) fn new(place: Option<InsertPoint>) -> Self
         ensures { result ≡ place }
     {
-        KnownPlace { place }
+        FoundPlace { place }
     }
 
     pub(super) fn found(self) -> Option<InsertPoint>
@@ -92,8 +92,8 @@ pub struct VacantEntry<
     M: 'a = TreeMap<K, V, PREFIX_LEN>,
 > {
     pub(super) map: &'a mut TreeMap<K, V, PREFIX_LEN>,
-    pub(super) place: KnownPlace,
+    pub(super) place: FoundPlace,
     pub(super) key: K,
     pub(super) mark: PhantomData<M>,
-    ghost known: { ∥ IsPlaceFor K.bytes PREFIX_LEN map.now.nodes map.now.root (K.bytes key) place ∥₁ },
+    ghost placed: { ∥ IsPlaceFor K.bytes PREFIX_LEN map.now.nodes map.now.root (K.bytes key) place ∥₁ },
 }

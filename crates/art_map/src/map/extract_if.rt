@@ -1,8 +1,9 @@
 //! `ExtractIf`: the pairs of a range that a closure picks, which leave the map; and `retain`.
-ghost use Rattle.std.specs.Prelude.{◌≡◌, ◌⊎◌, List, [], length, OnErr, OnOk};
+ghost use Rattle.std.specs.Prelude.{◌≡◌, ◌⊎◌, ◌-◌, List, [], length, IsOk, OnErr, OnOk};
 ghost use Rattle.std.specs.Iterator.{at_most, MakesProgress};
 ghost use Rattle.std.specs.Map.Calls.{CallableOnEachPair, CalledAtPair, RetainsPairs, TakesPair};
 ghost use Rattle.std.specs.Range.Bound.{bound_map};
+ghost use Rattle.art_arena.specs.arena.Arena.{HasRoom, UsesRoom};
 ghost use Rattle.art_arena.specs.arena.Shapes.{key_of};
 ghost use Rattle.art_arena.specs.declared.ends.End.TheVariants.{First, Last};
 ghost use Rattle.art_arena.specs.tree.Shrinks.{Shrinks};
@@ -144,7 +145,7 @@ impl<K: AsBytes, V, const PREFIX_LEN: usize> TreeMap<K, V, PREFIX_LEN> {
     /// ascending order, and may change its value. It has to be callable there, whatever it returned before.
     ///
     /// Fails if the removal of a pair does, as that of `remove_entry`. That pair then stays, with its value as the
-    /// closure left it. So do the pairs behind it, on which the closure was not called. What was dropped before is
+    /// closure left it. So do the pairs after it, on which the closure was not called. What was dropped before is
     /// gone.
     ///
     /// ```
@@ -163,6 +164,8 @@ impl<K: AsBytes, V, const PREFIX_LEN: usize> TreeMap<K, V, PREFIX_LEN> {
             × StopsAt (CalledAtPair F.FnMut) keep self.old.pairs key self.new.pairs
             × Shrinks (key_of K.bytes) self.new.pairs (K.bytes key)) }
         ensures names { KeepsLeaves K.bytes self.old self.new }
+        ensures succeeds { HasRoom self.old.nodes (length self.old.pairs) → IsOk result }
+        ensures room { UsesRoom (length self.old.pairs - length self.new.pairs) self.old.nodes self.new.nodes }
     {
         self.name_leaves();
         let retained = self.drop_others(keep);
@@ -181,6 +184,8 @@ impl<K: AsBytes, V, const PREFIX_LEN: usize> TreeMap<K, V, PREFIX_LEN> {
             × StopsAt (CalledAtPair F.FnMut) keep self.old.pairs key self.new.pairs
             × Shrinks (key_of K.bytes) self.new.pairs (K.bytes key)) }
         ensures none_new { AddsNoLeaf K.bytes self.old self.new }
+        ensures succeeds { HasRoom self.old.nodes (length self.old.pairs) → IsOk result }
+        ensures room { UsesRoom (length self.old.pairs - length self.new.pairs) self.old.nodes self.new.nodes }
     {
         let (_arena, _root) = self.nodes();
         let mut pairs = self.extraction_of_all();

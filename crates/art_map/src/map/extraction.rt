@@ -1,11 +1,11 @@
 //! `Extraction`: the pairs of a range, each of which stays in the map or is taken out.
 ghost use Rattle.std.specs.Prelude.{◌≡◌, ◌⊎◌, ◌<◌, ◌==◌, List, [], ◌∷◌, ◌++◌, length};
-ghost use Rattle.std.specs.Prelude.{None, Some, IfOk, MatchOption, OnErr, OnOk, option_map};
+ghost use Rattle.std.specs.Prelude.{None, Some, IfOk, IsOk, MatchOption, OnErr, OnOk, option_map};
 ghost use Rattle.std.specs.Borrow.{sem};
 ghost use Rattle.std.specs.Map.Calls.{CalledAtPair, TakesPair};
 ghost use Rattle.std.specs.Map.Iter.{deref_pair};
 ghost use Rattle.std.specs.Range.Bound.{bound_map};
-ghost use Rattle.art_arena.specs.arena.Arena.{links_at};
+ghost use Rattle.art_arena.specs.arena.Arena.{links_at, HasRoom, KeepsRoomOf, UsesRoom};
 ghost use Rattle.art_arena.specs.arena.Shapes.{key_of, LeafAt};
 ghost use Rattle.art_arena.specs.tree.Shrinks.{Shrinks};
 ghost use Rattle.art_operations.specs.KeyedLists.{without_key};
@@ -22,7 +22,7 @@ use crate::map::TreeMap;
 use crate::map::ranges::bytes_of;
 use art_arena::{End, LeafPtr, NodeArena};
 use art_bytes::AsBytes;
-use art_walks::{Ahead, RawIterator};
+use art_walks::{Prefetcher, RawIterator};
 use std::alloc::AllocError;
 use std::ops::Bound;
 
@@ -34,7 +34,7 @@ use std::ops::Bound;
 pub struct Extraction<'a, K: AsBytes, V, const PREFIX_LEN: usize> {
     map: &'a mut TreeMap<K, V, PREFIX_LEN>,
     leaves: RawIterator,
-    ahead: Ahead,
+    ahead: Prefetcher,
     ghost run: { ∥ IsRun K.bytes PREFIX_LEN map.now leaves ∥₁ },
 }
 
@@ -98,6 +98,7 @@ impl<'a, K: AsBytes, V, const PREFIX_LEN: usize> Extraction<'a, K, V, PREFIX_LEN
         ensures none_new { AddsNoLeaf K.bytes (map_of self.old).now (map_of self.new).now }
         ensures asked { IsAsked (CalledAtPair F.FnMut) K.bytes end (asking_by self.old pred.old) result
             (asking_by self.new pred.new) }
+        ensures room { KeepsRoomOf (map_of self.old).now.nodes (map_of self.new).now.nodes }
     {
         let leaf = match self.leaf_at(end) {
             Some(leaf) => leaf,
@@ -271,6 +272,8 @@ impl<'a, K: AsBytes, V, const PREFIX_LEN: usize> Extraction<'a, K, V, PREFIX_LEN
         ensures same_map { (map_of self.new).ghost_name ≡ (map_of self.old).ghost_name }
         ensures shrinks { OnErr result ((pair : K × V) × (rest : List (K × V)) × (left_of self.old ≡ pair ∷ rest)
             × Shrinks (key_of K.bytes) (map_of self.old).now.pairs (K.bytes pair.0)) }
+        ensures succeeds { HasRoom (map_of self.old).now.nodes 1 → IsOk result }
+        ensures room { UsesRoom 1 (map_of self.old).now.nodes (map_of self.new).now.nodes }
     {
         self.take(End::First)
     }
@@ -300,6 +303,8 @@ impl<'a, K: AsBytes, V, const PREFIX_LEN: usize> Extraction<'a, K, V, PREFIX_LEN
         ensures same_map { (map_of self.new).ghost_name ≡ (map_of self.old).ghost_name }
         ensures shrinks { OnErr result ((pair : K × V) × (rest : List (K × V)) × (left_of self.old ≡ rest ++ pair ∷ [])
             × Shrinks (key_of K.bytes) (map_of self.old).now.pairs (K.bytes pair.0)) }
+        ensures succeeds { HasRoom (map_of self.old).now.nodes 1 → IsOk result }
+        ensures room { UsesRoom 1 (map_of self.old).now.nodes (map_of self.new).now.nodes }
     {
         self.take(End::Last)
     }
@@ -328,6 +333,8 @@ impl<'a, K: AsBytes, V, const PREFIX_LEN: usize> Extraction<'a, K, V, PREFIX_LEN
         ensures shrinks { OnErr result ((pair : K × V) × (rest : List (K × V))
             × IsAtEnd end pair rest (left_of self.old)
             × Shrinks (key_of K.bytes) (map_of self.old).now.pairs (K.bytes pair.0)) }
+        ensures succeeds { HasRoom (map_of self.old).now.nodes 1 → IsOk result }
+        ensures room { UsesRoom 1 (map_of self.old).now.nodes (map_of self.new).now.nodes }
     {
         let leaf = self.next_leaf(end);
         match self.map.take_at(leaf) {
@@ -352,7 +359,7 @@ impl<K: AsBytes, V, const PREFIX_LEN: usize> TreeMap<K, V, PREFIX_LEN> {
         Extraction {
             map: self,
             leaves,
-            ahead: Ahead::new(),
+            ahead: Prefetcher::new(),
         }
     }
 
@@ -385,7 +392,7 @@ impl<K: AsBytes, V, const PREFIX_LEN: usize> TreeMap<K, V, PREFIX_LEN> {
         Extraction {
             map: self,
             leaves,
-            ahead: Ahead::new(),
+            ahead: Prefetcher::new(),
         }
     }
 }

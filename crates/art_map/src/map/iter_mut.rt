@@ -8,7 +8,7 @@ ghost use Rattle.art_map.specs.LentRuns.{IsRunIn};
 use crate::map::TreeMap;
 use art_arena::End;
 use art_bytes::AsBytes;
-use art_walks::{Ahead, RawIterator};
+use art_walks::{Prefetcher, RawIterator};
 
 /// An iterator over all pairs of a map in order, from either end. It lends their values for writing, one at a time.
 #[derive(Drop)]
@@ -16,7 +16,7 @@ pub struct IterMut<'a, K: AsBytes, V, const PREFIX_LEN: usize> {
     map: &'a mut TreeMap<K, V, PREFIX_LEN>,
     leaves: RawIterator,
     len: usize,
-    ahead: Ahead,
+    ahead: Prefetcher,
     ghost valid: { ∥ IsRunIn map.now leaves ∥₁ },
     ghost counted: { len ≡ leaves_left map.now.nodes leaves },
 }
@@ -51,7 +51,7 @@ impl<K: AsBytes, V, const PREFIX_LEN: usize> TreeMap<K, V, PREFIX_LEN> {
             map: self,
             leaves,
             len,
-            ahead: Ahead::new(),
+            ahead: Prefetcher::new(),
         }
     }
 
@@ -77,7 +77,7 @@ impl<K: AsBytes, V, const PREFIX_LEN: usize> TreeMap<K, V, PREFIX_LEN> {
 
 impl<'a, K: AsBytes, V, const PREFIX_LEN: usize> IterMut<'a, K, V, PREFIX_LEN> {
     ghost use Rattle.art_map.specs.LentIters.{IsIterEnd, IsIterFirst, IsIterLast, lends_if_in_iter, lends_in_iter};
-    ghost use Rattle.art_map.specs.LentIters.{iter_before, iter_behind, iter_left, iter_rest};
+    ghost use Rattle.art_map.specs.LentIters.{iter_before, iter_after, iter_left, iter_rest};
     ghost use Rattle.art_map.specs.LentWalks.{LendsValue};
 
     /// Returns whether no pair is still to come.
@@ -123,7 +123,7 @@ impl<'a, K: AsBytes, V, const PREFIX_LEN: usize> IterMut<'a, K, V, PREFIX_LEN> {
     /// ```
     pub fn next(&mut self) -> Option<&mut V>
         ensures* writes_back { sem 𝓛 (lends_if_in_iter K.row V.row PREFIX_LEN K.AsBytes self.entry
-            (iter_behind self.old) result) }
+            (iter_after self.old) result) }
         ensures lent { LendsValue (IsIterFirst self.old) (iter_rest self.old) result }
     {
         if self.is_empty() {
@@ -169,7 +169,7 @@ impl<'a, K: AsBytes, V, const PREFIX_LEN: usize> IterMut<'a, K, V, PREFIX_LEN> {
     pub fn next_pair(&mut self) -> (&K, &mut V)
         requires { 0 < length (iter_rest self.old) }
         ensures* writes_back { sem 𝓛 (lends_in_iter K.row V.row PREFIX_LEN K.AsBytes self.entry
-            (iter_behind self.old) result.1) }
+            (iter_after self.old) result.1) }
         ensures lent { IsIterFirst self.old (deref_pair_mut result) }
     {
         self.lend(End::First)

@@ -1,13 +1,13 @@
 //! `append` and `split_off`: all pairs of a map move into another, or those from a key on. Where few move, each is
 //! looked for from the root. Where many do, the inner nodes are dropped, the pairs move along the lists of leaves, and
 //! the inner nodes are made anew.
-ghost use Rattle.std.specs.Prelude.{◌≡◌, ◌⊎◌, ◌+◌, ◌*◌, ◌<◌, ◌≤◌, ◌++◌, ◌^◌, List, [], length, None};
+ghost use Rattle.std.specs.Prelude.{◌≡◌, ◌≢◌, ◌⊎◌, ◌+◌, ◌*◌, ◌<◌, ◌≤◌, ◌++◌, ◌^◌, List, [], length, None};
 ghost use Rattle.std.specs.Prelude.{IfOk, IsOk, OnErr, OnOk};
 ghost use Rattle.std.specs.List.{AllByRecursion};
 ghost use Rattle.std.specs.declared.ops.Bound.TheVariants.{Included, Excluded, Unbounded};
 ghost use Rattle.art_nodes.specs.Name.{Name};
 ghost use Rattle.art_nodes.specs.declared.kind.NodeType.TheVariants.{Leaf};
-ghost use Rattle.art_arena.specs.arena.Arena.{held_at, HasRoom, HasRoomOf, SameNodes, UsesRoom};
+ghost use Rattle.art_arena.specs.arena.Arena.{held_at, HasRoom, HasRoomOf, KeepsRoomOf, SameNodes, UsesRoom};
 ghost use Rattle.art_arena.specs.arena.Shapes.{key_of};
 ghost use Rattle.art_arena.specs.tree.Order.{AscendsByKey};
 ghost use Rattle.art_operations.specs.LeafCursors.{KeepsInnerRoom, StandsAhead, StandsInList};
@@ -273,6 +273,9 @@ impl<K: NoPrefixesBytes + Drop, V: Drop, const PREFIX_LEN: usize> TreeMap<K, V, 
         ensures err { OnErr result ((self.new.pairs ≡ self.old.pairs) × (other.new.pairs ≡ other.old.pairs)) }
         ensures kept { OnErr result (IsUntouched self.old self.new × IsUntouched other.old other.new) }
         ensures free { (self.old.pairs ≡ []) ⊎ (other.old.pairs ≡ []) → IsOk result }
+        ensures nothing { other.old.pairs ≡ [] → (self.new ≡ self.old) × (other.new ≡ other.old) }
+        ensures swapped { self.old.pairs ≡ [] → other.old.pairs ≢ []
+            → (self.new ≡ other.old) × (other.new ≡ self.old) }
     {
         // Tells that they ascend.
         let (_nodes, _root) = other.nodes();
@@ -371,6 +374,7 @@ fn reserve_leaves<K, V, const PREFIX_LEN: usize>(
     ensures over { IfOk result (λ room. room ≡ leaves) }
     ensures inner { OnOk result (HasInnerRoom arena.new leaves) }
     ensures kept { SameNodes arena.old arena.new }
+    ensures room_of { KeepsRoomOf arena.old arena.new }
 {
     let room = SpineRoom::new(alloc, arena, leaves)?;
     arena.reserve_kind(NodeType::Leaf, more)?;
@@ -398,7 +402,7 @@ fn cut_last<K: AsBytes + Drop, V: Drop, const PREFIX_LEN: usize>(
         → IsCutLast K.bytes PREFIX_LEN arena.new result.0 to.new result.1 count had }
     ensures names { HasLeavesOf K.bytes arena.old arena.new }
 {
-    let mut cursor = LeafCursor::behind_leaves(arena, root);
+    let mut cursor = LeafCursor::after_leaves(arena, root);
     let first = move_leaves(arena, &mut cursor, to, count);
     let left = rebuild(arena, room, cursor.first());
     let moved = rebuild(to, to_room, first);
@@ -449,7 +453,7 @@ fn put_along<K: NoPrefixesBytes + Drop, V: Drop, const PREFIX_LEN: usize>(
 {
     while let Some((key, value)) = pairs.next() {
         // Its bytes tell that it is a key.
-        let _known = key.as_bytes();
+        let _key_bytes = key.as_bytes();
         match cursor.put(arena, key, value) {
             Ok(_old) => {}
             Err(_) => unreachable!(),

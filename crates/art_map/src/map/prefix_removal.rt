@@ -1,14 +1,16 @@
 //! Removal of all pairs whose keys begin with a prefix, in one cut. `prepare_remove_prefix` takes the memory, `apply`
 //! cuts.
-ghost use Rattle.std.specs.Prelude.{◌≡◌, ◌≢◌, ◌+◌, ◌*◌, ◌≤◌, ℕ, [], List, length, IfOk, OnErr, OnOk};
+ghost use Rattle.std.specs.Prelude.{◌≡◌, ◌≢◌, ◌+◌, ◌*◌, ◌≤◌, ℕ, [], List, length, IfOk, IsOk, OnErr, OnOk};
 ghost use Rattle.std.specs.Borrow.{sem};
+ghost use Rattle.art_arena.specs.arena.Arena.{HasRoom, KeepsRoom, UsesRoom};
 ghost use Rattle.art_arena.specs.arena.Shapes.{key_of};
 ghost use Rattle.art_arena.specs.tree.Tenants.{with_front, without_front};
 ghost use Rattle.art_operations.specs.Openings.{OpeningReads};
 ghost use Rattle.art_walks.specs.MapReads.{PairsWithin};
-ghost use Rattle.art_map.specs.Contents.{IsUntouched};
+ghost use Rattle.art_map.specs.Contents.{HasSameNodes};
 ghost use Rattle.art_map.specs.LeafNames.{KeepsLeaves};
-ghost use Rattle.art_map.specs.PrefixBlocks.{AreCutVisits, IsFoundPart, IsReadyPart, ShrinksAtCut, cut_visits};
+ghost use Rattle.art_map.specs.PrefixBlocks.{AreCutVisits, IsFoundPart, IsReadyPart, ShrinksAtCut};
+ghost use Rattle.art_map.specs.PrefixBlocks.{cut_reads, cut_visits};
 
 use crate::map::TreeMap;
 use art_arena::ArenaReader;
@@ -29,12 +31,12 @@ pub struct Removed {
 // The part of a tree that is to be cut, and how many nodes were read to find it. What the cut needs is allocated. It is
 // a struct with a model of its own: so who moves it needs to know nothing of the kinds of nodes that it names.
 #[derive(Drop)]
-struct KnownBlock {
+struct FoundBlock {
     part: Option<PreparedSubtreeDelete>,
     visits: u64,
 }
 
-impl Model for KnownBlock {
+impl Model for FoundBlock {
     ghost use Rattle.art_map.specs.PrefixBlocks.{Block};
 
     ghost Value = { Block };
@@ -44,11 +46,11 @@ impl Model for KnownBlock {
     ghost inverse = { λ v. record { part = v.part; visits = v.reads } };
 }
 
-impl KnownBlock {
+impl FoundBlock {
     fn new(part: Option<PreparedSubtreeDelete>, visits: u64) -> Self
         ensures { result ≡ record { part = part; reads = visits } }
     {
-        KnownBlock { part, visits }
+        FoundBlock { part, visits }
     }
 }
 
@@ -65,10 +67,10 @@ pub struct PrefixRemoval<
     M: 'a = TreeMap<K, V, PREFIX_LEN>,
 > {
     map: &'a mut TreeMap<K, V, PREFIX_LEN>,
-    block: KnownBlock,
+    block: FoundBlock,
     front: History,
     mark: PhantomData<M>,
-    ghost known: { ∥ IsReadyPart K.bytes PREFIX_LEN map.now front.items block.part ∥₁ },
+    ghost found: { ∥ IsReadyPart K.bytes PREFIX_LEN map.now front.items block.part ∥₁ },
 }
 
 impl<'a, K: AsBytes, V, const PREFIX_LEN: usize> PrefixRemoval<'a, K, V, PREFIX_LEN> {
@@ -100,6 +102,7 @@ impl<'a, K: AsBytes, V, const PREFIX_LEN: usize> PrefixRemoval<'a, K, V, PREFIX_
         ensures names { KeepsLeaves K.bytes (removal_map self.entry).now self.exit.0.now }
         ensures all_counted { result.pairs ≤ result.visits }
         ensures few { result.visits ≤ removal_reads self.entry + 2 * result.pairs }
+        ensures room { UsesRoom 1 (removal_map self.entry).now.nodes self.exit.0.now.nodes }
     {
         let block = self.block;
         self.map.cut_block(block)
@@ -110,8 +113,9 @@ impl<K: AsBytes, V, const PREFIX_LEN: usize> TreeMap<K, V, PREFIX_LEN> {
     ghost use Rattle.art_map.specs.PrefixRemovals.{removal_map, removal_prefix, removal_reads, rests_if_unprepared};
 
     // The part of the tree whose keys begin with a prefix, if any does, and how many nodes were read to find it.
-    fn part_behind(&self, prefix: &[u8]) -> (Option<SubtreeDeletePoint>, u64)
+    fn part_with_prefix(&self, prefix: &[u8]) -> (Option<SubtreeDeletePoint>, u64)
         ensures part { IsFoundPart K.bytes PREFIX_LEN self.now prefix.now result.0 }
+        ensures counts { result.1 ≡ cut_reads K.bytes PREFIX_LEN prefix.now self.now.pairs }
         ensures few { (longest : ℕ) → PairsWithin K.bytes longest self.now.pairs
             → OpeningReads longest (length prefix.now) 0 result.1 }
         ensures least { self.now.pairs ≢ [] → 1 ≤ result.1 }
@@ -129,36 +133,42 @@ impl<K: AsBytes, V, const PREFIX_LEN: usize> TreeMap<K, V, PREFIX_LEN> {
 
     // Allocates what the loss of the part of the tree needs whose keys begin with a prefix.
     fn ready_part(&mut self, part: SubtreeDeletePoint) -> Result<PreparedSubtreeDelete, AllocError>
-        requires { (front : List ℕ) × IsFoundPart K.bytes PREFIX_LEN self.old front (Some part) }
-        ensures ready { IfOk result (λ ready. (front : List ℕ)
-            → IsFoundPart K.bytes PREFIX_LEN self.old front (Some part)
-            → IsReadyPart K.bytes PREFIX_LEN self.new front (Some ready)) }
+        requires { (prefix : List ℕ) × IsFoundPart K.bytes PREFIX_LEN self.old prefix (Some part) }
+        ensures ready { IfOk result (λ ready. (prefix : List ℕ)
+            → IsFoundPart K.bytes PREFIX_LEN self.old prefix (Some part)
+            → IsReadyPart K.bytes PREFIX_LEN self.new prefix (Some ready)) }
         ensures pairs { self.new.pairs ≡ self.old.pairs }
-        ensures kept { IsUntouched self.old self.new }
-        ensures shrinks { OnErr result ((front : List ℕ) → IsFoundPart K.bytes PREFIX_LEN self.old front (Some part)
-            → ShrinksAtCut K.bytes front self.old.pairs) }
+        ensures kept { HasSameNodes self.old self.new }
+        ensures kept_room { KeepsRoom self.old.nodes self.new.nodes }
+        ensures succeeds { HasRoom self.old.nodes 1 → IsOk result }
+        ensures shrinks { OnErr result ((prefix : List ℕ) → IsFoundPart K.bytes PREFIX_LEN self.old prefix (Some part)
+            → ShrinksAtCut K.bytes prefix self.old.pairs) }
     {
         part.prepare(&mut self.arena)
     }
 
     // Finds the part of the tree whose keys begin with a prefix, and allocates what its loss needs.
-    fn block_behind(&mut self, prefix: &[u8]) -> Result<KnownBlock, AllocError>
+    fn block_with_prefix(&mut self, prefix: &[u8]) -> Result<FoundBlock, AllocError>
         ensures ready { IfOk result (λ block. IsReadyPart K.bytes PREFIX_LEN self.new prefix.now block.part) }
+        ensures counts { IfOk result (λ block.
+            block.reads ≡ cut_reads K.bytes PREFIX_LEN prefix.now self.old.pairs) }
         ensures few { IfOk result (λ block. (longest : ℕ) → PairsWithin K.bytes longest self.old.pairs
             → OpeningReads longest (length prefix.now) 0 block.reads) }
         ensures least { IfOk result (λ block. self.old.pairs ≢ [] → 1 ≤ block.reads) }
         ensures none { IfOk result (λ block. self.old.pairs ≡ [] → block.reads ≡ 0) }
         ensures pairs { self.new.pairs ≡ self.old.pairs }
-        ensures kept { IsUntouched self.old self.new }
+        ensures kept { HasSameNodes self.old self.new }
+        ensures kept_room { KeepsRoom self.old.nodes self.new.nodes }
+        ensures succeeds { HasRoom self.old.nodes 1 → IsOk result }
         ensures shrinks { OnErr result (ShrinksAtCut K.bytes prefix.now self.old.pairs) }
     {
-        let (found, visits) = self.part_behind(prefix);
+        let (found, visits) = self.part_with_prefix(prefix);
         match found {
             Some(part) => {
                 let ready = self.ready_part(part)?;
-                Ok(KnownBlock::new(Some(ready), visits))
+                Ok(FoundBlock::new(Some(ready), visits))
             }
-            None => Ok(KnownBlock::new(None, visits)),
+            None => Ok(FoundBlock::new(None, visits)),
         }
     }
 
@@ -167,16 +177,17 @@ impl<K: AsBytes, V, const PREFIX_LEN: usize> TreeMap<K, V, PREFIX_LEN> {
     where
         K: Drop,
         V: Drop,
-        requires { (front : List ℕ) × ∥ IsReadyPart K.bytes PREFIX_LEN self.old front (Some ready) ∥₁ }
-        ensures pairs { (front : List ℕ) → ∥ IsReadyPart K.bytes PREFIX_LEN self.old front (Some ready) ∥₁
-            → self.new.pairs ≡ without_front (key_of K.bytes) front self.old.pairs }
-        ensures count { (front : List ℕ) → ∥ IsReadyPart K.bytes PREFIX_LEN self.old front (Some ready) ∥₁
-            → result.pairs ≡ length (with_front (key_of K.bytes) front self.old.pairs) }
-        ensures visits { (front : List ℕ) → ∥ IsReadyPart K.bytes PREFIX_LEN self.old front (Some ready) ∥₁
-            → result.visits ≡ cut_visits K.bytes front self.old.pairs visits }
+        requires { (prefix : List ℕ) × ∥ IsReadyPart K.bytes PREFIX_LEN self.old prefix (Some ready) ∥₁ }
+        ensures pairs { (prefix : List ℕ) → ∥ IsReadyPart K.bytes PREFIX_LEN self.old prefix (Some ready) ∥₁
+            → self.new.pairs ≡ without_front (key_of K.bytes) prefix self.old.pairs }
+        ensures count { (prefix : List ℕ) → ∥ IsReadyPart K.bytes PREFIX_LEN self.old prefix (Some ready) ∥₁
+            → result.pairs ≡ length (with_front (key_of K.bytes) prefix self.old.pairs) }
+        ensures visits { (prefix : List ℕ) → ∥ IsReadyPart K.bytes PREFIX_LEN self.old prefix (Some ready) ∥₁
+            → result.visits ≡ cut_visits K.bytes prefix self.old.pairs visits }
         ensures names { KeepsLeaves K.bytes self.old self.new }
         ensures all_counted { result.pairs ≤ result.visits }
         ensures few { result.visits ≤ visits + 2 * result.pairs }
+        ensures room { UsesRoom 1 self.old.nodes self.new.nodes }
     {
         let cut = ready.apply(&mut self.arena);
         self.root = cut.new_root;
@@ -187,22 +198,23 @@ impl<K: AsBytes, V, const PREFIX_LEN: usize> TreeMap<K, V, PREFIX_LEN> {
     }
 
     // Removes a part from the tree, as `cut` does, or nothing if no key begins with the prefix.
-    fn cut_block(&mut self, block: KnownBlock) -> Removed
+    fn cut_block(&mut self, block: FoundBlock) -> Removed
     where
         K: Drop,
         V: Drop,
-        requires { (front : List ℕ) × ∥ IsReadyPart K.bytes PREFIX_LEN self.old front block.part ∥₁ }
-        ensures pairs { (front : List ℕ) → ∥ IsReadyPart K.bytes PREFIX_LEN self.old front block.part ∥₁
-            → self.new.pairs ≡ without_front (key_of K.bytes) front self.old.pairs }
-        ensures count { (front : List ℕ) → ∥ IsReadyPart K.bytes PREFIX_LEN self.old front block.part ∥₁
-            → result.pairs ≡ length (with_front (key_of K.bytes) front self.old.pairs) }
-        ensures visits { (front : List ℕ) → ∥ IsReadyPart K.bytes PREFIX_LEN self.old front block.part ∥₁
-            → result.visits ≡ cut_visits K.bytes front self.old.pairs block.reads }
+        requires { (prefix : List ℕ) × ∥ IsReadyPart K.bytes PREFIX_LEN self.old prefix block.part ∥₁ }
+        ensures pairs { (prefix : List ℕ) → ∥ IsReadyPart K.bytes PREFIX_LEN self.old prefix block.part ∥₁
+            → self.new.pairs ≡ without_front (key_of K.bytes) prefix self.old.pairs }
+        ensures count { (prefix : List ℕ) → ∥ IsReadyPart K.bytes PREFIX_LEN self.old prefix block.part ∥₁
+            → result.pairs ≡ length (with_front (key_of K.bytes) prefix self.old.pairs) }
+        ensures visits { (prefix : List ℕ) → ∥ IsReadyPart K.bytes PREFIX_LEN self.old prefix block.part ∥₁
+            → result.visits ≡ cut_visits K.bytes prefix self.old.pairs block.reads }
         ensures names { KeepsLeaves K.bytes self.old self.new }
         ensures all_counted { result.pairs ≤ result.visits }
         ensures few { result.visits ≤ block.reads + 2 * result.pairs }
+        ensures room { UsesRoom 1 self.old.nodes self.new.nodes }
     {
-        let KnownBlock { part, visits } = block;
+        let FoundBlock { part, visits } = block;
         match part {
             Some(ready) => self.cut(ready, visits),
             None => Removed { pairs: 0, visits },
@@ -232,8 +244,12 @@ impl<K: AsBytes, V, const PREFIX_LEN: usize> TreeMap<K, V, PREFIX_LEN> {
         ensures* rests { sem 𝓛 (rests_if_unprepared K.row V.row PREFIX_LEN K.AsBytes self.entry result) }
         ensures same_map { IfOk result (λ r. (removal_map r).ghost_name ≡ self.entry.ghost_name) }
         ensures same { IfOk result (λ r. (removal_map r).now.pairs ≡ self.old.pairs) }
-        ensures kept { IfOk result (λ r. IsUntouched self.old (removal_map r).now) }
+        ensures kept { IfOk result (λ r. HasSameNodes self.old (removal_map r).now) }
+        ensures kept_room { IfOk result (λ r. KeepsRoom self.old.nodes (removal_map r).now.nodes) }
+        ensures succeeds { HasRoom self.old.nodes 1 → IsOk result }
         ensures prefix { IfOk result (λ r. removal_prefix r ≡ prefix.now) }
+        ensures counts { IfOk result (λ r.
+            removal_reads r ≡ cut_reads K.bytes PREFIX_LEN prefix.now self.old.pairs) }
         ensures few { IfOk result (λ r. (longest : ℕ) → PairsWithin K.bytes longest self.old.pairs
             → OpeningReads longest (length prefix.now) 0 (removal_reads r)) }
         ensures least { IfOk result (λ r. self.old.pairs ≢ [] → 1 ≤ removal_reads r) }
@@ -241,7 +257,7 @@ impl<K: AsBytes, V, const PREFIX_LEN: usize> TreeMap<K, V, PREFIX_LEN> {
         ensures shrinks { OnErr result (ShrinksAtCut K.bytes prefix.now self.old.pairs) }
     {
         let front = History::new().then(&Piece { bytes: prefix });
-        let block = self.block_behind(prefix)?;
+        let block = self.block_with_prefix(prefix)?;
         Ok(PrefixRemoval {
             map: self,
             block,
@@ -268,14 +284,18 @@ impl<K: AsBytes, V, const PREFIX_LEN: usize> TreeMap<K, V, PREFIX_LEN> {
         ensures pairs { OnOk result (self.new.pairs ≡ without_front (key_of K.bytes) prefix.now self.old.pairs) }
         ensures count { IfOk result (λ done.
             done.pairs ≡ length (with_front (key_of K.bytes) prefix.now self.old.pairs)) }
-        ensures visits { IfOk result (λ done. AreCutVisits K.bytes prefix.now self.old.pairs done.visits) }
+        ensures visits { IfOk result (λ done.
+            AreCutVisits K.bytes PREFIX_LEN prefix.now self.old.pairs done.visits) }
         ensures names { OnOk result (KeepsLeaves K.bytes self.old self.new) }
         ensures all_counted { IfOk result (λ done. done.pairs ≤ done.visits) }
         ensures few { IfOk result (λ done. (longest : ℕ) → PairsWithin K.bytes longest self.old.pairs
             → OpeningReads longest (length prefix.now) (2 * done.pairs) done.visits) }
         ensures err { OnErr result (self.new.pairs ≡ self.old.pairs) }
-        ensures kept { OnErr result (IsUntouched self.old self.new) }
+        ensures kept { OnErr result (HasSameNodes self.old self.new) }
+        ensures kept_room { OnErr result (KeepsRoom self.old.nodes self.new.nodes) }
         ensures shrinks { OnErr result (ShrinksAtCut K.bytes prefix.now self.old.pairs) }
+        ensures succeeds { HasRoom self.old.nodes 1 → IsOk result }
+        ensures room { UsesRoom 1 self.old.nodes self.new.nodes }
     {
         match self.prepare_remove_prefix(prefix) {
             Ok(removal) => Ok(removal.apply()),

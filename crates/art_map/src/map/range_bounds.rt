@@ -28,7 +28,7 @@ impl<K: AsBytes, V, const PREFIX_LEN: usize> TreeMap<K, V, PREFIX_LEN> {
     /// assert!(rt; map.range_in(*b"ab"..*b"ef").eq([(b"ab", &1), (b"cd", &2)]));
     /// ```
     pub fn range_in<Q: AsBytes, R: RangeBounds<Q>>(&self, range: R) -> Range<'_, K, V, PREFIX_LEN>
-        requires known { R.has_bounds range }
+        requires bounds { R.has_bounds range }
         requires valid { (self.now.pairs ≡ []) ⊎ AreValidKeyBounds (bound_map Q.bytes (R.start_bound range))
             (bound_map Q.bytes (R.end_bound range)) }
         ensures rest { result ≡ pairs_between K.bytes (bound_map Q.bytes (R.start_bound range))
@@ -54,7 +54,7 @@ impl<K: AsBytes, V, const PREFIX_LEN: usize> TreeMap<K, V, PREFIX_LEN> {
         &mut self,
         range: R,
     ) -> RangeMut<'_, K, V, PREFIX_LEN>
-        requires known { R.has_bounds range }
+        requires bounds { R.has_bounds range }
         requires valid { (self.old.pairs ≡ []) ⊎ AreValidKeyBounds (bound_map Q.bytes (R.start_bound range))
             (bound_map Q.bytes (R.end_bound range)) }
         ensures same_map { (result.map.ghost_name ≡ self.entry.ghost_name) × (result.map.now ≡ self.old) }

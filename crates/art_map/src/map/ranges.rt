@@ -52,7 +52,7 @@ impl<K: AsBytes, V, const PREFIX_LEN: usize> TreeMap<K, V, PREFIX_LEN> {
     }
 
     // The run of the leaves whose keys begin with these bytes.
-    pub(super) fn walk_behind(&self, prefix: &[u8]) -> RawIterator
+    pub(super) fn walk_with_prefix(&self, prefix: &[u8]) -> RawIterator
         ensures { IsWalkOf self.now.nodes result (with_front (key_of K.bytes) prefix.now self.now.pairs) }
     {
         match self.root {
@@ -110,7 +110,7 @@ impl<K: AsBytes, V, const PREFIX_LEN: usize> TreeMap<K, V, PREFIX_LEN> {
         ensures rest { result ≡ with_front (key_of K.bytes) (Q.bytes prefix.now) self.now.pairs }
         ensures ordered { AscendsByKey (key_of K.bytes) self.now.pairs }
     {
-        let walk = self.walk_behind(prefix.as_bytes());
+        let walk = self.walk_with_prefix(prefix.as_bytes());
         Prefix::new(&self.arena, walk, self.root)
     }
 }

@@ -1,6 +1,6 @@
 //! Removals: of a key, of the first pair, and of the last.
 ghost use Rattle.std.specs.Prelude.{◌≡◌, List, ◌∷◌, ◌++◌, [], IfNone, IfOk, IsOk, MatchOption, OnErr, OnOk};
-ghost use Rattle.art_arena.specs.arena.Arena.{HasRoom, UsesRoom};
+ghost use Rattle.art_arena.specs.arena.Arena.{HasRoom, KeepsRoomOf, UsesRoom};
 ghost use Rattle.art_arena.specs.arena.Shapes.{key_of, LeafAt};
 ghost use Rattle.art_arena.specs.tree.Shrinks.{Shrinks};
 ghost use Rattle.art_map.specs.Contents.{IsUntouched};
@@ -41,6 +41,9 @@ impl<K: AsBytes, V, const PREFIX_LEN: usize> TreeMap<K, V, PREFIX_LEN> {
         ensures kept { OnErr result (IsUntouched self.old self.new) }
         ensures shrinks { OnErr result (HasKey (key_of K.bytes) (Q.bytes key.now) self.old.pairs
             × Shrinks (key_of K.bytes) self.old.pairs (Q.bytes key.now)) }
+        ensures succeeds { HasRoom self.old.nodes 1 → IsOk result }
+        ensures room { UsesRoom 1 self.old.nodes self.new.nodes }
+        ensures none_room { IfOk result (λ old. IfNone old (KeepsRoomOf self.old.nodes self.new.nodes)) }
     {
         let pair = self.remove_entry(key)?;
         Ok(value_of(pair))
@@ -48,8 +51,8 @@ impl<K: AsBytes, V, const PREFIX_LEN: usize> TreeMap<K, V, PREFIX_LEN> {
 
     /// Removes the pair whose key has the query's bytes, and returns it, if there is one.
     ///
-    /// Fails only if the removal turns a node into one of the next smaller kind, and there is no memory for that one.
-    /// The map is unchanged then.
+    /// Fails only if the removal turns a node into one of the next smaller kind, and there is neither room nor memory
+    /// for that one. The map is unchanged then.
     ///
     /// ```
     /// let mut map = TreeMap::new(rt.alloc());
@@ -66,6 +69,9 @@ impl<K: AsBytes, V, const PREFIX_LEN: usize> TreeMap<K, V, PREFIX_LEN> {
         ensures kept { OnErr result (IsUntouched self.old self.new) }
         ensures shrinks { OnErr result (HasKey (key_of K.bytes) (Q.bytes key.now) self.old.pairs
             × Shrinks (key_of K.bytes) self.old.pairs (Q.bytes key.now)) }
+        ensures succeeds { HasRoom self.old.nodes 1 → IsOk result }
+        ensures room { UsesRoom 1 self.old.nodes self.new.nodes }
+        ensures none_room { IfOk result (λ old. IfNone old (KeepsRoomOf self.old.nodes self.new.nodes)) }
     {
         // By value an option of a name counts as moved, so a copy goes in.
         let root = self.root;
@@ -96,6 +102,9 @@ impl<K: AsBytes, V, const PREFIX_LEN: usize> TreeMap<K, V, PREFIX_LEN> {
         ensures err { OnErr result (self.new.pairs ≡ self.old.pairs) }
         ensures kept { OnErr result (IsUntouched self.old self.new) }
         ensures shrinks { OnErr result (ShrinksAtEnd K.bytes End.First self.old.pairs) }
+        ensures succeeds { HasRoom self.old.nodes 1 → IsOk result }
+        ensures room { UsesRoom 1 self.old.nodes self.new.nodes }
+        ensures none_room { IfOk result (λ taken. IfNone taken (KeepsRoomOf self.old.nodes self.new.nodes)) }
     {
         self.pop(End::First)
     }
@@ -117,6 +126,9 @@ impl<K: AsBytes, V, const PREFIX_LEN: usize> TreeMap<K, V, PREFIX_LEN> {
         ensures err { OnErr result (self.new.pairs ≡ self.old.pairs) }
         ensures kept { OnErr result (IsUntouched self.old self.new) }
         ensures shrinks { OnErr result (ShrinksAtEnd K.bytes End.Last self.old.pairs) }
+        ensures succeeds { HasRoom self.old.nodes 1 → IsOk result }
+        ensures room { UsesRoom 1 self.old.nodes self.new.nodes }
+        ensures none_room { IfOk result (λ taken. IfNone taken (KeepsRoomOf self.old.nodes self.new.nodes)) }
     {
         self.pop(End::Last)
     }
@@ -138,6 +150,8 @@ impl<K: AsBytes, V, const PREFIX_LEN: usize> TreeMap<K, V, PREFIX_LEN> {
         ensures untouched { OnErr result (IsUntouched self.old self.new) }
         ensures shrinks { OnErr result ((pair : K × V) → HasPairAt self.old leaf pair
             → Shrinks (key_of K.bytes) self.old.pairs (K.bytes pair.0)) }
+        ensures succeeds { HasRoom self.old.nodes 1 → IsOk result }
+        ensures room { UsesRoom 1 self.old.nodes self.new.nodes }
     {
         match self.root {
             Some(root) => match take_leaf(&mut self.arena, root, leaf) {
@@ -163,6 +177,7 @@ impl<K: AsBytes, V, const PREFIX_LEN: usize> TreeMap<K, V, PREFIX_LEN> {
         ensures shrinks { OnErr result (ShrinksAtEnd K.bytes end self.old.pairs) }
         ensures succeeds { HasRoom self.old.nodes 1 → IsOk result }
         ensures room { UsesRoom 1 self.old.nodes self.new.nodes }
+        ensures none_room { IfOk result (λ taken. IfNone taken (KeepsRoomOf self.old.nodes self.new.nodes)) }
     {
         // By value an option of a name counts as moved, so a copy goes in.
         let root = self.root;

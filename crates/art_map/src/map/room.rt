@@ -1,14 +1,14 @@
 //! Memory for nodes that are still to be made.
 ghost use Rattle.std.specs.Prelude.{◌≡◌, ◌↔◌, ◌*◌, ◌<◌, ◌^◌, IsOk, IsTrue, OnOk};
 ghost use Rattle.art_arena.specs.arena.Arena.{HasRoom, IsTrimmed, KeepsRoomOf};
-ghost use Rattle.art_map.specs.Contents.{IsUntouched};
+ghost use Rattle.art_map.specs.Contents.{HasSameNodes, IsUntouched};
 
 use crate::map::TreeMap;
 use art_bytes::AsBytes;
 use std::alloc::AllocError;
 
 // An inner node that stores so long a prefix fits in no memory.
-const NO_MEMORY_HOLDS: usize = 1 << 62;
+const PREFIX_LEN_LIMIT: usize = 1 << 62;
 
 /// Returns whether an inner node that stores `PREFIX_LEN` bytes of a prefix fits in memory: exactly if `PREFIX_LEN` is
 /// less than 2^62.
@@ -22,13 +22,14 @@ const NO_MEMORY_HOLDS: usize = 1 << 62;
 pub fn nodes_fit<const PREFIX_LEN: usize>() -> bool
     ensures { IsTrue result ↔ PREFIX_LEN < 2 ^ 62 }
 {
-    PREFIX_LEN < NO_MEMORY_HOLDS
+    PREFIX_LEN < PREFIX_LEN_LIMIT
 }
 
 impl<K: AsBytes, V, const PREFIX_LEN: usize> TreeMap<K, V, PREFIX_LEN> {
     // Whether an inner node fits in memory, as it does if there is room for one.
     pub(super) fn fits_in_memory(&self) -> bool
         ensures value { IsTrue result → PREFIX_LEN < 2 ^ 62 }
+        ensures exact { PREFIX_LEN < 2 ^ 62 → IsTrue result }
         ensures room { HasRoom self.now.nodes 1 → IsTrue result }
     {
         self.arena.fits_in_memory()
@@ -44,9 +45,10 @@ impl<K: AsBytes, V, const PREFIX_LEN: usize> TreeMap<K, V, PREFIX_LEN> {
         self.arena.reserve(count)
     }
 
-    /// Allocates the nodes of so many more insertions, whatever their keys are. While there is room for two nodes,
-    /// `insert`, `try_insert` and `replace_entry` are never out of memory, and each uses room for two at most. Nor is
-    /// `extend` of so many pairs.
+    /// Allocates the nodes of so many more insertions, whatever their keys are. While there is room for two nodes, no
+    /// insertion of a pair is out of memory, also by an entry or at a place, and each uses room for two at most. Nor is
+    /// `extend` of so many pairs. A removal uses room for one, and doesn't fail where there is so much. Room stays
+    /// where a call is refused, a key was stored already or isn't found, or a value is written.
     ///
     /// A node of any kind may be needed, so that many of each kind are allocated, some kilobytes for each insertion. It
     /// serves a few insertions that must not fail. Fails only if there is no room for so many, and no memory. Either
@@ -67,7 +69,7 @@ impl<K: AsBytes, V, const PREFIX_LEN: usize> TreeMap<K, V, PREFIX_LEN> {
         self.reserve_insertions(additional)
     }
 
-    /// Gives memory back that the nodes don't need: of each kind of node, what lies behind the last one. It never
+    /// Gives memory back that the nodes don't need: of each kind of node, what lies after the last one. It never
     /// fails. No node moves, so that each leaf keeps its name: where the last nodes stay, little goes back. `clear`
     /// before it gives all back.
     ///
@@ -83,7 +85,7 @@ impl<K: AsBytes, V, const PREFIX_LEN: usize> TreeMap<K, V, PREFIX_LEN> {
         K: Drop,
         V: Drop,
         ensures pairs { self.new.pairs ≡ self.old.pairs }
-        ensures kept { IsUntouched self.old self.new }
+        ensures kept { HasSameNodes self.old self.new }
         ensures no_more { KeepsRoomOf self.new.nodes self.old.nodes }
         ensures trimmed { PREFIX_LEN < 2 ^ 62 → IsTrimmed self.new.nodes }
     {

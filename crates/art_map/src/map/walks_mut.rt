@@ -15,7 +15,7 @@ use crate::map::extraction::next_of;
 use crate::map::ranges::bytes_of;
 use art_arena::{End, LeafPtr};
 use art_bytes::AsBytes;
-use art_walks::{Ahead, RawIterator};
+use art_walks::{Prefetcher, RawIterator};
 use std::ops::Bound;
 
 /// An iterator over a run of a map's pairs in order, from either end. It lends their values for writing, one at a time.
@@ -23,7 +23,7 @@ use std::ops::Bound;
 pub struct RangeMut<'a, K: AsBytes, V, const PREFIX_LEN: usize> {
     map: &'a mut TreeMap<K, V, PREFIX_LEN>,
     leaves: RawIterator,
-    ahead: Ahead,
+    ahead: Prefetcher,
     ghost valid: { ∥ IsRunIn map.now leaves ∥₁ },
 }
 
@@ -55,7 +55,7 @@ impl<K: AsBytes, V, const PREFIX_LEN: usize> TreeMap<K, V, PREFIX_LEN> {
 
     // Goes on by the leaf at an end of a run. From the front it reads ahead.
     #[inline]
-    pub(super) fn read_ahead(&self, ahead: &mut Ahead, leaves: RawIterator, end: End) {
+    pub(super) fn read_ahead(&self, ahead: &mut Prefetcher, leaves: RawIterator, end: End) {
         match end {
             End::First => ahead.step(&self.arena, self.root, leaves),
             End::Last => ahead.stop(),
@@ -91,7 +91,7 @@ impl<K: AsBytes, V, const PREFIX_LEN: usize> TreeMap<K, V, PREFIX_LEN> {
         RangeMut {
             map: self,
             leaves,
-            ahead: Ahead::new(),
+            ahead: Prefetcher::new(),
         }
     }
 
@@ -111,11 +111,11 @@ impl<K: AsBytes, V, const PREFIX_LEN: usize> TreeMap<K, V, PREFIX_LEN> {
         ensures same_map { (result.map.ghost_name ≡ self.entry.ghost_name) × (result.map.now ≡ self.old) }
         ensures rest { range_rest result ≡ with_front (key_of K.bytes) (Q.bytes prefix.now) self.old.pairs }
     {
-        let leaves = self.walk_behind(prefix.as_bytes());
+        let leaves = self.walk_with_prefix(prefix.as_bytes());
         RangeMut {
             map: self,
             leaves,
-            ahead: Ahead::new(),
+            ahead: Prefetcher::new(),
         }
     }
 
@@ -128,7 +128,7 @@ impl<K: AsBytes, V, const PREFIX_LEN: usize> TreeMap<K, V, PREFIX_LEN> {
         RangeMut {
             map: self,
             leaves,
-            ahead: Ahead::new(),
+            ahead: Prefetcher::new(),
         }
     }
 }
@@ -136,7 +136,7 @@ impl<K: AsBytes, V, const PREFIX_LEN: usize> TreeMap<K, V, PREFIX_LEN> {
 impl<'a, K: AsBytes, V, const PREFIX_LEN: usize> RangeMut<'a, K, V, PREFIX_LEN> {
     ghost use Rattle.art_map.specs.LentWalks.{IsRangeEnd, IsRangeFirst, IsRangeLast, LendsValue};
     ghost use Rattle.art_map.specs.LentWalks.{lends_if_in_range, lends_in_range};
-    ghost use Rattle.art_map.specs.LentWalks.{range_before, range_behind, range_left, range_rest};
+    ghost use Rattle.art_map.specs.LentWalks.{range_before, range_after, range_left, range_rest};
 
     /// Returns whether no pair is still to come.
     ///
@@ -165,7 +165,7 @@ impl<'a, K: AsBytes, V, const PREFIX_LEN: usize> RangeMut<'a, K, V, PREFIX_LEN> 
     /// ```
     pub fn next(&mut self) -> Option<&mut V>
         ensures* writes_back { sem 𝓛 (lends_if_in_range K.row V.row PREFIX_LEN K.AsBytes self.entry
-            (range_behind self.old) result) }
+            (range_after self.old) result) }
         ensures lent { LendsValue (IsRangeFirst self.old) (range_rest self.old) result }
     {
         if self.is_empty() {
@@ -211,7 +211,7 @@ impl<'a, K: AsBytes, V, const PREFIX_LEN: usize> RangeMut<'a, K, V, PREFIX_LEN> 
     pub fn next_pair(&mut self) -> (&K, &mut V)
         requires { 0 < length (range_rest self.old) }
         ensures* writes_back { sem 𝓛 (lends_in_range K.row V.row PREFIX_LEN K.AsBytes self.entry
-            (range_behind self.old) result.1) }
+            (range_after self.old) result.1) }
         ensures lent { IsRangeFirst self.old (deref_pair_mut result) }
     {
         self.lend(End::First)

@@ -5,10 +5,11 @@ ghost use Rattle.std.specs.Fn.{FnOnceReturnsAt};
 ghost use Rattle.std.specs.Map.{lookup};
 ghost use Rattle.std.specs.Map.Calls.{ModifiesValue};
 ghost use Rattle.std.specs.Option.{unwrap_or, UnwrapsOrElse};
+ghost use Rattle.art_arena.specs.arena.Arena.{KeepsRoomOf};
 ghost use Rattle.art_arena.specs.arena.Shapes.{key_of};
 ghost use Rattle.art_operations.specs.KeyedLists.{HasKey, IsBlocked};
 
-use super::{Entry, KnownPlace, OccupiedEntry, VacantEntry};
+use super::{Entry, FoundPlace, OccupiedEntry, VacantEntry};
 use crate::map::TreeMap;
 use crate::map::refused::TryKeyError;
 use art_bytes::{AsBytes, NoPrefixesBytes};
@@ -42,12 +43,12 @@ impl<K: AsBytes, V, const PREFIX_LEN: usize> TreeMap<K, V, PREFIX_LEN> {
         ensures stored { HasKey (key_of K.bytes) (K.bytes key) self.old.pairs → IsOk result }
         ensures refused { IfErr result (IsKeyRefused K.bytes self.old.pairs key) }
     {
-        match self.place(&key) {
+        match self.find_place(&key) {
             Ok(place) => match self.stored_at(&place) {
                 Some(leaf) => Ok(Entry::Occupied(OccupiedEntry::new(self, leaf))),
                 None => Ok(Entry::Vacant(VacantEntry {
                     map: self,
-                    place: KnownPlace::new(place),
+                    place: FoundPlace::new(place),
                     key,
                     mark: PhantomData,
                 })),
@@ -87,7 +88,7 @@ impl<K: NoPrefixesBytes, V, const PREFIX_LEN: usize> TreeMap<K, V, PREFIX_LEN> {
             Some(leaf) => Entry::Occupied(OccupiedEntry::new(self, leaf)),
             None => Entry::Vacant(VacantEntry {
                 map: self,
-                place: KnownPlace::new(place),
+                place: FoundPlace::new(place),
                 key,
                 mark: PhantomData,
             }),
@@ -134,6 +135,7 @@ impl<'a, K: AsBytes, V, const PREFIX_LEN: usize> Entry<'a, K, V, PREFIX_LEN> {
         ensures pairs { (w : V) → entry_value result ≡ Some w
             → (entry_map result).now.pairs ≡ entry_pairs self.entry w }
         ensures names { KeepsAllLeaves K.bytes (entry_map self.entry).now (entry_map result).now }
+        ensures room { KeepsRoomOf (entry_map self.entry).now.nodes (entry_map result).now.nodes }
         ensures same_removal { pairs_without result ≡ pairs_without self.entry }
         ensures vacant { entry_value self.entry ≡ None → IsSame self.entry result }
         ensures update { ModifiesValue F.FnOnce f (entry_value self.entry) (entry_value result) }

@@ -1,6 +1,7 @@
 //! The methods of `OccupiedEntry`.
 ghost use Rattle.std.specs.Prelude.{◌≡◌, Some, IfOk, IsOk, OnErr, OnOk};
 ghost use Rattle.std.specs.Borrow.{sem};
+ghost use Rattle.art_arena.specs.arena.Arena.{HasRoom, KeepsRoomOf, UsesRoom};
 ghost use Rattle.art_arena.specs.arena.Shapes.{key_of};
 ghost use Rattle.art_arena.specs.tree.Shrinks.{Shrinks};
 
@@ -103,6 +104,7 @@ impl<'a, K: AsBytes, V, const PREFIX_LEN: usize> OccupiedEntry<'a, K, V, PREFIX_
         ensures value { entry_value (Occupied self.entry) ≡ Some result.now }
         ensures pairs { (w : V) → (with_entry_value self.entry w).map.now.pairs ≡ entry_pairs (Occupied self.entry) w }
         ensures names { (w : V) → KeepsAllLeaves K.bytes self.entry.map.now (with_entry_value self.entry w).map.now }
+        ensures room { (w : V) → KeepsRoomOf self.entry.map.now.nodes (with_entry_value self.entry w).map.now.nodes }
     {
         let OccupiedEntry { map, leaf, mark: _ } = self;
         let (_key, value) = map.pair_mut_at(leaf);
@@ -142,6 +144,8 @@ impl<'a, K: AsBytes, V, const PREFIX_LEN: usize> OccupiedEntry<'a, K, V, PREFIX_
         ensures kept { OnErr result (IsUntouched self.entry.map.now self.exit.0.now) }
         ensures shrinks { OnErr result (Shrinks (key_of K.bytes) self.entry.map.now.pairs
             (K.bytes (entry_key (Occupied self.entry)))) }
+        ensures succeeds { HasRoom self.entry.map.now.nodes 1 → IsOk result }
+        ensures room { UsesRoom 1 self.entry.map.now.nodes self.exit.0.now.nodes }
     {
         let (_key, value) = self.remove_entry()?;
         Ok(value)
@@ -167,6 +171,8 @@ impl<'a, K: AsBytes, V, const PREFIX_LEN: usize> OccupiedEntry<'a, K, V, PREFIX_
         ensures kept { OnErr result (IsUntouched self.entry.map.now self.exit.0.now) }
         ensures shrinks { OnErr result (Shrinks (key_of K.bytes) self.entry.map.now.pairs
             (K.bytes (entry_key (Occupied self.entry)))) }
+        ensures succeeds { HasRoom self.entry.map.now.nodes 1 → IsOk result }
+        ensures room { UsesRoom 1 self.entry.map.now.nodes self.exit.0.now.nodes }
     {
         let leaf = self.leaf;
         self.map.take_at(leaf)

@@ -1,6 +1,7 @@
 //! The methods of `VacantEntry`.
-ghost use Rattle.std.specs.Prelude.{◌≡◌, IfOk};
+ghost use Rattle.std.specs.Prelude.{◌≡◌, IfOk, IsOk};
 ghost use Rattle.std.specs.Borrow.{sem};
+ghost use Rattle.art_arena.specs.arena.Arena.{HasRoom};
 ghost use Rattle.art_operations.specs.Insertions.{HandsPairBack};
 
 use super::{OccupiedEntry, VacantEntry};
@@ -8,7 +9,8 @@ use art_bytes::AsBytes;
 use art_operations::InsertRefused;
 
 impl<'a, K: AsBytes, V, const PREFIX_LEN: usize> VacantEntry<'a, K, V, PREFIX_LEN> {
-    ghost use Rattle.art_map.specs.Entries.{Occupied, Vacant, entry_key, lends_entry, rests_if_refused, IsWritten};
+    ghost use Rattle.art_map.specs.Entries.{Occupied, Vacant, entry_key, entry_map, lends_entry, rests_if_refused};
+    ghost use Rattle.art_map.specs.Entries.{IsWritten};
 
     /// Returns the key that would be inserted.
     ///
@@ -58,6 +60,7 @@ impl<'a, K: AsBytes, V, const PREFIX_LEN: usize> VacantEntry<'a, K, V, PREFIX_LE
         ensures* writes_back { sem 𝓛 (lends_entry K.row V.row PREFIX_LEN K.AsBytes (Vacant self.entry) result) }
         ensures value { IfOk result (λ lent. lent.now ≡ value) }
         ensures handed_back { HandsPairBack (entry_key (Vacant self.entry)) value result }
+        ensures succeeds { HasRoom (entry_map (Vacant self.entry)).now.nodes 2 → IsOk result }
     {
         let VacantEntry {
             map,
@@ -65,7 +68,7 @@ impl<'a, K: AsBytes, V, const PREFIX_LEN: usize> VacantEntry<'a, K, V, PREFIX_LE
             key,
             mark: _,
         } = self;
-        let leaf = match map.put_leaf(place.found(), key, value) {
+        let leaf = match map.insert_leaf(place.found(), key, value) {
             Ok(leaf) => leaf,
             Err(refused) => return Err(refused),
         };
@@ -92,6 +95,7 @@ impl<'a, K: AsBytes, V, const PREFIX_LEN: usize> VacantEntry<'a, K, V, PREFIX_LE
         ensures* rests { sem 𝓛 (rests_if_refused K.row V.row PREFIX_LEN K.AsBytes (Vacant self.entry) result) }
         ensures written { IfOk result (λ entry. IsWritten (Vacant self.entry) value (Occupied entry)) }
         ensures handed_back { HandsPairBack (entry_key (Vacant self.entry)) value result }
+        ensures succeeds { HasRoom (entry_map (Vacant self.entry)).now.nodes 2 → IsOk result }
     {
         let VacantEntry {
             map,
@@ -99,7 +103,7 @@ impl<'a, K: AsBytes, V, const PREFIX_LEN: usize> VacantEntry<'a, K, V, PREFIX_LE
             key,
             mark: _,
         } = self;
-        match map.put_leaf(place.found(), key, value) {
+        match map.insert_leaf(place.found(), key, value) {
             Ok(leaf) => Ok(OccupiedEntry::new(map, leaf)),
             Err(refused) => Err(refused),
         }

@@ -1,7 +1,8 @@
 //! The methods of `InnerOccupiedEntry`.
-ghost use Rattle.std.specs.Prelude.{◌≡◌, option_copied, Some, IfOk, IsSome};
+ghost use Rattle.std.specs.Prelude.{◌≡◌, option_copied, Some, IfOk, IsOk, IsSome};
 ghost use Rattle.std.specs.Borrow.{sem};
 ghost use Rattle.std.specs.Option.{option_copied_mut};
+ghost use Rattle.art_arena.specs.arena.Arena.{HasRoom};
 ghost use Rattle.art_operations.specs.Insertions.{HandsPairBack};
 ghost use Rattle.art_map.specs.Contents.{option_value};
 ghost use Rattle.art_map.specs.Overlapped.{lone_item};
@@ -211,6 +212,7 @@ impl<'a, K: AsBytes, V, const PREFIX_LEN: usize> InnerOccupiedEntry<'a, K, V, PR
         ensures* writes_back { sem 𝓛 (lends_inner K.row V.row PREFIX_LEN K.AsBytes self.entry result) }
         ensures value { IfOk result (λ lent. lent.now ≡ value) }
         ensures handed_back { HandsPairBack self.entry.key value result }
+        ensures succeeds { HasRoom self.entry.map.now.nodes 2 → IsOk result }
     {
         let InnerOccupiedEntry { map, key, mark: _ } = self;
         let put = match map.prefix_put(key, value) {
@@ -243,6 +245,7 @@ impl<'a, K: AsBytes, V, const PREFIX_LEN: usize> InnerOccupiedEntry<'a, K, V, PR
         ensures* rests { sem 𝓛 (inner_rests K.row V.row PREFIX_LEN K.AsBytes self.entry result) }
         ensures written { IfOk result (IsInnerWritten self.entry value) }
         ensures handed_back { HandsPairBack self.entry.key value result }
+        ensures succeeds { HasRoom self.entry.map.now.nodes 2 → IsOk result }
     {
         let InnerOccupiedEntry { map, key, mark: _ } = self;
         match map.prefix_put(key, value) {

@@ -6,7 +6,7 @@ ghost use Rattle.std.specs.Option.{unwrap_or, UnwrapsOrElse};
 
 use super::{PrefixEntry, PrefixOccupied, Spot};
 use crate::map::TreeMap;
-use crate::map::entry::{KnownPlace, OccupiedEntry, VacantEntry};
+use crate::map::entry::{FoundPlace, OccupiedEntry, VacantEntry};
 use art_bytes::AsBytes;
 use art_operations::InsertRefused;
 use std::marker::PhantomData;
@@ -31,7 +31,7 @@ impl<K: AsBytes, V, const PREFIX_LEN: usize> TreeMap<K, V, PREFIX_LEN> {
         ensures unchanged { (prefix_map result).now ≡ self.old }
         ensures entry { IsPrefixEntryOf self.old.pairs key result }
     {
-        match self.place(&key) {
+        match self.find_place(&key) {
             Ok(place) => match self.stored_at(&place) {
                 Some(leaf) => PrefixEntry::Occupied(PrefixOccupied {
                     map: self,
@@ -40,7 +40,7 @@ impl<K: AsBytes, V, const PREFIX_LEN: usize> TreeMap<K, V, PREFIX_LEN> {
                 }),
                 None => PrefixEntry::Vacant(VacantEntry {
                     map: self,
-                    place: KnownPlace::new(place),
+                    place: FoundPlace::new(place),
                     key,
                     mark: PhantomData,
                 }),

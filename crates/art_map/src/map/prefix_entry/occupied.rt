@@ -1,7 +1,8 @@
 //! The methods of `PrefixOccupied`.
-ghost use Rattle.std.specs.Prelude.{◌≡◌, option_copied, Some, None, IfErr, IfOk, IsOk};
+ghost use Rattle.std.specs.Prelude.{◌≡◌, option_copied, Some, IfOk, IsOk};
 ghost use Rattle.std.specs.Borrow.{sem};
 ghost use Rattle.std.specs.Option.{option_copied_mut};
+ghost use Rattle.art_arena.specs.arena.Arena.{KeepsRoomOf};
 ghost use Rattle.art_map.specs.Contents.{option_value};
 
 use super::{InnerOccupiedEntry, PrefixOccupied, PrefixOccupiedKind, Spot};
@@ -17,7 +18,7 @@ impl<'a, K: AsBytes, V, const PREFIX_LEN: usize> PrefixOccupied<'a, K, V, PREFIX
     ghost use Rattle.art_map.specs.Lends.{lends_value_at, with_value_at};
     ghost use Rattle.art_map.specs.PrefixEntries.{occupied_kind, lends_prefix, lends_shown, lone_pair, occupied_map};
     ghost use Rattle.art_map.specs.PrefixEntries.{prefix_key, prefix_pairs_with, prefix_rests, prefix_value};
-    ghost use Rattle.art_map.specs.PrefixEntries.{Occupied, IsPrefixFilled, IsPrefixWritten};
+    ghost use Rattle.art_map.specs.PrefixEntries.{Occupied, IsPrefixFilled, IsPrefixWritten, IsRefusedPrefix};
 
     /// Returns the entry of the stored key, or that of a key in conflict with stored ones, in the same map.
     ///
@@ -59,6 +60,7 @@ impl<'a, K: AsBytes, V, const PREFIX_LEN: usize> PrefixOccupied<'a, K, V, PREFIX
         ensures pairs { (w : V) → (with_value_at self.entry.map.now leaf w).pairs
             ≡ prefix_pairs_with (Occupied self.entry) w }
         ensures names { (w : V) → KeepsLeaves K.bytes self.entry.map.now (with_value_at self.entry.map.now leaf w) }
+        ensures room { (w : V) → KeepsRoomOf self.entry.map.now.nodes (with_value_at self.entry.map.now leaf w).nodes }
     {
         let PrefixOccupied {
             map,
@@ -195,8 +197,7 @@ impl<'a, K: AsBytes, V, const PREFIX_LEN: usize> PrefixOccupied<'a, K, V, PREFIX
         V: Drop,
         ensures* writes_back { sem 𝓛 (lends_prefix K.row V.row PREFIX_LEN K.AsBytes (Occupied self.entry) result) }
         ensures value { IfOk result (λ lent. lent.now ≡ value) }
-        ensures handed_back { IfErr result (λ refused. (prefix_value (Occupied self.entry) ≡ None)
-            × (refused.key ≡ prefix_key (Occupied self.entry)) × (refused.value ≡ value)) }
+        ensures handed_back { IsRefusedPrefix (Occupied self.entry) (λ v. v ≡ value) result }
     {
         let PrefixOccupied { map, spot, mark: _ } = self;
         match spot {
@@ -234,8 +235,7 @@ impl<'a, K: AsBytes, V, const PREFIX_LEN: usize> PrefixOccupied<'a, K, V, PREFIX
         V: Drop,
         ensures* rests { sem 𝓛 (prefix_rests K.row V.row PREFIX_LEN K.AsBytes (Occupied self.entry) result) }
         ensures written { IfOk result (IsPrefixWritten (Occupied self.entry) value) }
-        ensures handed_back { IfErr result (λ refused. (prefix_value (Occupied self.entry) ≡ None)
-            × (refused.key ≡ prefix_key (Occupied self.entry)) × (refused.value ≡ value)) }
+        ensures handed_back { IsRefusedPrefix (Occupied self.entry) (λ v. v ≡ value) result }
     {
         let PrefixOccupied { map, spot, mark: _ } = self;
         match spot {

@@ -1,5 +1,6 @@
 //! The leaves of the pairs whose keys overlap a key, and the pair that is inserted in their place.
 ghost use Rattle.std.specs.Prelude.{◌≡◌, length, option_map, IfOk, IsOk, OnErr, OnOk};
+ghost use Rattle.art_arena.specs.arena.Arena.{HasRoom, KeepsRoomOf, UsesRoom};
 ghost use Rattle.art_arena.specs.arena.Shapes.{key_of};
 ghost use Rattle.art_map.specs.Contents.{IsUntouched};
 ghost use Rattle.art_map.specs.LeafNames.{KeepsLeaves};
@@ -15,8 +16,8 @@ use art_arena::LeafPtr;
 use art_bytes::AsBytes;
 use art_nodes::OpaqueNodePtr;
 use art_operations::{
-    InsertRefused, PrefixInsertResult, find_place_over, find_prefix_segment,
-    prefix_search_unchecked, put_over,
+    InsertRefused, PrefixInsertResult, find_place_over, find_prefix_segment, insert_over,
+    prefix_search_unchecked,
 };
 use art_walks::{RawIterator, SubtreeIter};
 
@@ -42,7 +43,7 @@ fn left_by<K, V>(put: &PrefixInsertResult<K, V>) -> Overwritten
 }
 
 // What a prefix insertion leaves, as `left_by` tells. The pair that it may hold is dropped.
-fn told_of<K: Drop, V: Drop>(put: PrefixInsertResult<K, V>) -> Overwritten
+fn overwritten_by<K: Drop, V: Drop>(put: PrefixInsertResult<K, V>) -> Overwritten
     ensures root { result.root ≡ put.insert_result.new_root }
     ensures leaf { result.leaf ≡ put.insert_result.leaf_node_ptr }
     ensures count { result.count ≡ removed_by put }
@@ -114,13 +115,17 @@ impl<K: AsBytes, V, const PREFIX_LEN: usize> TreeMap<K, V, PREFIX_LEN> {
         ensures err { OnErr result (self.new.pairs ≡ self.old.pairs) }
         ensures kept { OnErr result (IsUntouched self.old self.new) }
         ensures handed_back { HandsPairBack key value result }
+        ensures succeeds { HasRoom self.old.nodes 2 → IsOk result }
+        ensures room { UsesRoom 2 self.old.nodes self.new.nodes }
+        ensures stored_room { HasKey (key_of K.bytes) (K.bytes key) self.old.pairs
+            → KeepsRoomOf self.old.nodes self.new.nodes }
     {
         // By value an option of a name counts as moved, so a copy goes in.
         let root = self.root;
         let place = find_place_over(&self.arena, root, key.as_bytes());
-        match put_over(&mut self.arena, place, key, value) {
+        match insert_over(&mut self.arena, place, key, value) {
             Ok(put) => {
-                let left = told_of(put);
+                let left = overwritten_by(put);
                 self.root = Some(left.root);
                 Ok(left)
             }

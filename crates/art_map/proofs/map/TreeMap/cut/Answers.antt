@@ -37,8 +37,13 @@ returns-clause-count g c =
 pub returns-clause-visits : goal.returns-clause-visits
 returns-clause-visits g c =
     subst (λ m. (front : List ℕ) → ∥ IsReadyPart g.K.AsBytes.bytes g.row.PREFIX_LEN m front (Some c.args.ready) ∥₁ → c.saturating_add.result ≡ cut_visits g.K.AsBytes.bytes front m.pairs c.args.visits) c.self.view_is
-    (λ front known. cut-visits g.K.AsBytes.bytes g.row.PREFIX_LEN front g.K.AsBytes.is_key c.self.inside.arena c.self.inside.root c.self.invariant c.args.ready.point (∥∥₁_map known (λ ready. ready.0)) c.apply-cut.new.arena c.apply-cut.result c.apply-cut.ensures.cut c.args.visits c.saturating_add.result c.saturating_add.ensures)
+    (λ front known. cut-visits g.K.AsBytes.bytes g.row.PREFIX_LEN front g.K.AsBytes.is_key c.self.inside.arena c.self.inside.root c.self.invariant
+    c.args.ready.point (∥∥₁_map known (λ ready. ready.0)) c.apply-cut.new.arena c.apply-cut.result c.apply-cut.ensures.cut c.args.visits
+    c.saturating_add.result c.saturating_add.ensures)
 
 pub returns-clause-names : goal.returns-clause-names
 returns-clause-names g c =
     rw (← c.self.view_is) (names-between g.K.AsBytes.bytes g.row.PREFIX_LEN g.K.AsBytes.is_key c.self.inside.arena c.apply-cut.new.arena c.self.inside.root c.apply-cut.result.new_root c.self.invariant (invariant_of-self g c) c.apply-cut.ensures.names)
+
+pub returns-clause-room : goal.returns-clause-room
+returns-clause-room g c = rw (← c.self.view_is) c.apply-cut.ensures.room

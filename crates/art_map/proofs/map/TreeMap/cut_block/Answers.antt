@@ -1,4 +1,5 @@
-use Rattle.std.proofs.Common.{arith, length, sym, ap, ◌∙◌}
+use Rattle.art_operations.proofs.NewNodes.{fewer}
+use Rattle.std.proofs.Common.{◌+◌, arith, length, sym, ap, ◌∙◌}
 use Rattle.art_arena.proofs.Common.{key_of, begins_with}
 use Rattle.art_operations.proofs.Common.{all-but-none}
 use Rattle.art_map.proofs.Terms.{Block}
@@ -20,3 +21,6 @@ returns-in-None-clause-visits g c = λ front known.
 
 pub returns-in-None-clause-names : goal.returns-in-None-clause-names
 returns-in-None-clause-names g c = λ slot key has still. has
+
+pub returns-in-None-clause-room : goal.returns-in-None-clause-room
+returns-in-None-clause-room g c = λ n room. fewer c.args.self.now.nodes n (n + 1) (omega arith) room

@@ -1,8 +1,11 @@
-use Rattle.std.proofs.Common.{refl, sym, ap, subst, ◌∙◌, arith}
+use Rattle.std.proofs.Common.{◌+◌, ◌-◌, false, length, refl, sym, ap, subst, ◌∙◌, arith}
+use Rattle.art_arena.specs.arena.Arena.{UsesRoom}
 use Rattle.std.specs.Map.Calls.{CalledAtPair, RetainsPairs, TakesPair}
-use Rattle.art_map.proofs.Terms.{map_of, AddsNoLeaf, asking_by}
-use Rattle.art_map.proofs.Asks.{callable-first, none-left, on-err, one-left, retained-all, retaining-all, retaining-kept, retaining-stopped, retaining-taken}
+use Rattle.art_arena.specs.declared.ends.End.TheVariants.{First}
+use Rattle.art_map.proofs.Terms.{map_of, AddsNoLeaf, IsAsked, asking_by}
+use Rattle.art_map.proofs.Asks.{asked-long, asked-some, taken-long, callable-first, none-left, on-err, one-left, retained-all, retaining-all, retaining-kept, retaining-stopped, retaining-taken}
 use Rattle.art_map.proofs.LeafNames.{then-names}
+use Rattle.art_map.proofs.RoomKept.{UsesOfGone, gone-room, gone-uses, kinds-kept, none-gone, one-gone, same-gone}
 use Rattle.art_map.proofs.map.TreeMap.drop_others.Goals.{After-take}
 use Rattle.art_map.proofs.map.TreeMap.drop_others.Goals as goal
 
@@ -12,6 +15,7 @@ loop-pairs-init g c =
     record {
       same_map = refl;
       none_new = subst (AddsNoLeaf g.K.AsBytes.bytes c.args.self.now) (sym all.same_map.1) (λ slot key has. has);
+      room = none-gone c.args.self.now _ all.same_map.1;
       retaining = retaining-all (CalledAtPair g.F.FnMut) g.K.AsBytes.bytes (TakesPair g.F.FnMut) c.args.keep c.args.self.now.pairs (asking_by c.extraction_of_all-pairs.result c.args.keep) (ap (λ m. m.pairs) all.same_map.1) all.left refl c.nodes-root.ensures.ordered c.requires;
     }
 
@@ -34,6 +38,9 @@ loop-pairs-preserved-then-ask g c =
       same_map = ap (λ r. r.ghost_name) c.pass_front.ensures.same ∙ c.ask.ensures.same_map ∙ c.loop-pairs.invariant.same_map;
       none_new = subst (λ r. AddsNoLeaf g.K.AsBytes.bytes c.args.self.now r.now) (sym c.pass_front.ensures.same)
           (then-names g.K.AsBytes.bytes c.args.self.now.nodes (map_of c.loop-pairs.pairs).now.nodes (map_of c.ask.new.self).now.nodes c.loop-pairs.invariant.none_new c.ask.ensures.none_new);
+      room = subst (λ r. UsesOfGone c.args.self.now r.now) (sym c.pass_front.ensures.same)
+          (same-gone c.args.self.now (map_of c.loop-pairs.pairs).now (map_of c.ask.new.self).now c.loop-pairs.invariant.room
+          (asked-long (CalledAtPair g.F.FnMut) g.K.AsBytes.bytes (TakesPair g.F.FnMut) c.args.keep c.args.self.now.pairs s a c.loop-pairs.invariant.retaining c.if-ask.ensures.asked) c.ask.ensures.room);
       retaining = retaining-kept (CalledAtPair g.F.FnMut) g.K.AsBytes.bytes (TakesPair g.F.FnMut) c.args.keep c.args.self.now.pairs s a c.loop-pairs.invariant.retaining c.if-ask.ensures.asked m (ap (λ r. r.now.pairs) c.pass_front.ensures.same) refl c.pass_front.ensures.left;
     }
 
@@ -53,6 +60,9 @@ loop-pairs-preserved g c =
     record {
       same_map = taken.same_map ∙ c.ask.ensures.same_map ∙ c.loop-pairs.invariant.same_map;
       none_new = asked-taken g (goal.at.loop-pairs-preserved g c).After-take;
+      room = one-gone c.args.self.now (map_of c.loop-pairs.pairs).now (map_of c.take.new.self).now c.loop-pairs.invariant.room
+          (taken-long (CalledAtPair g.F.FnMut) g.K.AsBytes.bytes (TakesPair g.F.FnMut) c.args.keep c.args.self.now.pairs s a c.loop-pairs.invariant.retaining c.if-ask.ensures.asked c.in_ok-_pair._pair m.left m.pairs taken.left taken.pairs)
+          (λ n room. c.take.ensures.room n (kinds-kept (map_of c.loop-pairs.pairs).now.nodes (map_of c.ask.new.self).now.nodes c.ask.ensures.room (n + 1) room));
       retaining = retaining-taken (CalledAtPair g.F.FnMut) g.K.AsBytes.bytes (TakesPair g.F.FnMut) c.args.keep c.args.self.now.pairs s a c.loop-pairs.invariant.retaining c.if-ask.ensures.asked m refl c.in_ok-_pair._pair taken.left taken.pairs;
     }
 
@@ -86,3 +96,31 @@ returns-clause-none_new g c =
     let end = c.self-1.given in
     let same = sym (c.loop-pairs.invariant.same_map ∙ c.extraction_of_all-pairs.ensures.same_map.0) in
     subst (AddsNoLeaf g.K.AsBytes.bytes c.args.self.now) (sym (end.1 same)) c.loop-pairs.invariant.none_new
+
+pub returns-clause-room : goal.returns-clause-room
+returns-clause-room g c =
+    let end = c.self-1.given in
+    let same = sym (c.loop-pairs.invariant.same_map ∙ c.extraction_of_all-pairs.ensures.same_map.0) in
+    subst (λ m. UsesRoom (length c.args.self.now.pairs - length m.pairs) c.args.self.now.nodes m.nodes) (sym (end.1 same)) (gone-uses c.args.self.now _ c.loop-pairs.invariant.room)
+
+-- what was asked of, and is refused
+refused-room : (g : _) (c : After-take g) → IsAsked (CalledAtPair g.F.FnMut) g.K.AsBytes.bytes First (asking_by c.loop-pairs.pairs c.loop-pairs.keep) false (asking_by c.ask.new.self c.ask.new.pred) → UsesOfGone c.args.self.now (map_of c.ask.new.self).now
+refused-room g c asked =
+    same-gone c.args.self.now (map_of c.loop-pairs.pairs).now (map_of c.ask.new.self).now c.loop-pairs.invariant.room
+    (asked-long (CalledAtPair g.F.FnMut) g.K.AsBytes.bytes (TakesPair g.F.FnMut) c.args.keep c.args.self.now.pairs (asking_by c.loop-pairs.pairs c.loop-pairs.keep) (asking_by c.ask.new.self c.ask.new.pred) c.loop-pairs.invariant.retaining asked) c.ask.ensures.room
+
+pub returns-in_err-_pair-clause-room : goal.returns-in_err-_pair-clause-room
+returns-in_err-_pair-clause-room g c =
+    let end = c.in_err-_pair.self-in-Break-1-own.given in
+    let refused = c.in_err-_pair.ensures in
+    let same = sym (refused.same_map ∙ c.ask.ensures.same_map ∙ c.loop-pairs.invariant.same_map ∙ c.extraction_of_all-pairs.ensures.same_map.0) in
+    let uses = same-gone c.args.self.now (map_of c.ask.new.self).now (map_of c.take.new.self).now (refused-room g (goal.at.returns-in_err-_pair-clause-room g c).After-take c.if-ask.ensures.asked) (ap length refused.err.1) refused.untouched.2 in
+    subst (λ m. UsesRoom (length c.args.self.now.pairs - length m.pairs) c.args.self.now.nodes m.nodes) (sym (end.1 same)) (gone-uses c.args.self.now _ uses)
+
+pub returns-in_err-_pair-clause-succeeds : goal.returns-in_err-_pair-clause-succeeds
+returns-in_err-_pair-clause-succeeds g c = λ room.
+    let s = asking_by c.loop-pairs.pairs c.loop-pairs.keep in
+    let a = asking_by c.ask.new.self c.ask.new.pred in
+    let some = asked-some (CalledAtPair g.F.FnMut) g.K.AsBytes.bytes (TakesPair g.F.FnMut) c.args.keep c.args.self.now.pairs s a c.loop-pairs.invariant.retaining c.if-ask.ensures.asked in
+    let never = c.in_err-_pair.ensures.succeeds (gone-room c.args.self.now (map_of c.ask.new.self).now (refused-room g (goal.at.returns-in_err-_pair-clause-succeeds g c).After-take c.if-ask.ensures.asked) some room) in
+    absurd (cc)

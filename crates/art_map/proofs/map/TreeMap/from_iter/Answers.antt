@@ -9,21 +9,24 @@ returns-then-not-nodes_fit g c =
       it.result,
       [],
       it.ensures.into_iter_gives,
-      next-back g.K.AsBytes.bytes (λ pair. pair) g.U.IntoIterator.into_iter_gives g.U.IntoIter.Iterator.next_gives it.result it.result c.next.new.self [] (c.in-Some.key, c.in-Some.value) (record { key = c.in-Some.key; value = c.in-Some.value })
-          c.in-Some.key c.in-Some.value refl c.in-Some.ensures.steps refl (refl, refl),
+      (
+        next-back g.K.AsBytes.bytes (λ pair. pair) g.U.IntoIterator.into_iter_gives g.U.IntoIter.Iterator.next_gives it.result it.result c.next.new.self [] (c.in-Some.key, c.in-Some.value) (record { key = c.in-Some.key; value = c.in-Some.value })
+            c.in-Some.key c.in-Some.value refl c.in-Some.ensures.steps refl (refl, refl),
+        λ stored. stored.1,
+      ),
     )
 
 pub returns-in_err-put_all : goal.returns-in_err-put_all
 returns-in_err-put_all g c =
-    let (it, given, gives, put, back) = c.in_err-put_all.ensures.pairs in
-    made-refused g.K.AsBytes.bytes (λ pair. pair) g.U.IntoIterator.into_iter_gives g.U.IntoIter.Iterator.next_gives c.args.iter it given _ c.from_residual.result gives back.0 c.from_residual.ensures.1
+    let (it, given, gives, put, room, back) = c.in_err-put_all.ensures.pairs in
+    made-refused g.K.AsBytes.bytes (λ pair. pair) g.U.IntoIterator.into_iter_gives g.U.IntoIter.Iterator.next_gives c.args.iter it given _ c.from_residual.result gives back.0 (back.2 [] c.new-builder.ensures) c.from_residual.ensures.1
 
 pub finish-requires : goal.finish-requires
 finish-requires g c =
-    let (it, given, gives, put, drains) = c.in_ok-put_all.ensures.pairs in
+    let (it, given, gives, put, room, drains) = c.in_ok-put_all.ensures.pairs in
     (omega arith, (omega arith, (c.if-not-nodes_fit.ensures.0 refl, (with_pairs_put g.K.AsBytes.bytes (map (λ p. p) given) [], put [] c.new-builder.ensures))))
 
 pub returns : goal.returns
 returns g c =
-    let (it, given, gives, put, drains) = c.in_ok-put_all.ensures.pairs in
+    let (it, given, gives, put, room, drains) = c.in_ok-put_all.ensures.pairs in
     (it, given, gives, (drains, c.finish.ensures.pairs _ (put [] c.new-builder.ensures)))

@@ -67,3 +67,6 @@ returns-in-Ok-Some-clause-names g c =
 pub returns-in-Ok-None-clause-names : goal.returns-in-Ok-None-clause-names
 returns-in-Ok-None-clause-names g c =
     rw (← c.self.view_is) (names-between g.K.AsBytes.bytes g.row.PREFIX_LEN g.K.AsBytes.is_key c.self.inside.arena c.take_end.new.arena c.self.inside.root c.self.inside.root c.self.invariant (invariant_of-self-in-Ok-None g c) c.in-Ok-None.ensures.names)
+
+pub returns-in-Ok-None-clause-none_room : goal.returns-in-Ok-None-clause-none_room
+returns-in-Ok-None-clause-none_room g c = rw (← c.self.view_is) (rw c.in-Ok-None.field-0-is at c.in-Ok-None.ensures.none_room)

@@ -4,12 +4,12 @@ use Rattle.art_map.proofs.map.TreeMap.prefix.Goals as goal
 
 pub new-requires : goal.new-requires
 new-requires g c =
-    let walk = rw (← c.self.view_is) at c.walk_behind-walk.ensures in
+    let walk = rw (← c.self.view_is) at c.walk_with_prefix-walk.ensures in
     (omega arith, (omega arith, (_, walk.run)))
 
 pub returns-clause-rest : goal.returns-clause-rest
 returns-clause-rest g c =
-    let walk = rw (← c.self.view_is) at c.walk_behind-walk.ensures in
+    let walk = rw (← c.self.view_is) at c.walk_with_prefix-walk.ensures in
     rw (← c.self.view_is, ← c.as_bytes.ensures.value) (c.new.ensures _ walk.run ∙ walk.pairs_are)
 
 pub returns-clause-ordered : goal.returns-clause-ordered

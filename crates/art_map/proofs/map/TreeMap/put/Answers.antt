@@ -4,7 +4,7 @@ use Rattle.art_map.proofs.map.TreeMap.put.Goals as goal
 
 pub invariant_of-self : goal.invariant_of-self
 invariant_of-self g c =
-    put-map g.K.AsBytes.bytes g.K.AsBytes.is_key g.row.PREFIX_LEN c.self.inside.arena c.self.inside.root c.self.invariant c.insert_pair.new.arena c.args.key c.args.value c.in-Ok.put c.as_bytes-known.ensures.key
+    put-map g.K.AsBytes.bytes g.K.AsBytes.is_key g.row.PREFIX_LEN c.self.inside.arena c.self.inside.root c.self.invariant c.insert_pair.new.arena c.args.key c.args.value c.in-Ok.put c.as_bytes-key_bytes.ensures.key
     (c.in-Ok.ensures.ok _ [] c.self.invariant.has)
 
 pub invariant_of-self-in-Err : goal.invariant_of-self-in-Err
@@ -48,3 +48,9 @@ returns-in-Err-clause-room g c = rw (← c.self.view_is) c.insert_pair.ensures.r
 
 pub returns-in-Ok-clause-names : goal.returns-in-Ok-clause-names
 returns-in-Ok-clause-names g c = rw (← c.self.view_is) c.in-Ok.ensures.names
+
+pub returns-in-Ok-clause-stored_room : goal.returns-in-Ok-clause-stored_room
+returns-in-Ok-clause-stored_room g c = rw (← c.self.view_is) (c.insert_pair.ensures.stored_room _ [] c.self.invariant.has)
+
+pub returns-in-Err-clause-stored_room : goal.returns-in-Err-clause-stored_room
+returns-in-Err-clause-stored_room g c = rw (← c.self.view_is) (c.insert_pair.ensures.stored_room _ [] c.self.invariant.has)

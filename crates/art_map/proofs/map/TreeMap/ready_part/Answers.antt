@@ -28,3 +28,6 @@ pub returns-clause-shrinks : goal.returns-clause-shrinks
 returns-clause-shrinks g c =
     subst (λ m. OnErr c.prepare.result ((front : List ℕ) → IsFoundPart g.K.AsBytes.bytes g.row.PREFIX_LEN m front (Some c.args.part) → ShrinksAtCut g.K.AsBytes.bytes front m.pairs)) c.self.view_is
     (err-on c.prepare.result (λ shrinks front part. cut-shrinks g.K.AsBytes.bytes g.row.PREFIX_LEN front g.K.AsBytes.is_key c.self.inside.arena c.self.inside.root c.self.invariant c.args.part ∣ part ∣₁ shrinks) c.prepare.ensures.shrinks)
+
+pub returns-clause-kept_room : goal.returns-clause-kept_room
+returns-clause-kept_room g c = rw (← c.self.view_is) c.prepare.ensures.kept_room

@@ -70,3 +70,12 @@ returns-in-Ok-Some-clause-names g c =
 pub returns-in-Ok-None-clause-names : goal.returns-in-Ok-None-clause-names
 returns-in-Ok-None-clause-names g c =
     rw (← c.self.view_is) (names-between g.K.AsBytes.bytes g.row.PREFIX_LEN g.K.AsBytes.is_key c.self.inside.arena c.take_pair.new.arena c.self.inside.root c.self.inside.root c.self.invariant (invariant_of-self-in-Ok-None g c) c.in-Ok-None.ensures.names)
+
+pub returns-in-Ok-Some-clause-room : goal.returns-in-Ok-Some-clause-room
+returns-in-Ok-Some-clause-room g c = rw (← c.self.view_is) c.take_pair.ensures.room
+
+pub returns-in-Ok-None-clause-room : goal.returns-in-Ok-None-clause-room
+returns-in-Ok-None-clause-room g c = rw (← c.self.view_is) c.take_pair.ensures.room
+
+pub returns-in-Ok-None-clause-none_room : goal.returns-in-Ok-None-clause-none_room
+returns-in-Ok-None-clause-none_room g c = rw (← c.self.view_is) (rw c.in-Ok-None.field-0-is at c.in-Ok-None.ensures.none_room)

@@ -50,7 +50,7 @@ returns-in-Err-clause-shrinks g c =
     (shrinks-leaf g.K.AsBytes.bytes g.row.PREFIX_LEN g.K.AsBytes.is_key c.self.inside.arena c.self.inside.root c.self.invariant c.args.leaf (rw (← c.self.view_is) at c.requires) c.in-Some.root c.in-Some.is c.in-Err.ensures.shrinks)
 
 pub returns-in-Err-clause-untouched : goal.returns-in-Err-clause-untouched
-returns-in-Err-clause-untouched g c = rw (← c.self.view_is) (c.in-Err.ensures.err, refl)
+returns-in-Err-clause-untouched g c = rw (← c.self.view_is) (c.in-Err.ensures.err, refl, c.in-Err.ensures.kept_room)
 
 pub returns-in-Ok-clause-none_new : goal.returns-in-Ok-clause-none_new
 returns-in-Ok-clause-none_new g c = rw (← c.self.view_is) c.in-Ok.ensures.names
@@ -61,3 +61,6 @@ returns-in-Ok-clause-names g c =
 
 pub returns-in-Err-clause-none_new : goal.returns-in-Err-clause-none_new
 returns-in-Err-clause-none_new g c = rw (← c.self.view_is) (same-names g.K.AsBytes.bytes c.take_leaf.new.arena c.self.inside.arena (λ n. sym (c.in-Err.ensures.err n)))
+
+pub returns-in-Ok-clause-room : goal.returns-in-Ok-clause-room
+returns-in-Ok-clause-room g c = rw (← c.self.view_is) c.take_leaf.ensures.room

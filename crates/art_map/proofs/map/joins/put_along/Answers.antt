@@ -22,7 +22,7 @@ put-requires g c =
       (
         is.now,
         record { among = is.ahead.among; passed = is.ahead.ahead (c.in-Some.key, c.in-Some.value) c.next.new.self c.in-Some.ensures.steps },
-        none-blocks g.K.AsBytes.bytes g.K.AsBytes.is_key g.met.K.NoPrefixesBytes.no_prefixes is.now is.keys c.in-Some.key c.as_bytes-known.ensures.key,
+        none-blocks g.K.AsBytes.bytes g.K.AsBytes.is_key g.met.K.NoPrefixesBytes.no_prefixes is.now is.keys c.in-Some.key c.as_bytes-key_bytes.ensures.key,
       ),
     )
 
@@ -39,9 +39,9 @@ loop-key-preserved g c =
       put = λ had ahead keys.
           let is = c.loop-key.invariant.put had ahead keys in
           let put = c.in-Ok.ensures.ok is.now (record { among = is.ahead.among; passed = is.ahead.ahead (c.in-Some.key, c.in-Some.value) c.next.new.self c.in-Some.ensures.steps })
-          (none-blocks g.K.AsBytes.bytes g.K.AsBytes.is_key g.met.K.NoPrefixesBytes.no_prefixes is.now is.keys c.in-Some.key c.as_bytes-known.ensures.key) in
+          (none-blocks g.K.AsBytes.bytes g.K.AsBytes.is_key g.met.K.NoPrefixesBytes.no_prefixes is.now is.keys c.in-Some.key c.as_bytes-key_bytes.ensures.key) in
           one-merged g.K.AsBytes.bytes g.K.AsBytes.is_key c.loop-key.arena c.put.new.arena c.loop-key.cursor c.put.new.self (c.in-Some.key, c.in-Some.value) c.loop-key.pairs c.next.new.self c.args.pairs had is c.in-Some.ensures.steps
-          c.loop-key.invariant.ordered c.as_bytes-known.ensures.key _ put;
+          c.loop-key.invariant.ordered c.as_bytes-key_bytes.ensures.key _ put;
       ordered = (subst (AscendsByKey (key_of g.K.AsBytes.bytes)) c.in-Some.ensures.steps c.loop-key.invariant.ordered).1;
       room = c.in-Ok.ensures.room_of.own _ (let long = ap length c.in-Some.ensures.steps in let room = c.loop-key.invariant.room in omega (arith, long, room));
       names = then-names g.K.AsBytes.bytes c.put.new.arena c.loop-key.arena c.args.arena.now c.in-Ok.ensures.names c.loop-key.invariant.names;
@@ -54,9 +54,9 @@ loop-key-preserved-in-Ok g c =
       put = λ had ahead keys.
           let is = c.loop-key.invariant.put had ahead keys in
           let put = c.in-Ok.ensures.ok is.now (record { among = is.ahead.among; passed = is.ahead.ahead (c.in-Some.key, c.in-Some.value) c.next.new.self c.in-Some.ensures.steps })
-          (none-blocks g.K.AsBytes.bytes g.K.AsBytes.is_key g.met.K.NoPrefixesBytes.no_prefixes is.now is.keys c.in-Some.key c.as_bytes-known.ensures.key) in
+          (none-blocks g.K.AsBytes.bytes g.K.AsBytes.is_key g.met.K.NoPrefixesBytes.no_prefixes is.now is.keys c.in-Some.key c.as_bytes-key_bytes.ensures.key) in
           one-merged g.K.AsBytes.bytes g.K.AsBytes.is_key c.loop-key.arena c.put.new.arena c.loop-key.cursor c.put.new.self (c.in-Some.key, c.in-Some.value) c.loop-key.pairs c.next.new.self c.args.pairs had is c.in-Some.ensures.steps
-          c.loop-key.invariant.ordered c.as_bytes-known.ensures.key _ put;
+          c.loop-key.invariant.ordered c.as_bytes-key_bytes.ensures.key _ put;
       ordered = (subst (AscendsByKey (key_of g.K.AsBytes.bytes)) c.in-Some.ensures.steps c.loop-key.invariant.ordered).1;
       room = c.in-Ok.ensures.room_of.own _ (let long = ap length c.in-Some.ensures.steps in let room = c.loop-key.invariant.room in omega (arith, long, room));
       names = then-names g.K.AsBytes.bytes c.put.new.arena c.loop-key.arena c.args.arena.now c.in-Ok.ensures.names c.loop-key.invariant.names;

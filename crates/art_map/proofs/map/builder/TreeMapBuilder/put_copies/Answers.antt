@@ -1,5 +1,7 @@
 use Rattle.std.proofs.Common.{◌+◌, map, refl, sym, subst, arith}
 use Rattle.std.specs.Map.Iter.{deref_pair}
+use Rattle.art_arena.proofs.Common.{key_of}
+use Rattle.art_operations.proofs.Common.{HasKey}
 use Rattle.art_map.proofs.Terms.{with_pairs_put, HasGathered, nodes_of}
 use Rattle.art_map.proofs.LeafNames.{then-names}
 use Rattle.art_map.proofs.Puts.{gather-refused, next-back, put-item}
@@ -27,10 +29,15 @@ pub returns-in_err-put-clause-pairs : goal.returns-in_err-put-clause-pairs
 returns-in_err-put-clause-pairs g c =
     let it = c.into_iter-key-iterator in
     gather-refused g.K.AsBytes.bytes deref_pair g.U.IntoIterator.into_iter_gives g.U.IntoIter.Iterator.next_gives g.K.AsBytes.is_key c.args.self.now c.put.new.self c.args.iter it.result c.loop-key.yielded _ c.from_residual.result
-    it.ensures.into_iter_gives (λ pairs has. c.in_err-put.ensures.kept _ (c.loop-key.invariant.put pairs has))
+    it.ensures.into_iter_gives (λ pairs has. c.in_err-put.ensures.kept _ (c.loop-key.invariant.put pairs has)) (λ n some left. c.in_err-put.ensures.kept_room n some (c.loop-key.invariant.room n left))
     (next-back g.K.AsBytes.bytes deref_pair g.U.IntoIterator.into_iter_gives g.U.IntoIter.Iterator.next_gives it.result c.loop-key.key-iterator c.next.new.self c.loop-key.yielded (c.in-Some.key, c.in-Some.value) _ c.in-Some.key.now c.in-Some.value.now
     c.loop-key.yielded_by c.in-Some.ensures.steps refl c.in_err-put.ensures.handed_back)
-    (used-up c.args.self.now c.loop-key.yielded (λ left. let never = c.in_err-put.ensures.succeeds (c.loop-key.invariant.room 2 left) in absurd (cc))) c.from_residual.ensures.1
+    (used-up c.args.self.now c.loop-key.yielded (λ left. let never = c.in_err-put.ensures.succeeds (c.loop-key.invariant.room 2 left) in absurd (cc)))
+    (λ pairs has stored.
+    let ps = with_pairs_put g.K.AsBytes.bytes (map deref_pair c.loop-key.yielded) pairs in
+    let never = c.in_err-put.ensures.stored ps (c.loop-key.invariant.put pairs has) (subst (λ k. HasKey (key_of g.K.AsBytes.bytes) (g.K.AsBytes.bytes k) ps) c.in_err-put.ensures.handed_back.0 stored) in
+    absurd (cc))
+    c.from_residual.ensures.1
 
 pub returns-in_err-put-clause-names : goal.returns-in_err-put-clause-names
 returns-in_err-put-clause-names g c = then-names g.K.AsBytes.bytes (nodes_of c.put.new.self) (nodes_of c.loop-key.self) (nodes_of c.args.self.now) c.put.ensures.names c.loop-key.invariant.names
@@ -38,4 +45,4 @@ returns-in_err-put-clause-names g c = then-names g.K.AsBytes.bytes (nodes_of c.p
 pub returns-clause-pairs : goal.returns-clause-pairs
 returns-clause-pairs g c =
     let it = c.into_iter-key-iterator in
-    (it.result, c.loop-key.yielded, it.ensures.into_iter_gives, c.loop-key.invariant.put, (c.next.new.self, (c.loop-key.key-iterator, c.loop-key.yielded_by, c.in-None.ensures.steps)))
+    (it.result, c.loop-key.yielded, it.ensures.into_iter_gives, c.loop-key.invariant.put, (λ n some left. c.loop-key.invariant.room n left), (c.next.new.self, (c.loop-key.key-iterator, c.loop-key.yielded_by, c.in-None.ensures.steps)))

@@ -2,7 +2,9 @@ use Rattle.std.proofs.Common.{◌<◌, length, Some, None, refl, sym, ap, subst,
 use Rattle.std.specs.Map.Calls.{CalledAtPair, TakesPair}
 use Rattle.art_map.proofs.Terms.{asking, extract_map, map_of, AddsNoLeaf, asking_by}
 use Rattle.art_map.proofs.Asks.{callable-next, extracts-later, extracts-none, extracts-now, fewer-passed, fewer-taken, none-left, one-left}
+use Rattle.art_arena.proofs.Common.{KeepsRoomOf}
 use Rattle.art_map.proofs.LeafNames.{then-names}
+use Rattle.art_map.proofs.RoomKept.{kept-uses, then-uses}
 use Rattle.art_map.proofs.map.extract_if.ExtractIf.extract.Goals.{After-ask}
 use Rattle.art_map.proofs.map.extract_if.ExtractIf.extract.Goals as goal
 
@@ -19,6 +21,10 @@ ask-requires g c = (
 asked-names : (g : _) (c : After-ask g) → AddsNoLeaf g.K.AsBytes.bytes (extract_map c.args.self.now).now (map_of c.ask.new.self).now
 asked-names g c = then-names g.K.AsBytes.bytes (extract_map c.args.self.now).now.nodes (extract_map c.loop-end.self).now.nodes (map_of c.ask.new.self).now.nodes c.loop-end.invariant.none_new c.ask.ensures.none_new
 
+-- and all room stays
+asked-room : (g : _) (c : After-ask g) → KeepsRoomOf (extract_map c.args.self.now).now.nodes (map_of c.ask.new.self).now.nodes
+asked-room g c kind n room = c.ask.ensures.room kind n (c.loop-end.invariant.room kind n room)
+
 pub returns-then-ask-clause-steps : goal.returns-then-ask-clause-steps
 returns-then-ask-clause-steps g c =
     let taken = c.take.ensures in (
@@ -27,6 +33,7 @@ returns-then-ask-clause-steps g c =
           (extracts-now (CalledAtPair g.F.FnMut) g.K.AsBytes.bytes c.args.end (asking c.loop-end.self) (asking_by c.ask.new.self c.ask.new.pred) c.if-ask.ensures.asked (asking_by c.take.new.self c.ask.new.pred) refl c.take.result
           taken.left taken.pairs taken.err taken.shrinks),
       then-names g.K.AsBytes.bytes (extract_map c.args.self.now).now.nodes (map_of c.ask.new.self).now.nodes (map_of c.take.new.self).now.nodes (asked-names g (goal.at.returns-then-ask-clause-steps g c).After-ask) taken.none_new,
+      then-uses (extract_map c.args.self.now).now.nodes (map_of c.ask.new.self).now.nodes (map_of c.take.new.self).now.nodes 1 (asked-room g (goal.at.returns-then-ask-clause-steps g c).After-ask) taken.room,
     )
 
 pub returns-then-ask-clause-goes : goal.returns-then-ask-clause-goes
@@ -50,6 +57,7 @@ loop-end-preserved g c =
     let less = goes.1 in
     record {
       none_new = subst (λ r. AddsNoLeaf g.K.AsBytes.bytes (extract_map c.args.self.now).now r.now) (sym c.pass.ensures.same) (asked-names g (goal.at.loop-end-preserved g c).After-ask);
+      room = subst (λ r. KeepsRoomOf (extract_map c.args.self.now).now.nodes r.now.nodes) (sym c.pass.ensures.same) (asked-room g (goal.at.loop-end-preserved g c).After-ask);
       same_map = ap (λ r. r.ghost_name) c.pass.ensures.same ∙ c.ask.ensures.same_map ∙ c.loop-end.invariant.same_map;
       can = goes.0;
       fewer = omega (arith, less, fewer);
@@ -62,4 +70,5 @@ returns-clause-steps g c =
       c.loop-end.invariant.same_map,
       c.loop-end.invariant.later None s (extracts-none (CalledAtPair g.F.FnMut) g.K.AsBytes.bytes c.args.end s (none-left s.left c.is_empty.ensures c.loop-end-test.false)),
       c.loop-end.invariant.none_new,
+      kept-uses (extract_map c.args.self.now).now.nodes (extract_map c.loop-end.self).now.nodes c.loop-end.invariant.room,
     )

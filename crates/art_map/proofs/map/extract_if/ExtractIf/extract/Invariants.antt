@@ -1,6 +1,7 @@
 use Rattle.std.proofs.Common.{◌≡◌, ◌≤◌, length, Option, Result}
 use Rattle.std.specs.Map.Calls.{CalledAtPair}
 use Rattle.std.specs.declared.alloc.AllocError.{AllocError}
+use Rattle.art_arena.proofs.Common.{KeepsRoomOf}
 use Rattle.art_map.proofs.Terms.{Asking, CanExtractIf, Extracts, asking, extract_map, AddsNoLeaf}
 use Rattle.art_map.proofs.map.extract_if.ExtractIf.extract.Given as goal
 
@@ -9,6 +10,7 @@ abbrev pub invariant-loop-end : goal.invariant-loop-end
 invariant-loop-end g l = record {
   same_map : (extract_map l.self).ghost_name ≡ (extract_map l.initial.self).ghost_name;
   none_new : AddsNoLeaf g.K.AsBytes.bytes (extract_map l.initial.self).now (extract_map l.self).now;
+  room : KeepsRoomOf (extract_map l.initial.self).now.nodes (extract_map l.self).now.nodes;
   can : CanExtractIf g.F.FnMut l.self;
   fewer : length (asking l.self).left ≤ length (asking l.initial.self).left;
   later : (r : Option (Result (g.row.K.Denot × g.row.V.Denot) AllocError)) (t : Asking g.row.K.Denot g.row.V.Denot g.row.F.Denot)

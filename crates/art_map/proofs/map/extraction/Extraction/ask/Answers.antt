@@ -3,6 +3,7 @@ use base.Stored.{Coded-set, coded_list, coded×}
 use Rattle.art_map.proofs.Terms.{left_of}
 use Rattle.art_map.proofs.Extractions.{key-at-end, left-still, still-written}
 use Rattle.art_map.proofs.LeafNames.{written-names}
+use Rattle.art_map.proofs.RoomKept.{pair-room}
 use Rattle.art_map.proofs.map.extraction.Extraction.ask.Goals as goal
 
 pub invariant_of-self : goal.invariant_of-self
@@ -26,3 +27,6 @@ returns-clause-asked g c =
 
 pub returns-clause-none_new : goal.returns-clause-none_new
 returns-clause-none_new g c = let lent = c.pair_mut_at-value.result in written-names g.K.AsBytes.bytes c.args.self.now.map.now c.in-Some.leaf (lent.0.now, lent.1.now) c.pair_mut_at-value.ensures.value c.pred.new.arg3
+
+pub returns-clause-room : goal.returns-clause-room
+returns-clause-room g c = let lent = c.pair_mut_at-value.result in pair-room c.args.self.now.map.now c.in-Some.leaf (lent.0.now, lent.1.now) c.pair_mut_at-value.ensures.value c.pred.new.arg3

@@ -4,6 +4,7 @@ use Rattle.art_operations.proofs.Common.{with_pair_put}
 use Rattle.art_map.proofs.Terms.{left_of}
 use Rattle.art_map.proofs.Extractions.{key-at-end, left-still, same-key-at, still-written}
 use Rattle.art_map.proofs.LeafNames.{written-all}
+use Rattle.art_map.proofs.RoomKept.{pair-room}
 use Rattle.art_map.proofs.map.extraction.Extraction.lend.Goals as goal
 
 pub invariant_of-self-lent : goal.invariant_of-self-lent
@@ -23,6 +24,7 @@ returns g c =
                 ∙ ap (λ l. with_pair_put g.K.AsBytes.bytes l w c.args.self.now.map.now.pairs) (same-key-at g.K.AsBytes.bytes g.row.PREFIX_LEN c.args.self.now.map.now c.args.end pair.0 k pair.1 v at.0 rest (left_of c.args.self.now) at.1 is),
           );
           names = written-all g.K.AsBytes.bytes c.args.self.now.map.now c.in_ok-leaf.leaf pair c.pair_mut_at-value.ensures.value w;
+          room = pair-room c.args.self.now.map.now c.in_ok-leaf.leaf pair c.pair_mut_at-value.ensures.value w;
         }),
         (refl, refl),
       ),

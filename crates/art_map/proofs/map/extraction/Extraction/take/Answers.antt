@@ -1,6 +1,7 @@
-use Rattle.std.proofs.Common.{subst}
+use Rattle.std.proofs.Common.{sym, subst}
 use base.Stored.{Coded-set, coded_list, coded×}
-use Rattle.art_arena.proofs.Common.{key_of, Shrinks}
+use Rattle.art_arena.proofs.Common.{HasRoom, key_of, Shrinks}
+use Rattle.art_arena.specs.arena.Arena.{UsesRoom}
 use Rattle.art_map.proofs.Terms.{IsUntouched, left_of, AddsNoLeaf, KeepsLeaves}
 use Rattle.art_map.proofs.Extractions.{either-some, empty-some, left-taken}
 use Rattle.art_map.proofs.map.extraction.Extraction.take.Goals as goal
@@ -41,3 +42,12 @@ returns-in-Ok-clause-none_new g c = subst (λ m. AddsNoLeaf g.K.AsBytes.bytes m.
 
 pub returns-in-Err-clause-none_new : goal.returns-in-Err-clause-none_new
 returns-in-Err-clause-none_new g c = subst (λ m. AddsNoLeaf g.K.AsBytes.bytes m.now c.take_at.new.self) c.next_leaf-leaf.ensures.same c.take_at.ensures.none_new
+
+pub returns-in-Ok-clause-room : goal.returns-in-Ok-clause-room
+returns-in-Ok-clause-room g c = subst (λ m. UsesRoom 1 m.now.nodes c.take_at.new.self.nodes) c.next_leaf-leaf.ensures.same c.take_at.ensures.room
+
+pub returns-in-Err-clause-room : goal.returns-in-Err-clause-room
+returns-in-Err-clause-room g c = subst (λ m. UsesRoom 1 m.now.nodes c.take_at.new.self.nodes) c.next_leaf-leaf.ensures.same c.take_at.ensures.room
+
+pub returns-in-Err-clause-succeeds : goal.returns-in-Err-clause-succeeds
+returns-in-Err-clause-succeeds g c = λ room. c.in-Err.ensures.succeeds (subst (λ m. HasRoom m.now.nodes 1) (sym c.next_leaf-leaf.ensures.same) room)

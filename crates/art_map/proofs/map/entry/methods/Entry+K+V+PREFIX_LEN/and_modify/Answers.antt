@@ -23,5 +23,8 @@ returns-in-Occupied-clause-pairs g c w shown =
     let same : c.f.new.arg2 ≡ w = cc in
     did.pairs ∙ ap (entry_pairs (Occupied c.in-Occupied.entry)) same ∙ sym (ap (λ e. entry_pairs e w) c.in-Occupied.is)
 
+pub returns-in-Occupied-clause-room : goal.returns-in-Occupied-clause-room
+returns-in-Occupied-clause-room g c = rw c.in-Occupied.is (c.get_mut.ensures.written c.f.new.arg2).room
+
 pub returns-in-Occupied-clause-names : goal.returns-in-Occupied-clause-names
 returns-in-Occupied-clause-names g c = rw c.in-Occupied.is (c.get_mut.ensures.written c.f.new.arg2).names

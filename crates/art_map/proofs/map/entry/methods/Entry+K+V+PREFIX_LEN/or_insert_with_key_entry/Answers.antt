@@ -1,6 +1,6 @@
 use Rattle.std.proofs.Common.{refl, sym, subst}
 use Rattle.std.specs.Fn.{FnOnceReturnsAt}
-use Rattle.art_map.proofs.Entries.{ok-more, err-more}
+use Rattle.art_map.proofs.Entries.{ok-more, err-never}
 use Rattle.art_map.proofs.map.entry.methods.Entry+K+V+PREFIX_LEN.or_insert_with_key_entry.Goals as goal
 
 pub returns-in-Vacant : goal.returns-in-Vacant
@@ -12,6 +12,6 @@ returns-in-Vacant g c =
       record {
         rests = tt;
         filled = ok-more c.insert_entry.result (λ entry is. (c.default-given.result, gave, is)) c.insert_entry.ensures.written;
-        handed_back = err-more c.insert_entry.result (λ refused back. (refl, back.0, subst Gives (sym back.1) gave)) c.insert_entry.ensures.handed_back;
+        handed_back = err-never c.insert_entry.result (λ refused back never. (refl, back.0, subst Gives (sym back.1) gave, never)) c.insert_entry.ensures.handed_back c.insert_entry.ensures.succeeds;
       },
     )

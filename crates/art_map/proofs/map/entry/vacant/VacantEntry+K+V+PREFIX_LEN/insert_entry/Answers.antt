@@ -9,7 +9,8 @@ returns-in-Ok g c =
       (ap some (sym c.new.ensures.same_map.0), (λ w. refl), tt),
       record {
         rests = tt;
-        written = put-as e c.put_leaf.new.self c.args.value c.in-Ok.ensures.pairs c.in-Ok.ensures.names c.new.result c.new.ensures.same_map (c.new.ensures.pair (e.key, c.args.value) c.in-Ok.ensures.leaf);
+        written = put-as e c.insert_leaf.new.self c.args.value c.in-Ok.ensures.pairs c.in-Ok.ensures.names c.insert_leaf.ensures.room c.new.result c.new.ensures.same_map (c.new.ensures.pair (e.key, c.args.value) c.in-Ok.ensures.leaf);
         handed_back = tt;
+        succeeds = λ room. refl;
       },
     )

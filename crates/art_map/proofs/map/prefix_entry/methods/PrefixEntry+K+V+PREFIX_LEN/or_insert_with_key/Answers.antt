@@ -2,14 +2,14 @@ use Rattle.std.proofs.Common.{refl, sym, subst}
 use Rattle.std.specs.Fn.{FnOnceReturnsAt}
 use Rattle.art_map.specs.PrefixEntries.{Occupied}
 use Rattle.art_map.proofs.Terms.{prefix_key}
-use Rattle.art_map.proofs.Entries.{err-more, ok-more}
-use Rattle.art_map.proofs.PrefixEntries.{no-value}
+use Rattle.art_map.proofs.Entries.{err-more, err-never, ok-more}
+use Rattle.art_map.proofs.PrefixEntries.{no-value, stored-leaves}
 use Rattle.art_map.proofs.map.prefix_entry.methods.PrefixEntry+K+V+PREFIX_LEN.or_insert_with_key.Goals as goal
 
 pub returns-in-Some : goal.returns-in-Some
 returns-in-Some g c =
     rw c.in-Occupied.is (
-      (refl, (λ w _. (c.lend.ensures.pairs w, c.lend.ensures.names w)), tt),
+      (refl, (λ w _. (c.lend.ensures.pairs w, c.lend.ensures.names w, stored-leaves _ _ _ _ c.lend.ensures.value (c.lend.ensures.room w))), tt),
       record { writes_back = tt; value = rw c.lend.ensures.value refl; handed_back = tt },
     )
 
@@ -23,7 +23,7 @@ returns-in-None g c =
       record {
         writes_back = tt;
         value = ok-more c.insert.result (λ lent same. rw none (subst Gives (sym same) gave)) c.insert.ensures.value;
-        handed_back = err-more c.insert.result (λ refused back. (back.0, back.1, subst Gives (sym back.2) gave)) c.insert.ensures.handed_back;
+        handed_back = err-more c.insert.result (λ refused back. (back.0, back.1, subst Gives (sym back.2) gave, back.3)) c.insert.ensures.handed_back;
       },
     )
 
@@ -32,10 +32,10 @@ returns-in-Vacant g c =
     let Gives = FnOnceReturnsAt g.F.FnOnce c.args.default (c.in-Vacant.entry.key) in
     let gave : Gives c.default-value-in-Vacant.result = (c.key-in-Vacant.result, c.default-value-in-Vacant.ensures, c.key-in-Vacant.ensures) in
     rw c.in-Vacant.is (
-      (refl, (λ w ok. let put = c.insert-in-Vacant.follows.holds w ok in (put.0, λ slot key has still. put.1 slot key has)), c.insert-in-Vacant.follows.holds-at-none),
+      (refl, (λ w ok. let put = c.insert-in-Vacant.follows.holds w ok in (put.0, (λ slot key has still. put.1 slot key has), put.2)), c.insert-in-Vacant.follows.holds-at-none),
       record {
         writes_back = tt;
         value = ok-more c.insert-in-Vacant.result (λ lent same. subst Gives (sym same) gave) c.insert-in-Vacant.ensures.value;
-        handed_back = err-more c.insert-in-Vacant.result (λ refused back. (refl, back.0, subst Gives (sym back.1) gave)) c.insert-in-Vacant.ensures.handed_back;
+        handed_back = err-never c.insert-in-Vacant.result (λ refused back never. (refl, back.0, subst Gives (sym back.1) gave, never)) c.insert-in-Vacant.ensures.handed_back c.insert-in-Vacant.ensures.succeeds;
       },
     )

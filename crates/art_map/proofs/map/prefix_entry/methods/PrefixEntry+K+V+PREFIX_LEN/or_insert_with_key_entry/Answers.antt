@@ -2,7 +2,7 @@ use Rattle.std.proofs.Common.{refl, sym, subst}
 use Rattle.std.specs.Fn.{FnOnceReturnsAt}
 use Rattle.art_map.specs.PrefixEntries.{Occupied}
 use Rattle.art_map.proofs.Terms.{occupied_kind, prefix_key}
-use Rattle.art_map.proofs.Entries.{err-more, ok-more}
+use Rattle.art_map.proofs.Entries.{err-more, err-never, ok-more}
 use Rattle.art_map.proofs.PrefixEntries.{no-error, no-value, same-fills, written-fills}
 use Rattle.art_map.proofs.map.prefix_entry.methods.PrefixEntry+K+V+PREFIX_LEN.or_insert_with_key_entry.Goals as goal
 
@@ -27,7 +27,7 @@ returns-in-None g c =
       record {
         rests = tt;
         filled = ok-more c.insert_entry.result (λ d is. written-fills (occupied_kind c.in-Occupied.entry) _ d none c.default-value.result gave is) c.insert_entry.ensures.written;
-        handed_back = err-more c.insert_entry.result (λ refused back. (back.0, back.1, subst Gives (sym back.2) gave)) c.insert_entry.ensures.handed_back;
+        handed_back = err-more c.insert_entry.result (λ refused back. (back.0, back.1, subst Gives (sym back.2) gave, back.3)) c.insert_entry.ensures.handed_back;
       },
     )
 
@@ -40,6 +40,6 @@ returns-in-Vacant g c =
       record {
         rests = tt;
         filled = ok-more c.insert_entry-in-Vacant.result (λ d is. (c.default-value-in-Vacant.result, gave, is)) c.insert_entry-in-Vacant.ensures.written;
-        handed_back = err-more c.insert_entry-in-Vacant.result (λ refused back. (refl, back.0, subst Gives (sym back.1) gave)) c.insert_entry-in-Vacant.ensures.handed_back;
+        handed_back = err-never c.insert_entry-in-Vacant.result (λ refused back never. (refl, back.0, subst Gives (sym back.1) gave, never)) c.insert_entry-in-Vacant.ensures.handed_back c.insert_entry-in-Vacant.ensures.succeeds;
       },
     )

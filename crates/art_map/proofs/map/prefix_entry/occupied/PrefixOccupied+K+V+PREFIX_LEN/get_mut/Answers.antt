@@ -6,6 +6,7 @@ use Rattle.art_map.proofs.Terms.{option_value, with_value_at, lone_item, overlap
 use Rattle.art_map.proofs.Entries.{value-is}
 use Rattle.art_map.proofs.LeafNames.{written-all}
 use Rattle.art_map.proofs.PrefixEntries.{held-at, kind-new, kind-stored, leaf-entry, shown-new, shown-stored}
+use Rattle.art_map.proofs.RoomKept.{pair-room}
 use Rattle.art_map.proofs.Written.{one-pair}
 use Rattle.art_map.proofs.map.prefix_entry.occupied.PrefixOccupied+K+V+PREFIX_LEN.get_mut.Goals as goal
 
@@ -27,7 +28,7 @@ returns-in-Some g c =
     let found = c.in-Some.ensures in
     let lone : lone_item (overlapping (key_of bytes) (bytes k) e.map.now.pairs) ≡ Some found.0 = subst (λ q. lone_item (overlapping (key_of bytes) q e.map.now.pairs) ≡ Some found.0) c.as_bytes.ensures.value found.2 in
     let written = subst (λ q. (w : g.row.V.Denot) → (with_value_at e.map.now c.in-Some.leaf w).pairs ≡ set_value (overlaps_query bytes q) e.map.now.pairs w) c.as_bytes.ensures.value found.3 in (
-      (refl, (λ w. shown-new e k c.in-New.is _ refl refl w (written w) (written-all bytes e.map.now c.in-Some.leaf found.0 found.1 w)), (refl, refl)),
+      (refl, (λ w. shown-new e k c.in-New.is _ refl refl w (written w) (written-all bytes e.map.now c.in-Some.leaf found.0 found.1 w) (pair-room e.map.now c.in-Some.leaf found.0 found.1 w)), (refl, refl)),
       record {
         writes_back = tt;
         value = rw (kind-new e k c.in-New.is) (ap Some (one-pair e.map.now c.in-Some.leaf found.0 (_, _) found.1 c.pair_mut_at-value-in-Some.ensures.value).1 ∙ sym (ap option_value lone));

@@ -25,7 +25,7 @@ returns-in-Ok g c =
       (ap some (sym made.same_map.0), (λ w. refl), tt),
       record {
         rests = tt;
-        written = rw (kind-new e k c.in-New.is) (over-as (record { map = e.map; key = k; mark = e.mark }) c.prefix_put.new.self c.args.value c.in-Ok.ensures.pairs c.in-Ok.ensures.names c.new-in-Ok.result made.same_map (made.pair (k, c.args.value) c.in-Ok.ensures.leaf));
+        written = rw (kind-new e k c.in-New.is) (over-as (record { map = e.map; key = k; mark = e.mark }) c.prefix_put.new.self c.args.value c.in-Ok.ensures.pairs c.in-Ok.ensures.names c.prefix_put.ensures.room c.new-in-Ok.result made.same_map (made.pair (k, c.args.value) c.in-Ok.ensures.leaf));
         handed_back = tt;
       },
     )

@@ -1,6 +1,6 @@
 use Rattle.std.proofs.Common.{refl, arith}
 use Rattle.art_map.proofs.Terms.{has_leaf}
-use Rattle.art_map.proofs.PrefixEntries.{held-at, names-shown, pairs-shown, slot-of, value-shown}
+use Rattle.art_map.proofs.PrefixEntries.{held-at, names-shown, pairs-shown, room-shown, slot-of, value-shown}
 use Rattle.art_map.proofs.map.prefix_entry.occupied.PrefixOccupied+K+V+PREFIX_LEN.lend.Goals as goal
 
 pub pair_mut_at-value-requires : goal.pair_mut_at-value-requires
@@ -17,5 +17,6 @@ returns g c =
         value = value-shown e c.args.leaf is _ _ lent.value;
         pairs = pairs-shown e c.args.leaf is _ _ lent.value lent.pairs;
         names = names-shown e c.args.leaf is _ _ lent.value;
+        room = room-shown e c.args.leaf is _ _ lent.value;
       },
     )

@@ -1,6 +1,6 @@
 use Rattle.std.proofs.Common.{[]}
 use Rattle.art_map.proofs.Maps.{ascending-map, stored-placed}
-use Rattle.art_map.proofs.map.TreeMap.place.Goals as goal
+use Rattle.art_map.proofs.map.TreeMap.find_place.Goals as goal
 
 pub returns-clause-placed : goal.returns-clause-placed
 returns-clause-placed g c = rw (← c.as_bytes.ensures.value, ← c.self.view_is) (c.find_place.ensures.placed _ [] c.self.invariant.has)

@@ -1,4 +1,4 @@
--- What a look-up finds behind a change. Callers cite these lemmas where a proof of theirs needs one of the laws.
+-- What a look-up finds after a change. Callers cite these lemmas where a proof of theirs needs one of the laws.
 use Rattle.std.proofs.Common.{◌≡◌, ℕ, Bool, true, false, cond, not, List, [], ◌∷◌, Option, Some, None, bytes_eq}
 use Rattle.std.proofs.Common.{refl, sym, ap, ◌∙◌, arith}
 use Rattle.std.specs.BTreeMap.Range.{range_contains}
@@ -17,7 +17,7 @@ not-not true x y = refl
 not-not false x y = refl
 
 -- whether two keys are the same, seen from either
-turned : (k l : List ℕ) → bytes_eq k l ≡ bytes_eq l k
+pub turned : (k l : List ℕ) → bytes_eq k l ≡ bytes_eq l k
 turned k l = by_test (bytes_eq k l) refl
   where
     by_test : (b : Bool) → bytes_eq k l ≡ b → b ≡ bytes_eq l k
@@ -81,11 +81,11 @@ module _ {K V : Type 0} (bytes : K → List ℕ) (query : List ℕ) where
   pub found-cut : (front : List ℕ) (ps : List (K × V)) → seen (without_front (key_of bytes) front ps) ≡ cond (begins_with front query) None (seen ps)
   found-cut front ps = found-kept (λ l. not (begins_with front l)) ps ∙ not-not (begins_with front query) (seen ps) None
 
-  pub found-behind : (front : List ℕ) (ps : List (K × V)) → seen (with_front (key_of bytes) front ps) ≡ cond (begins_with front query) (seen ps) None
-  found-behind front ps = found-kept (begins_with front) ps
+  pub found-after : (front : List ℕ) (ps : List (K × V)) → seen (with_front (key_of bytes) front ps) ≡ cond (begins_with front query) (seen ps) None
+  found-after front ps = found-kept (begins_with front) ps
 
   pub found-between : (start end : Bound (List ℕ)) (ps : List (K × V)) → seen (pairs_between bytes start end ps) ≡ cond (range_contains bytes_cmp start end query) (seen ps) None
   found-between start end ps = found-kept (range_contains bytes_cmp start end) ps
 
 -- what the laws of a map say
-pub ruleset laws = (found-inserted, found-removed, found-over, found-cut, found-behind, found-between)
+pub ruleset laws = (found-inserted, found-removed, found-over, found-cut, found-after, found-between)

@@ -2,7 +2,7 @@ use Rattle.std.proofs.Common.{arith}
 use Rattle.art_arena.proofs.Common.{begins_with}
 use Rattle.art_operations.proofs.Common.{front_convex}
 use Rattle.art_map.proofs.Ranges.{top-stores, walk-nowhere, walk-where}
-use Rattle.art_map.proofs.map.TreeMap.walk_behind.Goals as goal
+use Rattle.art_map.proofs.map.TreeMap.walk_with_prefix.Goals as goal
 
 pub find_prefix_segment-requires : goal.find_prefix_segment-requires
 find_prefix_segment-requires g c =
