@@ -1,5 +1,5 @@
--- A closure that is asked of keys in turn, and what is left behind a call.
-use Rattle.std.proofs.Common.{◌≡◌, ℕ, Bool, true, false, cond, List, [], ◌∷◌, ◌++◌, Option, Some, None, Result, Ok, Err, refl, sym, ap, ◌∙◌, subst, inl, inr, arith, append_assoc}
+-- A closure that is asked of keys in turn, and what is left after a call.
+use Rattle.std.proofs.Common.{◌≡◌, ◌<◌, ℕ, suc, length, Bool, true, false, cond, List, [], ◌∷◌, ◌++◌, Option, Some, None, Result, Ok, Err, refl, sym, ap, ◌∙◌, subst, inl, inr, arith, append_assoc, length-append}
 use Rattle.std.specs.Prelude.{IfOk, OnErr, filter}
 use Rattle.std.specs.List.{items_where_true}
 use Rattle.std.specs.List.Retain.{ExtractsNext, IsFiltered}
@@ -25,9 +25,9 @@ module _ {K F : Type 0} (T : F → K → Bool → F → Type 0) where
     pub callable-next : (f : F) (k : K) (keys on : List K) → keys ≡ k ∷ on → CallableOnEachKey T Q f keys → Q f k
     callable-next f k keys on e can = can.at [] on f k e refl
 
-    -- and then at those behind it
-    pub callable-behind : (f h : F) (k : K) (keys on : List K) → keys ≡ k ∷ on → CallableOnEachKey T Q f keys → (b : Bool) → T f k b h → CallableOnEachKey T Q h on
-    callable-behind f h k keys on e can b call = record { at = λ front back last l g calls. can.at (k ∷ front) back last l (e ∙ ap (λ xs. k ∷ xs) g) (h, (b, call), calls) }
+    -- and then at those after it
+    pub callable-after : (f h : F) (k : K) (keys on : List K) → keys ≡ k ∷ on → CallableOnEachKey T Q f keys → (b : Bool) → T f k b h → CallableOnEachKey T Q h on
+    callable-after f h k keys on e can b call = record { at = λ front back last l g calls. can.at (k ∷ front) back last l (e ∙ ap (λ xs. k ∷ xs) g) (h, (b, call), calls) }
 
     -- of none it is never asked
     pub callable-none : (f : F) (keys : List K) → keys ≡ [] → CallableOnEachKey T Q f keys
@@ -48,7 +48,7 @@ module _ {K F : Type 0} (T : F → K → Bool → F → Type 0) where
       comes = (refl, none);
     }
 
-    -- the closure was asked of the first key, and a call goes on behind it
+    -- the closure was asked of the first key, and a call goes on after it
     pub extracts-later : (s m : AskingKeys K F) (k : K) → s.left ≡ k ∷ m.left → T s.asks k false m.asks → m.keys ≡ s.keys
         → (r : Option (Result K E)) (t : AskingKeys K F) → ExtractsKey T bytes m r t → ExtractsKey T bytes s r t
     extracts-later s m k left call keys r t e = record {
@@ -119,7 +119,7 @@ module _ {K F : Type 0} (T : F → K → Bool → F → Type 0) where
         kept = so.kept ++ x ∷ [];
         keys_are = keys ∙ so.keys_are ∙ ap (λ ks. so.kept ++ ks) left ∙ sym (append_assoc so.kept (x ∷ []) m.left);
         ascend = subst (AscendsByKey bytes) (sym keys) so.ascend;
-        callable = callable-behind Q s.asks m.asks x s.left m.left left so.callable true call;
+        callable = callable-after Q s.asks m.asks x s.left m.left left so.callable true call;
         retains = λ ys h. subst (IsFiltered T f old) (sym (append_assoc so.kept (x ∷ []) ys))
             (so.retains (x ∷ ys) (subst (λ ks. IsFiltered T s.asks ks (x ∷ ys)) (sym left) (filtered-first s.asks m.asks x m.left ys true call h)));
         stops = λ k ys h. subst (StopsAtKey T f old k) (sym (append_assoc so.kept (x ∷ []) ys))
@@ -127,15 +127,32 @@ module _ {K F : Type 0} (T : F → K → Bool → F → Type 0) where
       }
 
       -- the first is taken out
+      taken-keys : (on keys : List K) → s.left ≡ x ∷ on → keys ≡ without_key bytes (bytes x) s.keys → keys ≡ so.kept ++ on
+      taken-keys on keys left are =
+          let all : s.keys ≡ so.kept ++ x ∷ on = so.keys_are ∙ ap (λ ks. so.kept ++ ks) left in
+          let out = taken bytes x so.kept on (subst (AscendsByKey bytes) all so.ascend) in
+          are ∙ ap (without_key bytes (bytes x)) all ∙ sym out.new_is
+
+      -- one key less is left
+      pub taken-long : (on keys : List K) → s.left ≡ x ∷ on → keys ≡ without_key bytes (bytes x) s.keys → suc (length keys) ≡ length s.keys
+      taken-long on keys left are =
+          let old = ap length (so.keys_are ∙ ap (λ ks. so.kept ++ ks) left) in
+          let new = ap length (taken-keys on keys left are) in
+          omega (arith, old, new, length-append so.kept (x ∷ on), length-append so.kept on)
+
+      -- there is one where one is left
+      pub some-left : (on : List K) → s.left ≡ x ∷ on → 0 < length s.keys
+      some-left on left =
+          let old = ap length (so.keys_are ∙ ap (λ ks. so.kept ++ ks) left) in
+          omega (arith, old, length-append so.kept (x ∷ on))
+
       pub retaining-taken : (m : AskingKeys K F) → s.left ≡ x ∷ m.left → T s.asks x false m.asks → m.keys ≡ without_key bytes (bytes x) s.keys → RetainingKeys m
       retaining-taken m left call keys =
-          let all : s.keys ≡ so.kept ++ x ∷ m.left = so.keys_are ∙ ap (λ ks. so.kept ++ ks) left in
-          let out = taken bytes x so.kept m.left (subst (AscendsByKey bytes) all so.ascend) in
           record {
             kept = so.kept;
-            keys_are = keys ∙ ap (without_key bytes (bytes x)) all ∙ sym out.new_is;
+            keys_are = taken-keys m.left m.keys left keys;
             ascend = subst (AscendsByKey bytes) (sym keys) (ascending-filter bytes _ s.keys so.ascend);
-            callable = callable-behind Q s.asks m.asks x s.left m.left left so.callable false call;
+            callable = callable-after Q s.asks m.asks x s.left m.left left so.callable false call;
             retains = λ ys h. so.retains ys (subst (λ ks. IsFiltered T s.asks ks ys) (sym left) (filtered-first s.asks m.asks x m.left ys false call h));
             stops = λ k ys h. so.stops k ys (subst (λ ks. StopsAtKey T s.asks ks k ys) (sym left) (false, m.asks, call, inr (ys, h, refl)));
           }

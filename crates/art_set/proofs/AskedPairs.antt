@@ -1,18 +1,24 @@
 -- What the extraction of a map's pairs tells of a set's keys.
-use Rattle.std.proofs.Common.{◌≡◌, ℕ, ◌≤◌, Bool, true, List, [], ◌∷◌, length, drop, Some, None, Result, Ok, Err, refl, sym, ap, ◌∙◌, subst, arith}
+use Rattle.std.proofs.Common.{◌≡◌, ℕ, suc, ◌+◌, ◌-◌, ◌<◌, ◌≤◌, Bool, true, List, [], ◌∷◌, length, drop, Some, None, Result, Ok, Err, refl, sym, ap, ap₂, ◌∙◌, subst, arith}
+use Rattle.std.proofs.lemmas.List.{length-map}
 use Rattle.std.specs.Prelude.{IfOk, OnErr, filter, is_ok}
 use Rattle.std.specs.Map.{keys_of}
-use Rattle.art_arena.proofs.Common.{key_of, Shrinks}
+use Rattle.art_arena.proofs.Common.{HasRoom, key_of, Shrinks}
+use Rattle.art_arena.specs.arena.Arena.{UsesRoom}
 use Rattle.art_bytes.specs.declared.as_bytes.AsBytes as as_bytes
-use Rattle.art_map.proofs.Common.{first_item, left_of, map_of}
+use Rattle.art_map.proofs.Common.{Contents, first_item, left_of, map_of}
+use Rattle.art_map.proofs.RoomKept.{UsesOfGone, gone-room, gone-uses}
 use Rattle.art_map.specs.declared.map.extraction.Extraction.{Extraction}
 use Rattle.art_operations.proofs.Common.{without_key}
 use Rattle.art_set.proofs.Terms.{AskingKeys, CallableOnEachKey}
+use Rattle.art_set.specs.Members.{Members, members}
+use Rattle.art_set.specs.Pairs.{pairs_of_keys}
 use Rattle.art_set.proofs.AskedKeys.{callable-none}
-use Rattle.art_set.proofs.Seen.{keys-without, shrinking}
+use Rattle.art_set.proofs.KeyPairs.{with-units}
+use Rattle.art_set.proofs.KeyViews.{keys-without, shrinking}
 
 module _ {K V : Type 0} where
-  -- the first key, and those behind it
+  -- the first key, and those after it
   pub first-left : (p : K × V) (ps : List (K × V)) → Some p ≡ first_item ps → keys_of ps ≡ p.0 ∷ keys_of (drop 1 ps)
   first-left p [] e = absurd (cc)
   first-left p (q ∷ ps) e = let same : q ≡ p = cc in ap (λ (x : K × V). x.0 ∷ keys_of ps) same
@@ -21,7 +27,7 @@ module _ {K V : Type 0} where
   none-first [] e = refl
   none-first (p ∷ ps) e = absurd (cc)
 
-  -- and once the first pair was left behind
+  -- and once the first pair was passed
   pub first-passed : (k : K) (ps qs : List (K × V)) → keys_of ps ≡ k ∷ keys_of (drop 1 ps) → ((p : K × V) × (ps ≡ p ∷ qs)) → keys_of ps ≡ k ∷ keys_of qs
   first-passed k ps qs e (p, f) = e ∙ ap (λ xs. k ∷ keys_of (drop 1 xs)) f
 
@@ -60,7 +66,7 @@ module _ {K V : Type 0} where
       subst (λ x. Shrinks bytes (keys_of ps) (bytes x)) (same-first k p old rest first left) (shrinking bytes (bytes p.0) ps shrinks),
     )
 
-    -- no more are then left than behind it, of which the closure may be asked
+    -- no more are then left than after it, of which the closure may be asked
     pub fewer-left : {F : Type 0} (T : F → K → Bool → F → Type 0) (Q : F → K → Type 0) (f : F) → CallableOnEachKey T Q f (keys_of (drop 1 old))
         → (r : Result (K × V) E) → IfOk r (λ p. old ≡ p ∷ new) → OnErr r ((new ≡ []) × (qs ≡ ps))
         → CallableOnEachKey T Q f (keys_of new) × (length (keys_of new) ≤ length (keys_of (drop 1 old)))
@@ -76,3 +82,25 @@ module _ {K V : Type 0} where
 -- the keys of a set's map, those that are left, and this closure
 abbrev pub asking_by : {K F : Type 0} {P : ℕ} {g : as_bytes.Ghosts K} → Extraction K (Unit {0}) P g → F → AskingKeys K F
 asking_by e f = record { keys = keys_of (map_of e).now.pairs; left = keys_of (left_of e); asks = f }
+
+-- the map of a set's keys beside the unit
+abbrev pub contents_of : {K : Type 0} → Members K → Contents K (Unit {0})
+contents_of s = record { pairs = pairs_of_keys s.keys; nodes = s.nodes; root = s.root }
+
+pub contents-back : {K : Type 0} (m : Contents K (Unit {0})) → m ≡ contents_of (members m)
+contents-back m = ap (λ ps. record m { pairs = ps }) (with-units m.pairs)
+
+module _ {K : Type 0} (s : Members K) (now : Contents K (Unit {0})) (uses : UsesOfGone (contents_of s) now) where
+  -- room for one node at most is used for each key that the set no longer has
+  pub uses-keys : UsesRoom (length s.keys - length (keys_of now.pairs)) s.nodes now.nodes
+  uses-keys n room =
+      gone-uses (contents_of s) now uses n (subst (HasRoom s.nodes) (ap₂ (λ a b. n + (a - b)) (sym (length-map s.keys (λ k. (k, tt)))) (length-map now.pairs (λ p. p.0))) room)
+
+  -- so with room for each key there is room for one that is still there
+  pub room-keys : 0 < length (keys_of now.pairs) → HasRoom s.nodes (length s.keys) → HasRoom now.nodes 1
+  room-keys some room =
+      gone-room (contents_of s) now uses (subst (λ n. 0 < n) (length-map now.pairs (λ p. p.0)) some) (subst (HasRoom s.nodes) (sym (length-map s.keys (λ k. (k, tt)))) room)
+
+-- one pair less is one key less
+pub one-less : {K V : Type 0} (ps qs : List (K × V)) → suc (length (keys_of qs)) ≡ length (keys_of ps) → suc (length qs) ≡ length ps
+one-less ps qs e = let p = length-map ps (λ x. x.0) in let q = length-map qs (λ x. x.0) in omega (arith, e, p, q)

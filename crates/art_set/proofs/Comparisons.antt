@@ -11,7 +11,7 @@ use Rattle.art_set.proofs.Terms.{is_member, comparisons_of, difference_of, has_n
 use Rattle.art_operations.proofs.Common.{turned}
 use Rattle.art_walks.proofs.Common.{all-filter}
 use Rattle.art_arena.proofs.Common.{all_weaker}
-use Rattle.art_set.proofs.MergeLemmas.{AreAbove, above-lack, above-next, above-next-turned, above-same, agrees, behind}
+use Rattle.art_set.proofs.MergeLemmas.{AreAbove, above-lack, above-next, above-next-turned, above-same, agrees, following}
 
 -- what holds is so where a test fails
 pub on-false : {P : Type 0} (b : Bool) → P → OnFalse b P
@@ -45,7 +45,7 @@ module _ {K : Type 0} (bytes : K → List ℕ) where
 
   -- the keys of the second list that the first lacks, without the first's next key
   lacks-same : (x : K) (xs ys : List K) → AreAbove bytes x ys → difference_of bytes ys (x ∷ xs) ≡ difference_of bytes ys xs
-  lacks-same x xs ys beside = filter-same _ _ ys (all_weaker _ (λ y. not (is_member bytes (bytes y) (x ∷ xs)) ≡ not (is_member bytes (bytes y) xs)) (λ y e. ap not e) ys (behind bytes x xs ys beside))
+  lacks-same x xs ys beside = filter-same _ _ ys (all_weaker _ (λ y. not (is_member bytes (bytes y) (x ∷ xs)) ≡ not (is_member bytes (bytes y) xs)) (λ y e. ap not e) ys (following bytes x xs ys beside))
 
   -- the first list's next key is below all of the second
   pub one-first : (x y : K) (xs ys : List K) → AreAbove bytes x xs → AreAbove bytes x (y ∷ ys) → comparisons_of bytes (x ∷ xs) (y ∷ ys) ≡ 1 + comparisons_of bytes xs (y ∷ ys)
@@ -71,9 +71,9 @@ module _ {K : Type 0} (bytes : K → List ℕ) where
   one-both x y xs ys same up beside =
       let back = turned (bytes x) (bytes y) Equal same in
       let ahead : AreAbove bytes x ys = above-same bytes x y ys same beside in
-      let behind_y : AreAbove bytes y xs = above-same bytes y x xs back up in
+      let after_y : AreAbove bytes y xs = above-same bytes y x xs back up in
       let here = ap (λ b. length (cond b (x ∷ filter (λ z. has_not_below bytes z (y ∷ ys)) xs) (filter (λ z. has_not_below bytes z (y ∷ ys)) xs))) (reaches x y ys (lt-is (bytes y) (bytes x) Equal back)) in
-      let first = ap length (filter-same (λ z. has_not_below bytes z (y ∷ ys)) (λ z. has_not_below bytes z ys) xs (below-all y ys xs behind_y)) in
+      let first = ap length (filter-same (λ z. has_not_below bytes z (y ∷ ys)) (λ z. has_not_below bytes z ys) xs (below-all y ys xs after_y)) in
       let met : is_member bytes (bytes y) (x ∷ xs) ≡ true = ap (λ b. b || is_member bytes (bytes y) xs) (agrees (bytes x) (bytes y) same) in
       let has = ap (λ b. length (filter (λ z. has_not_below bytes z (x ∷ xs)) (cond (not b) (y ∷ difference_of bytes ys (x ∷ xs)) (difference_of bytes ys (x ∷ xs))))) met in
       let lacks = ap (λ ks. length (filter (λ z. has_not_below bytes z (x ∷ xs)) ks)) (lacks-same x xs ys ahead) in

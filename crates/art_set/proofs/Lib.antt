@@ -1,4 +1,4 @@
-pub mod Seen
+pub mod KeyViews
 pub mod MergeLemmas
 pub mod MergeOrder
 pub mod Comparisons
@@ -6,7 +6,7 @@ pub mod AskedKeys
 pub mod AskedPairs
 pub mod KeyPuts
 pub mod KeyPairs
-pub mod MembersBehind
+pub mod MembersAfter
 pub mod KeyCompares
 pub mod Terms
 pub mod Common

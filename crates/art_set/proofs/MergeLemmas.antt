@@ -1,4 +1,4 @@
--- The first key of two ascending lists, and what a merge of them has behind it.
+-- The first key of two ascending lists, and what a merge of them has after it.
 use Rattle.std.proofs.Common.{◌≡◌, ℕ, ◌+◌, ◌-◌, ◌^◌, ◌<◌, min, Bool, true, false, not, cond, ◌&&◌, ◌||◌, bytes_eq, List, [], ◌∷◌, refl, sym, ap, ap₂, ◌∙◌, subst, arith, length, Option, Some, None}
 use Rattle.std.specs.Prelude.{filter, is_some, ⊤, IfNone}
 use Rattle.std.specs.Bool.{OnFalse}
@@ -46,8 +46,8 @@ module _ {K : Type 0} (bytes : K → List ℕ) where
   above-same x y ys e h = all_weaker _ _ (λ z f. nat_list_cmp_total.congr (bytes x) (bytes y) (bytes z) e ∙ f) ys h
 
   -- a key below all that are asked is not what they are asked for
-  pub behind : (x : K) (xs ys : List K) → AreAbove x ys → AllByRecursion (λ y. is_member bytes (bytes y) (x ∷ xs) ≡ is_member bytes (bytes y) xs) ys
-  behind x xs ys h = all_weaker _ (λ y. is_member bytes (bytes y) (x ∷ xs) ≡ is_member bytes (bytes y) xs) (λ y e. rw (differs (bytes x) (bytes y) e) refl) ys h
+  pub following : (x : K) (xs ys : List K) → AreAbove x ys → AllByRecursion (λ y. is_member bytes (bytes y) (x ∷ xs) ≡ is_member bytes (bytes y) xs) ys
+  following x xs ys h = all_weaker _ (λ y. is_member bytes (bytes y) (x ∷ xs) ≡ is_member bytes (bytes y) xs) (λ y e. rw (differs (bytes x) (bytes y) e) refl) ys h
 
   put-first : (x : K) (ys : List K) → AreAbove x ys → put_below bytes x ys ≡ x ∷ ys
   put-first x [] h = refl
@@ -75,7 +75,7 @@ module _ {K : Type 0} (bytes : K → List ℕ) where
     -- of the first list's next key, which is below all others, none of the second is lost
     pub merged-first : (x : K) (xs ys : List K) → AreAbove x xs → AreAbove x ys → merged bytes first both second (x ∷ xs) ys ≡ cond first (x ∷ merged bytes first both second xs ys) (merged bytes first both second xs ys)
     merged-first x xs ys up beside =
-        ap₂ (put_among bytes) (filter-same _ _ ys (all_weaker _ _ (λ y e. ap (λ b. cond second (not b) false) e) ys (behind x xs ys beside)))
+        ap₂ (put_among bytes) (filter-same _ _ ys (all_weaker _ _ (λ y e. ap (λ b. cond second (not b) false) e) ys (following x xs ys beside)))
         (ap (λ b. cond (cond b both first) (x ∷ of_first bytes first both second xs ys) (of_first bytes first both second xs ys)) (above-lack x ys beside))
         ∙ pick first
       where
@@ -86,7 +86,7 @@ module _ {K : Type 0} (bytes : K → List ℕ) where
     pub merged-second : (y : K) (xs ys : List K) → AreAbove y xs → AreAbove y ys → merged bytes first both second xs (y ∷ ys) ≡ cond second (y ∷ merged bytes first both second xs ys) (merged bytes first both second xs ys)
     merged-second y xs ys beside up =
         ap₂ (put_among bytes) (ap (λ b. cond (cond second (not b) false) (y ∷ of_second bytes first both second xs ys) (of_second bytes first both second xs ys)) (above-lack y xs beside))
-        (filter-same _ _ xs (all_weaker _ _ (λ x e. ap (λ b. cond b both first) e) xs (behind y ys xs beside)))
+        (filter-same _ _ xs (all_weaker _ _ (λ x e. ap (λ b. cond b both first) e) xs (following y ys xs beside)))
         ∙ pick second
       where
         pick : (b : Bool) → put_among bytes (cond (cond b true false) (y ∷ of_second bytes first both second xs ys) (of_second bytes first both second xs ys)) (of_first bytes first both second xs ys) ≡ cond b (y ∷ merged bytes first both second xs ys) (merged bytes first both second xs ys)
@@ -99,9 +99,9 @@ module _ {K : Type 0} (bytes : K → List ℕ) where
         let back : AreAbove y xs = above-same y x xs (turned (bytes x) (bytes y) Equal same) up in
         ap₂ (put_among bytes)
         (ap (λ b. cond (cond second (not (b || is_member bytes (bytes y) xs)) false) (y ∷ of_second bytes first both second (x ∷ xs) ys) (of_second bytes first both second (x ∷ xs) ys)) (agrees (bytes x) (bytes y) same)
-        ∙ pick second (of_second bytes first both second (x ∷ xs) ys) ∙ filter-same _ _ ys (all_weaker _ _ (λ z e. ap (λ b. cond second (not b) false) e) ys (behind x xs ys ahead)))
+        ∙ pick second (of_second bytes first both second (x ∷ xs) ys) ∙ filter-same _ _ ys (all_weaker _ _ (λ z e. ap (λ b. cond second (not b) false) e) ys (following x xs ys ahead)))
         (ap₂ (λ b zs. cond (cond (b || is_member bytes (bytes x) ys) both first) (x ∷ zs) zs) (agrees (bytes y) (bytes x) (turned (bytes x) (bytes y) Equal same))
-        (filter-same _ _ xs (all_weaker _ _ (λ z e. ap (λ b. cond b both first) e) xs (behind y ys xs back))))
+        (filter-same _ _ xs (all_weaker _ _ (λ z e. ap (λ b. cond b both first) e) xs (following y ys xs back))))
         ∙ give both
       where
         pick : (b : Bool) (zs : List K) → cond (cond b false false) (y ∷ zs) zs ≡ zs
@@ -164,8 +164,8 @@ compared-none bytes s = record { fewer = omega arith; counted = omega arith; mos
 pub one-less : {X : Type 0} (x : X) (xs on : List X) (n : ℕ) → xs ≡ x ∷ on → length on + n < length xs + n
 one-less x xs on n e = let l = ap length e in omega (arith, l)
 
-pub one-less-behind : {X : Type 0} (x : X) (xs on : List X) (n : ℕ) → xs ≡ x ∷ on → n + length on < n + length xs
-one-less-behind x xs on n e = let l = ap length e in omega (arith, l)
+pub one-less-after : {X : Type 0} (x : X) (xs on : List X) (n : ℕ) → xs ≡ x ∷ on → n + length on < n + length xs
+one-less-after x xs on n e = let l = ap length e in omega (arith, l)
 
 pub both-less : {X : Type 0} (x y : X) (xs ys on beyond : List X) → xs ≡ x ∷ on → ys ≡ y ∷ beyond → length on + length beyond < length xs + length ys
 both-less x y xs ys on beyond e f = let l = ap length e in let m = ap length f in omega (arith, l, m)

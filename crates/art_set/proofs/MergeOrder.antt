@@ -100,7 +100,7 @@ module _ {K : Type 0} (bytes : K → List ℕ) where
   ascending-left [] ys up = tt
   ascending-left (x ∷ xs) ys up = (all_left (λ y. bytes_cmp (bytes x) (bytes y) ≡ Less) xs ys up.0, ascending-left xs ys up.1)
 
-  -- a key is put in behind keys that come before it
+  -- a key is put in after keys that come before it
   pub collected : (is_key : K → Type 0) → ((k l : K) → is_key k → is_key l → BeginsWith (bytes k) (bytes l) → bytes k ≡ bytes l)
       → (all set rest on : List K) (k c : K) (new : List K) → AscendsInBytes bytes all → AllByRecursion is_key set → set ++ rest ≡ all → rest ≡ k ∷ on → is_key k → c ≡ k → new ≡ with_key_put bytes c set
       → AllByRecursion is_key new × (new ++ on ≡ all)

@@ -29,7 +29,7 @@ module _ {K F : Type 0} (T : F → K → Bool → F → Type 0) where
         → Q f' k
 
   -- f was called at each key in turn, as where keys are retained, up to k. Of that one it said false, and yet it stays,
-  -- and so do those behind it
+  -- and so do those after it
   abbrev pub StopsAtKey : F → List K → K → List K → Type 0
   StopsAtKey f [] k new = ⊥
   StopsAtKey f (x ∷ xs) k new =

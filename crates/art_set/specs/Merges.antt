@@ -45,7 +45,7 @@ module _ {K : Type 0} (bytes : K → List ℕ) where
   has_not_below x ys = list_any (λ y. not (is_below (bytes y) (bytes x))) ys
 
   -- How many comparisons a merge of two ascending lists needs: one for each step in which both have a key left. These
-  -- are the steps at the keys, one that both have taken once, that don't lie behind all of the other list.
+  -- are the steps at the keys, one that both have taken once, that don't lie after all of the other list.
   abbrev pub comparisons_of : List K → List K → ℕ
   comparisons_of xs ys = length (filter (λ x. has_not_below x ys) xs)
       + length (filter (λ y. has_not_below y xs) (difference_of ys xs))

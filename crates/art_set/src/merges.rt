@@ -1,6 +1,6 @@
 //! The keys of two sets, gone through side by side: what a set has alone, what both have in common, what they have
 //! together. Each merge is an iterator forward, ascending by the bytes of the keys. It counts its comparisons.
-ghost use Rattle.std.specs.Prelude.{◌≡◌, ◌+◌, length};
+ghost use Rattle.std.specs.Prelude.{◌≡◌, ◌+◌, ⊤, length};
 ghost use Rattle.std.specs.Iterator.{at_most};
 ghost use Rattle.art_set.specs.Merges.{GivesNext, comparisons_of};
 
@@ -13,6 +13,7 @@ use art_bytes::OrderedBytes;
 pub(crate) use kinds::{FirstAlone, InBoth, InEither, Kind, OneAlone};
 pub(crate) use peeked::Peeked;
 pub(crate) use sides::Sides;
+use std::alloc::AllocError;
 use std::iter::FusedIterator;
 use std::marker::{Model, PhantomData};
 
@@ -81,6 +82,34 @@ impl<'a, W: Kind<K>, K: OrderedBytes, const PREFIX_LEN: usize> Merged<'a, W, K, 
         ensures { result ≡ self.now.comparisons }
     {
         self.sides.comparisons()
+    }
+}
+
+/// Another merge of the keys still to come, which goes on with the number of comparisons that this one made. It
+/// allocates nothing, and never fails.
+///
+/// ```
+/// let mut first = TreeSet::new(rt.alloc());
+/// first.extend([*b"ab", *b"cd"])?;
+/// let mut second = TreeSet::new(rt.alloc());
+/// second.insert(*b"ef")?;
+/// let mut keys = first.union(&second);
+/// keys.next();
+/// let again = keys.clone()?;
+/// assert_eq!(rt; keys.next(), Some(b"cd"));
+/// assert!(rt; again.eq([b"cd", b"ef"]));
+/// ```
+impl<'a, W: Kind<K>, K: OrderedBytes, const PREFIX_LEN: usize> Clone
+    for Merged<'a, W, K, PREFIX_LEN> {
+    ghost is_clone = { λ original copy. copy ≡ original };
+
+    ghost is_infallible = { λ _. ⊤ };
+
+    fn clone(&self) -> Result<Self, AllocError> {
+        Ok(Merged {
+            sides: self.sides.clone()?,
+            kind: PhantomData,
+        })
     }
 }
 

@@ -24,7 +24,7 @@ fn collected<W: Kind<K>, K: OrderedBytes + NoPrefixesBytes + Clone + Drop, const
     let mut sides = first.beside(second);
     let wanted = W::wanted();
     while let Some(key) = sides.next_wanted(wanted) {
-        let _known = key.as_bytes();
+        let _key_bytes = key.as_bytes();
         let clone = key.clone()?;
         match builder.put(clone, ()) {
             Ok(()) => {}

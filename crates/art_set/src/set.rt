@@ -1,12 +1,14 @@
 //! The set itself: what it keeps, how it is made, and its length.
 ghost use Rattle.std.specs.Prelude.{◌≡◌, ◌==◌, ◌*◌, ◌<◌, ◌^◌, [], length, IsOk, OnOk};
 ghost use Rattle.art_arena.specs.arena.Arena.{HasRoom, IsTrimmed, KeepsRoom, KeepsRoomOf};
-ghost use Rattle.art_set.specs.LeafNames.{IsSetUntouched};
+ghost use Rattle.art_set.specs.LeafNames.{HasSameSetNodes, IsSetUntouched};
 
 mod algebra;
 mod builder;
 pub mod bulk;
 mod changes;
+mod collects;
+mod compact;
 mod compared;
 mod joins;
 mod lookups;
@@ -119,6 +121,7 @@ impl<K: AsBytes, const PREFIX_LEN: usize> TreeSet<K, PREFIX_LEN> {
         K: Drop,
         ensures keys { self.new.keys ≡ [] }
         ensures room { KeepsRoom self.old.nodes self.new.nodes }
+        ensures room_of { KeepsRoomOf self.old.nodes self.new.nodes }
     {
         self.map.clear();
     }
@@ -136,7 +139,7 @@ impl<K: AsBytes, const PREFIX_LEN: usize> TreeSet<K, PREFIX_LEN> {
     where
         K: Drop,
         ensures keys { self.new.keys ≡ self.old.keys }
-        ensures kept { IsSetUntouched self.old self.new }
+        ensures kept { HasSameSetNodes self.old self.new }
         ensures no_more { KeepsRoomOf self.new.nodes self.old.nodes }
         ensures trimmed { PREFIX_LEN < 2 ^ 62 → IsTrimmed self.new.nodes }
     {
@@ -145,7 +148,8 @@ impl<K: AsBytes, const PREFIX_LEN: usize> TreeSet<K, PREFIX_LEN> {
 
     /// Allocates the nodes of so many more insertions, whatever their keys are, as `TreeMap::reserve` does. While there
     /// is room for two nodes, `insert`, `try_insert` and `replace` are never out of memory, and each uses room for two
-    /// at most.
+    /// at most. Nor is `extend` of so many keys. A removal uses room for one, and doesn't fail where there is so much.
+    /// Room stays where a call is refused, or a key was a member already or isn't found.
     ///
     /// Fails only if there is no room for so many, and no memory. Either way the set is unchanged.
     ///

@@ -1,11 +1,12 @@
 //! `ExtractIf`: the keys of a range that a closure picks, which leave the set; and `retain`.
-ghost use Rattle.std.specs.Prelude.{◌≡◌, ◌⊎◌, [], is_ok, length, IfOk, OnErr, OnOk};
+ghost use Rattle.std.specs.Prelude.{◌≡◌, ◌⊎◌, ◌-◌, [], is_ok, length, IfOk, IsOk, OnErr, OnOk};
 ghost use Rattle.std.specs.Fn.{CalledAt, TakesAt};
 ghost use Rattle.std.specs.Iterator.{at_most};
 ghost use Rattle.std.specs.List.Retain.{IsFiltered};
 ghost use Rattle.std.specs.Borrow.{sem};
 ghost use Rattle.std.specs.Map.{keys_of};
 ghost use Rattle.std.specs.Range.Bound.{bound_map};
+ghost use Rattle.art_arena.specs.arena.Arena.{HasRoom, UsesRoom};
 ghost use Rattle.art_arena.specs.tree.Shrinks.{Shrinks};
 ghost use Rattle.art_walks.specs.Bounds.{AreValidKeyBounds};
 ghost use Rattle.art_map.specs.Extractions.{left_of, map_of};
@@ -21,7 +22,7 @@ use std::ops::Bound;
 // The key of a pair that was taken out.
 fn key_of<K>(pair: Result<(K, ()), AllocError>) -> Result<K, AllocError>
     ensures ok { IfOk result (λ key. IfOk pair (λ p. p.0 ≡ key)) }
-    ensures told { is_ok result ≡ is_ok pair }
+    ensures outcome { is_ok result ≡ is_ok pair }
 {
     match pair {
         Ok((key, ())) => Ok(key),
@@ -134,7 +135,7 @@ impl<K: AsBytes, const PREFIX_LEN: usize> TreeSet<K, PREFIX_LEN> {
     /// Keeps the keys for which the closure returns true, and drops the others. The closure is called on each key in
     /// ascending order. It has to be callable there, whatever it returned before.
     ///
-    /// Fails if the removal of a key does, as that of `take`. That key then stays. So do the keys behind it, on which
+    /// Fails if the removal of a key does, as that of `take`. That key then stays. So do the keys after it, on which
     /// the closure was not called. What was dropped before is gone.
     ///
     /// ```
@@ -150,6 +151,8 @@ impl<K: AsBytes, const PREFIX_LEN: usize> TreeSet<K, PREFIX_LEN> {
         ensures retained { OnOk result (IsFiltered (CalledAt F.FnMut) keep self.old.keys self.new.keys) }
         ensures refused { OnErr result ((key : K) × StopsAtKey (CalledAt F.FnMut) keep self.old.keys key self.new.keys
             × Shrinks K.bytes self.new.keys (K.bytes key)) }
+        ensures succeeds { HasRoom self.old.nodes (length self.old.keys) → IsOk result }
+        ensures room { UsesRoom (length self.old.keys - length self.new.keys) self.old.nodes self.new.nodes }
     {
         let _keys = self.iter();
         let mut keys = all_of(&mut self.map);

@@ -1,11 +1,12 @@
 //! An iterator over the keys of a set that shows the next one.
-ghost use Rattle.std.specs.Prelude.{◌≡◌, ◌==◌, drop, length};
+ghost use Rattle.std.specs.Prelude.{◌≡◌, ◌==◌, ⊤, drop, length};
 ghost use Rattle.std.specs.Map.Iter.{TakesFirst, deref};
 
 use crate::iterators::Iter;
 use art_arena::NodeArena;
 use art_bytes::AsBytes;
 use art_walks::Keys;
+use std::alloc::AllocError;
 use std::marker::Model;
 
 /// The keys of a set that are still to come, in order. A contract sees it as the list of them.
@@ -49,11 +50,24 @@ impl<'a, K: AsBytes, const PREFIX_LEN: usize> Peeked<'a, K, PREFIX_LEN> {
         self.head.is_none()
     }
 
-    // Leaves the next key behind.
+    // Passes the next key.
     #[inline]
     pub(super) fn advance(&mut self)
         ensures { self.new ≡ drop 1 self.old }
     {
         self.head = self.rest.next();
+    }
+}
+
+impl<'a, K, const PREFIX_LEN: usize> Clone for Peeked<'a, K, PREFIX_LEN> {
+    ghost is_clone = { λ original copy. copy ≡ original };
+
+    ghost is_infallible = { λ _. ⊤ };
+
+    fn clone(&self) -> Result<Self, AllocError> {
+        Ok(Peeked {
+            head: self.head,
+            rest: self.rest.clone()?,
+        })
     }
 }

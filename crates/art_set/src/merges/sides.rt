@@ -1,5 +1,5 @@
 //! Two sets side by side: which key comes next, and which of them have it.
-ghost use Rattle.std.specs.Prelude.{◌≡◌, ◌+◌, ◌-◌, ◌^◌, ◌<◌, min, [], length, Some, None, IfNone, if◌then◌else◌};
+ghost use Rattle.std.specs.Prelude.{◌≡◌, ◌+◌, ◌-◌, ◌^◌, ◌<◌, ⊤, min, [], length, Some, None, IfNone, if◌then◌else◌};
 ghost use Rattle.std.specs.Option.{option_copied};
 ghost use Rattle.std.specs.Bool.{OnFalse, OnTrue};
 ghost use Rattle.std.specs.Map.Iter.{TakesFirst, deref};
@@ -9,6 +9,7 @@ use crate::merges::peeked::Peeked;
 use art_arena::NodeArena;
 use art_bytes::OrderedBytes;
 use art_bytes::laws::order_is_of_bytes;
+use std::alloc::AllocError;
 use std::cmp::Ordering;
 use std::marker::Model;
 
@@ -168,5 +169,19 @@ impl<'a, K: OrderedBytes, const PREFIX_LEN: usize> Sides<'a, K, PREFIX_LEN> {
             }
         }
         None
+    }
+}
+
+impl<'a, K: OrderedBytes, const PREFIX_LEN: usize> Clone for Sides<'a, K, PREFIX_LEN> {
+    ghost is_clone = { λ original copy. copy ≡ original };
+
+    ghost is_infallible = { λ _. ⊤ };
+
+    fn clone(&self) -> Result<Self, AllocError> {
+        Ok(Sides {
+            first: self.first.clone()?,
+            second: self.second.clone()?,
+            comparisons: self.comparisons,
+        })
     }
 }

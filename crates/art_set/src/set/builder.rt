@@ -66,6 +66,7 @@ impl<K: AsBytes, const PREFIX_LEN: usize> TreeSet<K, PREFIX_LEN> {
     pub(super) fn fits_in_memory(&self) -> bool
         ensures value { IsTrue result → PREFIX_LEN < 2 ^ 62 }
         ensures room { HasRoom self.now.nodes 1 → IsTrue result }
+        ensures exact { PREFIX_LEN < 2 ^ 62 → IsTrue result }
     {
         let (arena, _root) = self.map.nodes();
         arena.fits_in_memory()
@@ -92,6 +93,7 @@ impl<K: NoPrefixesBytes + Drop, const PREFIX_LEN: usize> TreeSet<K, PREFIX_LEN> 
         ensures keys { (pairs : List (K × Unit {0})) → HasGathered K.bytes K.is_key builder pairs
             → self.new.keys ≡ keys_of pairs }
         ensures names { HasLeavesOf K.bytes self.new.nodes (nodes_of builder) }
+        ensures room { (n : ℕ) → HasRoomLeft builder n → HasRoom self.new.nodes n }
     {
         self.map = builder.finish();
     }

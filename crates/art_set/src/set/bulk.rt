@@ -1,10 +1,10 @@
 //! Sets that are made of many keys, and many keys that are inserted one after another.
-ghost use Rattle.std.specs.Prelude.{◌≡◌, [], IfErr, IfOk};
+ghost use Rattle.std.specs.Prelude.{◌≡◌, ◌<◌, ◌^◌, [], IfErr, IfOk};
 ghost use Rattle.std.specs.Iterator.{IsFinite};
 ghost use Rattle.std.specs.Map.Iter.{deref};
-ghost use Rattle.art_arena.specs.arena.Arena.{HasRoom};
+ghost use Rattle.art_operations.specs.KeyedLists.{HasKey};
 ghost use Rattle.art_set.specs.LeafNames.{KeepsAllNames};
-ghost use Rattle.art_set.specs.Bulk.{ExtendsWithKeys, IsMadeOfKeys, IsKeyOfList};
+ghost use Rattle.art_set.specs.Bulk.{ExtendsWithKeys, IsFirstOfKeys, IsMadeOfKeys};
 ghost use Rattle.art_set.specs.Members.{with_keys_put};
 
 use crate::set::TreeSet;
@@ -16,11 +16,12 @@ use std::alloc::Global;
 
 impl<K: NoPrefixesBytes + Drop, const PREFIX_LEN: usize> TreeSet<K, PREFIX_LEN> {
     /// Inserts the keys that an iterator gives, one after another. Each replaces a key with the same bytes. The
-    /// iterator has to end. As long as keys go behind the last one of the set, no place is looked for: from the ninth
+    /// iterator has to end. As long as keys go after the last one of the set, no place is looked for: from the ninth
     /// key on, or from the first one if the set is empty. See `TreeMapBuilder`.
     ///
     /// Fails only if an insertion of a key would be out of memory, and so never with as many keys as `reserve` made
-    /// room for. The error returns that key. The keys before it stay in the set, and the iterator is dropped.
+    /// room for. The error returns that key, which is no member if nodes fit in memory (`nodes_fit` of art_map). The
+    /// keys before it stay in the set, and the iterator is dropped.
     ///
     /// ```
     /// let mut set = TreeSet::new(rt.alloc());
@@ -32,7 +33,9 @@ impl<K: NoPrefixesBytes + Drop, const PREFIX_LEN: usize> TreeSet<K, PREFIX_LEN> 
             → U.IntoIter.can_next it × IsFinite (U.IntoIter.remaining it) }
         ensures names { KeepsAllNames K.bytes self.old self.new }
         ensures keys { ExtendsWithKeys K.bytes (λ key. key) U.into_iter_gives U.IntoIter.next_gives iter
-            (HasRoom self.old.nodes) self.old.keys result self.new.keys }
+            self.old result self.new }
+        ensures stored { PREFIX_LEN < 2 ^ 62
+            → IfErr result (λ e. HasKey K.bytes (K.bytes e.key) self.new.keys → ⊥) }
     {
         if !self.fits_in_memory() {
             let mut keys = iter.into_iter();
@@ -66,7 +69,9 @@ impl<K: NoPrefixesBytes + Drop, const PREFIX_LEN: usize> TreeSet<K, PREFIX_LEN> 
             → U.IntoIter.can_next it × IsFinite (U.IntoIter.remaining it) }
         ensures names { KeepsAllNames K.bytes self.old self.new }
         ensures keys { ExtendsWithKeys K.bytes deref U.into_iter_gives U.IntoIter.next_gives iter
-            (HasRoom self.old.nodes) self.old.keys result self.new.keys }
+            self.old result self.new }
+        ensures stored { PREFIX_LEN < 2 ^ 62
+            → IfErr result (λ e. HasKey K.bytes (K.bytes e.key) self.new.keys → ⊥) }
     {
         if !self.fits_in_memory() {
             let mut keys = iter.into_iter();
@@ -113,7 +118,8 @@ impl<K: NoPrefixesBytes + Drop, const PREFIX_LEN: usize> TreeSet<K, PREFIX_LEN> 
 
     /// Makes a set of the keys of a vector, as `from_iter` does. Of keys with the same bytes the last counts.
     ///
-    /// Fails if there is no memory for a key, which the error returns. All else is dropped.
+    /// Fails if there is no memory for a key, which the error returns. It is the first with its bytes. All else is
+    /// dropped.
     ///
     /// ```
     /// let keys = vec![in rt.alloc(); *b"cd", *b"ab"]?;
@@ -122,7 +128,7 @@ impl<K: NoPrefixesBytes + Drop, const PREFIX_LEN: usize> TreeSet<K, PREFIX_LEN> 
     /// ```
     pub fn from_vec(alloc: Global, keys: Vec<K>) -> Result<Self, RefusedKey<K>>
         ensures ok { IfOk result (λ made. made.keys ≡ with_keys_put K.bytes keys.items []) }
-        ensures err { IfErr result (IsKeyOfList keys.items) }
+        ensures err { IfErr result (IsFirstOfKeys K.bytes keys.items) }
     {
         TreeSet::from_iter(alloc, keys)
     }

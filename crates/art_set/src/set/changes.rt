@@ -4,7 +4,7 @@ ghost use Rattle.art_operations.specs.KeyedLists.{HasKey, IsBlocked};
 ghost use Rattle.std.specs.Map.{keys_of};
 ghost use Rattle.art_map.specs.Contents.{has_bytes};
 ghost use Rattle.art_map.specs.Changes.{IsTryRefused as IsPairRefused};
-ghost use Rattle.art_arena.specs.arena.Arena.{HasRoom, UsesRoom};
+ghost use Rattle.art_arena.specs.arena.Arena.{HasRoom, KeepsRoomOf, UsesRoom};
 ghost use Rattle.art_set.specs.Changes.{IsKeyTurnedAway};
 ghost use Rattle.art_set.specs.LeafNames.{IsSetUntouched, KeepsAllNames};
 ghost use Rattle.art_set.specs.Members.{is_member, with_key_put};
@@ -52,6 +52,8 @@ impl<K: AsBytes, const PREFIX_LEN: usize> TreeSet<K, PREFIX_LEN> {
         ensures refused { IfErr result (IsKeyTurnedAway K.bytes self.old.keys key) }
         ensures succeeds { OnErr result (HasRoom self.old.nodes 2 → IsBlocked K.bytes (K.bytes key) self.old.keys) }
         ensures room { UsesRoom 2 self.old.nodes self.new.nodes }
+        ensures stored_room { HasKey K.bytes (K.bytes key) self.old.keys
+            → KeepsRoomOf self.old.nodes self.new.nodes }
     {
         let old = match self.map.try_insert(key, ()) {
             Ok(old) => old,
@@ -84,6 +86,8 @@ impl<K: NoPrefixesBytes, const PREFIX_LEN: usize> TreeSet<K, PREFIX_LEN> {
         ensures handed_back { IfErr result (λ refused. refused.key ≡ key) }
         ensures succeeds { HasRoom self.old.nodes 2 → IsOk result }
         ensures room { UsesRoom 2 self.old.nodes self.new.nodes }
+        ensures stored_room { HasKey K.bytes (K.bytes key) self.old.keys
+            → KeepsRoomOf self.old.nodes self.new.nodes }
     {
         let old = match self.map.insert(key, ()) {
             Ok(old) => old,
@@ -112,6 +116,8 @@ impl<K: NoPrefixesBytes, const PREFIX_LEN: usize> TreeSet<K, PREFIX_LEN> {
         ensures handed_back { IfErr result (λ refused. refused.key ≡ key) }
         ensures succeeds { HasRoom self.old.nodes 2 → IsOk result }
         ensures room { UsesRoom 2 self.old.nodes self.new.nodes }
+        ensures stored_room { HasKey K.bytes (K.bytes key) self.old.keys
+            → KeepsRoomOf self.old.nodes self.new.nodes }
     {
         let old = match self.map.replace_entry(key, ()) {
             Ok(old) => old,

@@ -1,12 +1,13 @@
 //! `append`, `split_off` and `clone`: all keys of a set move into another, or those from a key on; and a set of clones.
-ghost use Rattle.std.specs.Prelude.{◌≡◌, ◌⊎◌, [], IfOk, IsOk, OnErr, OnOk};
+ghost use Rattle.std.specs.Prelude.{◌≡◌, ◌≢◌, ◌⊎◌, [], IfOk, IsOk, OnErr, OnOk};
 ghost use Rattle.std.specs.List.{AllZip};
 ghost use Rattle.std.specs.declared.ops.Bound.TheVariants.{Included, Excluded, Unbounded};
-ghost use Rattle.art_set.specs.LeafNames.{IsSetUntouched, KeepsAllNames, KeepsNames};
+ghost use Rattle.art_set.specs.LeafNames.{IsSetClone, IsSetUntouched, KeepsAllNames, KeepsNames};
 ghost use Rattle.art_set.specs.Members.{keys_between, with_keys_put};
 
 use crate::set::TreeSet;
 use art_bytes::{AsBytes, CloneBytes, NoPrefixesBytes};
+use art_map::CloneKey;
 use std::alloc::AllocError;
 
 impl<K: AsBytes, const PREFIX_LEN: usize> TreeSet<K, PREFIX_LEN> {
@@ -57,6 +58,7 @@ impl<K: AsBytes, const PREFIX_LEN: usize> TreeSet<K, PREFIX_LEN> {
         requires { (k c : K) → K.is_key k → K.is_clone k c → K.is_key c }
         ensures clones { IfOk result (λ copy. AllZip K.is_clone self.now.keys copy.keys) }
         ensures keys { ((k c : K) → K.is_clone k c → c ≡ k) → IfOk result (λ copy. copy.keys ≡ self.now.keys) }
+        ensures shape { IfOk result (IsSetClone K.is_clone self.now) }
     {
         let map = self.map.clone()?;
         Ok(TreeSet {
@@ -88,7 +90,32 @@ impl<K: NoPrefixesBytes + Drop, const PREFIX_LEN: usize> TreeSet<K, PREFIX_LEN> 
         ensures err { OnErr result ((self.new.keys ≡ self.old.keys) × (other.new.keys ≡ other.old.keys)) }
         ensures kept { OnErr result (IsSetUntouched self.old self.new × IsSetUntouched other.old other.new) }
         ensures free { (self.old.keys ≡ []) ⊎ (other.old.keys ≡ []) → IsOk result }
+        ensures nothing { other.old.keys ≡ [] → (self.new ≡ self.old) × (other.new ≡ other.old) }
+        ensures swapped { self.old.keys ≡ [] → other.old.keys ≢ []
+            → (self.new ≡ other.old) × (other.new ≡ self.old) }
     {
         self.map.append(&mut other.map)
+    }
+}
+
+/// A set of clones, as the method `clone` of the set makes it.
+///
+/// ```
+/// #[derive(Clone, Drop)]
+/// struct Shelf {
+///     books: TreeSet<[u8; 2], 16>,
+/// }
+/// let mut shelf = Shelf { books: TreeSet::new(rt.alloc()) };
+/// shelf.books.insert(*b"ab")?;
+/// assert!(rt; shelf.clone()?.books.contains(b"ab"));
+/// ```
+impl<K: CloneKey, const PREFIX_LEN: usize> Clone for TreeSet<K, PREFIX_LEN> {
+    ghost is_clone = { λ old copy. AllZip K.is_clone old.keys copy.keys × IsSetClone K.is_clone old copy };
+
+    fn clone(&self) -> Result<Self, AllocError> {
+        match TreeSet::clone(self) {
+            Ok(copy) => Ok(copy),
+            Err(refused) => Err(refused),
+        }
     }
 }

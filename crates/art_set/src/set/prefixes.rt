@@ -1,13 +1,14 @@
 //! The keys that begin with a prefix, and those of a range that is written as Rust's are.
-ghost use Rattle.std.specs.Prelude.{◌≡◌, ◌⊎◌, ◌*◌, ◌≤◌, ℕ, [], length, IfOk, OnErr, OnOk};
+ghost use Rattle.std.specs.Prelude.{◌≡◌, ◌⊎◌, ◌*◌, ◌≤◌, ℕ, [], length, IfOk, IsOk, OnErr, OnOk};
 ghost use Rattle.std.specs.Range.Bound.{bound_map};
+ghost use Rattle.art_arena.specs.arena.Arena.{HasRoom, KeepsRoom, UsesRoom};
 ghost use Rattle.art_arena.specs.tree.Order.{AscendsByKey};
 ghost use Rattle.art_arena.specs.tree.Tenants.{with_front, without_front};
 ghost use Rattle.art_operations.specs.Openings.{OpeningReads};
 ghost use Rattle.art_walks.specs.Bounds.{AreValidKeyBounds};
 ghost use Rattle.art_walks.specs.MapReads.{PairsWithin};
 ghost use Rattle.art_map.specs.PrefixBlocks.{AreCutVisits, ShrinksAtCut};
-ghost use Rattle.art_set.specs.LeafNames.{IsSetUntouched, KeepsNames};
+ghost use Rattle.art_set.specs.LeafNames.{HasSameSetNodes, KeepsNames};
 ghost use Rattle.art_set.specs.Members.{keys_between};
 ghost use Rattle.art_set.specs.Pairs.{pairs_of_keys};
 
@@ -47,7 +48,7 @@ impl<K: AsBytes, const PREFIX_LEN: usize> TreeSet<K, PREFIX_LEN> {
     /// assert!(rt; set.range_in(*b"b0"..=*b"ef").eq([b"cd", b"ef"]));
     /// ```
     pub fn range_in<Q: AsBytes, R: RangeBounds<Q>>(&self, range: R) -> Range<'_, K, PREFIX_LEN>
-        requires known { R.has_bounds range }
+        requires bounds { R.has_bounds range }
         requires valid { (self.now.keys ≡ []) ⊎ AreValidKeyBounds (bound_map Q.bytes (R.start_bound range))
             (bound_map Q.bytes (R.end_bound range)) }
         ensures rest { result ≡ keys_between K.bytes (bound_map Q.bytes (R.start_bound range))
@@ -75,14 +76,17 @@ impl<K: AsBytes, const PREFIX_LEN: usize> TreeSet<K, PREFIX_LEN> {
         ensures keys { OnOk result (self.new.keys ≡ without_front K.bytes prefix.now self.old.keys) }
         ensures count { IfOk result (λ done. done.pairs ≡ length (with_front K.bytes prefix.now self.old.keys)) }
         ensures visits { IfOk result (λ done.
-            AreCutVisits K.bytes prefix.now (pairs_of_keys self.old.keys) done.visits) }
+            AreCutVisits K.bytes PREFIX_LEN prefix.now (pairs_of_keys self.old.keys) done.visits) }
         ensures all_counted { IfOk result (λ done. done.pairs ≤ done.visits) }
         ensures few { IfOk result (λ done. (longest : ℕ) → PairsWithin K.bytes longest (pairs_of_keys self.old.keys)
             → OpeningReads longest (length prefix.now) (2 * done.pairs) done.visits) }
         ensures names { OnOk result (KeepsNames K.bytes self.old self.new) }
         ensures err { OnErr result (self.new.keys ≡ self.old.keys) }
-        ensures kept { OnErr result (IsSetUntouched self.old self.new) }
+        ensures kept { OnErr result (HasSameSetNodes self.old self.new) }
+        ensures kept_room { OnErr result (KeepsRoom self.old.nodes self.new.nodes) }
         ensures shrinks { OnErr result (ShrinksAtCut K.bytes prefix.now (pairs_of_keys self.old.keys)) }
+        ensures succeeds { HasRoom self.old.nodes 1 → IsOk result }
+        ensures room { UsesRoom 1 self.old.nodes self.new.nodes }
     {
         self.map.remove_prefix(prefix)
     }

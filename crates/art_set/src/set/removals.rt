@@ -1,5 +1,7 @@
 //! Removals: of a key, of the first key, and of the last.
-ghost use Rattle.std.specs.Prelude.{◌≡◌, ◌∷◌, ◌++◌, [], find, IfNone, IfOk, MatchOption, OnErr, OnOk};
+ghost use Rattle.std.specs.Prelude.{◌≡◌, ◌∷◌, ◌++◌, [], find, IfNone, IfOk, IsOk, MatchOption, OnErr, OnOk};
+ghost use Rattle.std.specs.Bool.{OnFalse};
+ghost use Rattle.art_arena.specs.arena.Arena.{HasRoom, KeepsRoomOf, UsesRoom};
 ghost use Rattle.art_arena.specs.declared.ends.End.TheVariants.{First, Last};
 ghost use Rattle.art_arena.specs.tree.Shrinks.{Shrinks};
 ghost use Rattle.art_map.specs.Contents.{has_bytes};
@@ -41,6 +43,9 @@ impl<K: AsBytes, const PREFIX_LEN: usize> TreeSet<K, PREFIX_LEN> {
         ensures kept { OnErr result (IsSetUntouched self.old self.new) }
         ensures shrinks { OnErr result (HasKey K.bytes (Q.bytes key.now) self.old.keys
             × Shrinks K.bytes self.old.keys (Q.bytes key.now)) }
+        ensures succeeds { HasRoom self.old.nodes 1 → IsOk result }
+        ensures room { UsesRoom 1 self.old.nodes self.new.nodes }
+        ensures none_room { IfOk result (λ old. IfNone old (KeepsRoomOf self.old.nodes self.new.nodes)) }
     {
         let pair = self.map.remove_entry(key)?;
         Ok(key_of(pair))
@@ -64,6 +69,9 @@ impl<K: AsBytes, const PREFIX_LEN: usize> TreeSet<K, PREFIX_LEN> {
         ensures kept { OnErr result (IsSetUntouched self.old self.new) }
         ensures shrinks { OnErr result (HasKey K.bytes (Q.bytes key.now) self.old.keys
             × Shrinks K.bytes self.old.keys (Q.bytes key.now)) }
+        ensures succeeds { HasRoom self.old.nodes 1 → IsOk result }
+        ensures room { UsesRoom 1 self.old.nodes self.new.nodes }
+        ensures none_room { IfOk result (λ found. OnFalse found (KeepsRoomOf self.old.nodes self.new.nodes)) }
     {
         let found = self.map.remove(key)?;
         Ok(found.is_some())
@@ -84,6 +92,9 @@ impl<K: AsBytes, const PREFIX_LEN: usize> TreeSet<K, PREFIX_LEN> {
         ensures err { OnErr result (self.new.keys ≡ self.old.keys) }
         ensures kept { OnErr result (IsSetUntouched self.old self.new) }
         ensures shrinks { OnErr result (KeyShrinksAtEnd K.bytes First self.old.keys) }
+        ensures succeeds { HasRoom self.old.nodes 1 → IsOk result }
+        ensures room { UsesRoom 1 self.old.nodes self.new.nodes }
+        ensures none_room { IfOk result (λ taken. IfNone taken (KeepsRoomOf self.old.nodes self.new.nodes)) }
     {
         let pair = self.map.pop_first()?;
         Ok(key_of(pair))
@@ -104,6 +115,9 @@ impl<K: AsBytes, const PREFIX_LEN: usize> TreeSet<K, PREFIX_LEN> {
         ensures err { OnErr result (self.new.keys ≡ self.old.keys) }
         ensures kept { OnErr result (IsSetUntouched self.old self.new) }
         ensures shrinks { OnErr result (KeyShrinksAtEnd K.bytes Last self.old.keys) }
+        ensures succeeds { HasRoom self.old.nodes 1 → IsOk result }
+        ensures room { UsesRoom 1 self.old.nodes self.new.nodes }
+        ensures none_room { IfOk result (λ taken. IfNone taken (KeepsRoomOf self.old.nodes self.new.nodes)) }
     {
         let pair = self.map.pop_last()?;
         Ok(key_of(pair))

@@ -3,7 +3,7 @@ use Rattle.std.specs.Map.{keys_of}
 use Rattle.std.proofs.lemmas.List.{append-nil}
 use Rattle.art_operations.proofs.Common.{with_pair_put}
 use Rattle.art_set.proofs.MergeOrder.{ascending-merged, collected}
-use Rattle.art_set.proofs.Seen.{keys-put}
+use Rattle.art_set.proofs.KeyViews.{keys-put}
 use Rattle.art_set.proofs.Terms.{AscendsInBytes, merging}
 use Rattle.art_set.proofs.operators.collected.Goals as goal
 
@@ -31,7 +31,7 @@ loop-key-preserved g c =
           let up = subst (AscendsInBytes bytes) (g.met.W.Kind.same are.first are.second ∙ ap₂ g.W.Kind.keys c.beside-sides.ensures.first c.beside-sides.ensures.second)
           (ascending-merged bytes kinds.first kinds.both kinds.second are.first are.second c.beside-sides.ensures.ordered.0 c.beside-sides.ensures.ordered.1) in
           collected bytes g.K.AsBytes.is_key g.met.K.NoPrefixesBytes.no_prefixes all (keys_of inv.0) (merging bytes w c.loop-key.sides) (merging bytes w c.next_wanted.new.self) k clone (keys_of (with_pair_put bytes clone tt inv.0))
-          up so.0 so.1 c.in-Some.ensures.takes c.as_bytes-known.ensures.key (same k clone c.in_ok-clone.ensures.cases) (keys-put bytes clone tt inv.0),
+          up so.0 so.1 c.in-Some.ensures.takes c.as_bytes-key_bytes.ensures.key (same k clone c.in_ok-clone.ensures.cases) (keys-put bytes clone tt inv.0),
     )
 
 pub returns : goal.returns

@@ -2,7 +2,7 @@ use Rattle.std.proofs.Common.{refl, sym, ap, subst, ◌∙◌, arith}
 use Rattle.std.specs.Fn.{CalledAt, TakesAt}
 use Rattle.std.specs.Map.{keys_of}
 use Rattle.art_set.proofs.Terms.{CallableOnEachKey, keys_between}
-use Rattle.art_set.proofs.Seen.{between, no-pair-or}
+use Rattle.art_set.proofs.KeyViews.{between, no-pair-or}
 use Rattle.art_set.proofs.set.TreeSet.extract_if.Goals as goal
 
 pub extraction-requires : goal.extraction-requires

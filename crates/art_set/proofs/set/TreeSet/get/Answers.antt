@@ -1,6 +1,6 @@
 use Rattle.std.proofs.Common.{ap, ◌∙◌}
 use Rattle.art_set.proofs.Terms.{key_if_some}
-use Rattle.art_set.proofs.Seen.{found}
+use Rattle.art_set.proofs.KeyViews.{found}
 use Rattle.art_set.proofs.set.TreeSet.get.Goals as goal
 
 pub returns-in-Some : goal.returns-in-Some

@@ -1,4 +1,4 @@
-use Rattle.art_set.proofs.Seen.{ascending}
+use Rattle.art_set.proofs.KeyViews.{ascending}
 use Rattle.art_set.proofs.set.TreeSet.iter.Goals as goal
 
 pub returns-clause-ordered : goal.returns-clause-ordered

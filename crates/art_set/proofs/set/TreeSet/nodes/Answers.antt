@@ -1,7 +1,7 @@
 use Rattle.std.proofs.Common.{subst}
 use Rattle.art_operations.proofs.Common.{HoldsTreeOf}
 use Rattle.art_set.proofs.KeyPairs.{with-units}
-use Rattle.art_set.proofs.Seen.{ascending}
+use Rattle.art_set.proofs.KeyViews.{ascending}
 use Rattle.art_set.proofs.set.TreeSet.nodes.Goals as goal
 
 pub returns-clause-tree : goal.returns-clause-tree

@@ -1,6 +1,6 @@
 use Rattle.std.proofs.Common.{ap, ◌∙◌, arith}
 use Rattle.std.specs.Map.{keys_of}
-use Rattle.art_set.proofs.Seen.{ascending, between, no-pair-or}
+use Rattle.art_set.proofs.KeyViews.{ascending, between, no-pair-or}
 use Rattle.art_set.proofs.set.TreeSet.range.Goals as goal
 
 pub range-requires : goal.range-requires

@@ -1,10 +1,10 @@
 use Rattle.std.proofs.Common.{ap, ◌∙◌, arith}
 use Rattle.std.specs.Map.{keys_of}
-use Rattle.art_set.proofs.Seen.{ascending, between, no-pair-or}
+use Rattle.art_set.proofs.KeyViews.{ascending, between, no-pair-or}
 use Rattle.art_set.proofs.set.TreeSet.range_in.Goals as goal
 
 pub range_in-requires : goal.range_in-requires
-range_in-requires g c = (omega arith, (omega arith, (omega arith, (c.requires.known, no-pair-or c.self.inside.map.pairs (rw (← c.self.view_is) at c.requires.valid)))))
+range_in-requires g c = (omega arith, (omega arith, (omega arith, (c.requires.bounds, no-pair-or c.self.inside.map.pairs (rw (← c.self.view_is) at c.requires.valid)))))
 
 pub returns-clause-rest : goal.returns-clause-rest
 returns-clause-rest g c = rw (← c.self.view_is) (c.new.ensures ∙ ap keys_of c.range_in.ensures.rest ∙ between g.K.AsBytes.bytes _ _ c.self.inside.map.pairs)

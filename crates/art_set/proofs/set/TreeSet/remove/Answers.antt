@@ -2,7 +2,7 @@ use Rattle.std.proofs.Common.{ap, ◌∙◌}
 use Rattle.std.specs.Prelude.{is_some}
 use Rattle.std.proofs.lemmas.Map.Made.{is_some-lookup}
 use Rattle.art_map.proofs.Common.{on-err}
-use Rattle.art_set.proofs.Seen.{has-key, kept-names, keys-without, shrinking}
+use Rattle.art_set.proofs.KeyViews.{has-key, kept-names, keys-without, none-found, shrinking}
 use Rattle.art_set.proofs.set.TreeSet.remove.Goals as goal
 
 pub returns-in_err-found-clause-shrinks : goal.returns-in_err-found-clause-shrinks
@@ -18,3 +18,12 @@ returns-clause-keys g c = rw (← c.self.view_is, c.in_ok-found.ensures.pairs) (
 
 pub returns-clause-names : goal.returns-clause-names
 returns-clause-names g c = rw (← c.self.view_is) (kept-names g.K.AsBytes.bytes c.remove.new.self.pairs c.self.inside.map.nodes c.remove.new.self.nodes c.in_ok-found.ensures.names)
+
+pub returns-in_err-found-clause-room : goal.returns-in_err-found-clause-room
+returns-in_err-found-clause-room g c = rw (← c.self.view_is) c.in_err-found.ensures.room
+
+pub returns-clause-room : goal.returns-clause-room
+returns-clause-room g c = rw (← c.self.view_is) c.in_ok-found.ensures.room
+
+pub returns-clause-none_room : goal.returns-clause-none_room
+returns-clause-none_room g c = rw (← c.self.view_is) (none-found _ c.in_ok-found.found c.is_some.result c.is_some.ensures c.in_ok-found.ensures.none_room)

@@ -4,8 +4,8 @@ use Rattle.std.specs.Map.{keys_of}
 use Rattle.art_operations.proofs.Common.{OpeningReads}
 use Rattle.art_walks.proofs.Common.{PairsWithin}
 use Rattle.art_map.proofs.Common.{AreCutVisits, ShrinksAtCut}
-use Rattle.art_set.proofs.KeyPairs.{keys-beside, many-behind, with-units}
-use Rattle.art_set.proofs.Seen.{if-ok, names-if-ok, on-ok}
+use Rattle.art_set.proofs.KeyPairs.{keys-beside, many-after, with-units}
+use Rattle.art_set.proofs.KeyViews.{if-ok, names-if-ok, on-ok}
 use Rattle.art_set.proofs.set.TreeSet.remove_prefix.Goals as goal
 
 pub returns-clause-keys : goal.returns-clause-keys
@@ -16,12 +16,12 @@ returns-clause-keys g c =
 pub returns-clause-count : goal.returns-clause-count
 returns-clause-count g c =
     rw (← c.self.view_is)
-    (if-ok c.remove_prefix.result _ _ (λ done e. e ∙ many-behind g.K.AsBytes.bytes c.args.prefix.now c.self.inside.map.pairs) c.remove_prefix.ensures.count)
+    (if-ok c.remove_prefix.result _ _ (λ done e. e ∙ many-after g.K.AsBytes.bytes c.args.prefix.now c.self.inside.map.pairs) c.remove_prefix.ensures.count)
 
 pub returns-clause-visits : goal.returns-clause-visits
 returns-clause-visits g c =
     rw (← c.self.view_is)
-    (subst (λ ps. IfOk c.remove_prefix.result (λ done. AreCutVisits g.K.AsBytes.bytes c.args.prefix.now ps done.visits)) (with-units c.self.inside.map.pairs) c.remove_prefix.ensures.visits)
+    (subst (λ ps. IfOk c.remove_prefix.result (λ done. AreCutVisits g.K.AsBytes.bytes g.row.PREFIX_LEN c.args.prefix.now ps done.visits)) (with-units c.self.inside.map.pairs) c.remove_prefix.ensures.visits)
 
 pub returns-clause-few : goal.returns-clause-few
 returns-clause-few g c =
@@ -37,3 +37,9 @@ pub returns-clause-names : goal.returns-clause-names
 returns-clause-names g c =
     rw (← c.self.view_is)
     (names-if-ok g.K.AsBytes.bytes c.remove_prefix.new.self.pairs c.self.inside.map.nodes c.remove_prefix.new.self.nodes c.remove_prefix.result c.remove_prefix.ensures.names)
+
+pub returns-clause-kept_room : goal.returns-clause-kept_room
+returns-clause-kept_room g c = rw (← c.self.view_is) c.remove_prefix.ensures.kept_room
+
+pub returns-clause-room : goal.returns-clause-room
+returns-clause-room g c = rw (← c.self.view_is) c.remove_prefix.ensures.room

@@ -1,6 +1,6 @@
 use Rattle.std.proofs.Common.{ap, ◌∙◌}
 use Rattle.art_set.proofs.Terms.{key_if_some}
-use Rattle.art_set.proofs.Seen.{found, has-pair, keys-put}
+use Rattle.art_set.proofs.KeyViews.{found, has-pair, keys-put}
 use Rattle.art_set.proofs.set.TreeSet.replace.Goals as goal
 
 pub returns-in-Err-clause-stored : goal.returns-in-Err-clause-stored
@@ -17,3 +17,9 @@ returns-in-Err-clause-room g c = rw (← c.self.view_is) c.in-Err.ensures.room
 
 pub returns-clause-room : goal.returns-clause-room
 returns-clause-room g c = rw (← c.self.view_is) c.in-Ok.ensures.room
+
+pub returns-in-Err-clause-stored_room : goal.returns-in-Err-clause-stored_room
+returns-in-Err-clause-stored_room g c = rw (← c.self.view_is) (λ h. c.in-Err.ensures.stored_room (has-pair g.K.AsBytes.bytes (g.K.AsBytes.bytes c.args.key) c.self.inside.map.pairs h))
+
+pub returns-clause-stored_room : goal.returns-clause-stored_room
+returns-clause-stored_room g c = rw (← c.self.view_is) (λ h. c.in-Ok.ensures.stored_room (has-pair g.K.AsBytes.bytes (g.K.AsBytes.bytes c.args.key) c.self.inside.map.pairs h))

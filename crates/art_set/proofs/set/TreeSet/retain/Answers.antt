@@ -1,11 +1,12 @@
-use Rattle.std.proofs.Common.{true, false, Ok, Err, refl, sym, ap, subst, ◌∙◌}
+use Rattle.std.proofs.Common.{true, false, Ok, Err, length, refl, sym, ap, subst, ◌∙◌}
 use Rattle.std.specs.Fn.{CalledAt, TakesAt}
 use Rattle.std.specs.Map.{keys_of}
 use Rattle.art_arena.proofs.Common.{Shrinks}
 use Rattle.art_map.proofs.Common.{on-err, left_of, map_of}
+use Rattle.art_map.proofs.RoomKept.{UsesOfGone, none-gone, one-gone, same-gone}
 use Rattle.art_set.proofs.Terms.{StopsAtKey}
-use Rattle.art_set.proofs.AskedKeys.{callable-next, retained-all, retaining-all, retaining-kept, retaining-stopped, retaining-taken}
-use Rattle.art_set.proofs.AskedPairs.{asking_by, first-left, first-passed, none-first, refused-key, taken-key}
+use Rattle.art_set.proofs.AskedKeys.{callable-next, retained-all, retaining-all, retaining-kept, retaining-stopped, retaining-taken, some-left, taken-long}
+use Rattle.art_set.proofs.AskedPairs.{asking_by, contents-back, contents_of, first-left, first-passed, none-first, one-less, refused-key, room-keys, taken-key, uses-keys}
 use Rattle.art_set.proofs.set.TreeSet.retain.Goals as goal
 
 pub loop-key-init : goal.loop-key-init
@@ -13,7 +14,10 @@ loop-key-init g c =
     let all = c.all_of-keys.ensures in
     record {
       same_map = refl;
-      retaining = retaining-all (CalledAt g.F.FnMut) g.K.AsBytes.bytes (TakesAt g.F.FnMut) c.args.keep c.args.self.now.keys (asking_by c.all_of-keys.result c.args.keep) (ap (λ m. keys_of m.pairs) all.same_map.1 ∙ ap (λ m. m.keys) c.self.view_is) (ap keys_of all.left ∙ ap (λ m. m.keys) c.self.view_is) refl c.iter-keys.ensures.ordered c.requires;
+      room = none-gone (contents_of c.args.self.now) _ (all.same_map.1 ∙ contents-back c.self.inside.map ∙ ap contents_of c.self.view_is);
+      retaining = retaining-all (CalledAt g.F.FnMut) g.K.AsBytes.bytes (TakesAt g.F.FnMut) c.args.keep c.args.self.now.keys
+          (asking_by c.all_of-keys.result c.args.keep) (ap (λ m. keys_of m.pairs) all.same_map.1 ∙ ap (λ m. m.keys) c.self.view_is)
+          (ap keys_of all.left ∙ ap (λ m. m.keys) c.self.view_is) refl c.iter-keys.ensures.ordered c.requires;
     }
 
 pub keep-requires : goal.keep-requires
@@ -29,6 +33,7 @@ loop-key-preserved-then-keep g c =
     let call : CalledAt g.F.FnMut c.loop-key.keep k true c.keep.new.self = record { shown = c.in-Some.key; shows = refl; called = c.if-keep.ensures } in
     record {
       same_map = ap (λ r. r.ghost_name) c.pass_front.ensures.same ∙ c.loop-key.invariant.same_map;
+      room = subst (λ r. UsesOfGone (contents_of c.args.self.now) r.now) (sym c.pass_front.ensures.same) c.loop-key.invariant.room;
       retaining = retaining-kept (CalledAt g.F.FnMut) g.K.AsBytes.bytes (TakesAt g.F.FnMut) c.args.keep c.args.self.now.keys s c.loop-key.invariant.retaining k (asking_by c.pass_front.new.self c.keep.new.self)
           (first-passed k (left_of c.loop-key.keys) (left_of c.pass_front.new.self) first c.pass_front.ensures.left) call (ap (λ r. keys_of r.now.pairs) c.pass_front.ensures.same);
     }
@@ -66,6 +71,8 @@ loop-key-preserved g c =
     let taken = taken-key g.K.AsBytes.bytes {E = Unit {0}} k old new ps qs first (Ok p) (Ok p.0) refl refl kept.left kept.pairs in
     record {
       same_map = kept.same_map ∙ c.loop-key.invariant.same_map;
+      room = one-gone (contents_of c.args.self.now) (map_of c.loop-key.keys).now (map_of c.take_front.new.self).now c.loop-key.invariant.room
+          (one-less ps qs (taken-long (CalledAt g.F.FnMut) g.K.AsBytes.bytes (TakesAt g.F.FnMut) c.args.keep c.args.self.now.keys s c.loop-key.invariant.retaining k (keys_of new) (keys_of qs) (first-passed k old new first (p, kept.left)) taken.1)) c.take_front.ensures.room;
       retaining = retaining-taken (CalledAt g.F.FnMut) g.K.AsBytes.bytes (TakesAt g.F.FnMut) c.args.keep c.args.self.now.keys s c.loop-key.invariant.retaining k (asking_by c.take_front.new.self c.keep.new.self)
           (first-passed k old new first (p, kept.left)) call taken.1;
     }
@@ -74,3 +81,20 @@ pub returns-clause-retained : goal.returns-clause-retained
 returns-clause-retained g c =
     retained-all (CalledAt g.F.FnMut) g.K.AsBytes.bytes (TakesAt g.F.FnMut) c.args.keep c.args.self.now.keys (asking_by c.loop-key.keys c.loop-key.keep) c.loop-key.invariant.retaining
     (none-first (left_of c.loop-key.keys) c.in_default.ensures)
+
+pub returns-in_err-_pair-clause-succeeds : goal.returns-in_err-_pair-clause-succeeds
+returns-in_err-_pair-clause-succeeds g c = λ room.
+    let s = asking_by c.loop-key.keys c.loop-key.keep in
+    let first = first-left (c.in-Some.key.now, c.in-Some.field-0-1.now) (left_of c.loop-key.keys) c.in-Some.ensures in
+    let some = some-left (CalledAt g.F.FnMut) g.K.AsBytes.bytes (TakesAt g.F.FnMut) c.args.keep c.args.self.now.keys s c.loop-key.invariant.retaining c.in-Some.key.now _ first in
+    let never = c.in_err-_pair.ensures.succeeds (room-keys c.args.self.now (map_of c.loop-key.keys).now c.loop-key.invariant.room some room) in
+    absurd (cc)
+
+pub returns-in_err-_pair-clause-room : goal.returns-in_err-_pair-clause-room
+returns-in_err-_pair-clause-room g c =
+    let refused = c.in_err-_pair.ensures in
+    uses-keys c.args.self.now (map_of c.take_front.new.self).now
+    (same-gone (contents_of c.args.self.now) (map_of c.loop-key.keys).now (map_of c.take_front.new.self).now c.loop-key.invariant.room (ap length refused.err.1) refused.untouched.2)
+
+pub returns-clause-room : goal.returns-clause-room
+returns-clause-room g c = uses-keys c.args.self.now (map_of c.loop-key.keys).now c.loop-key.invariant.room

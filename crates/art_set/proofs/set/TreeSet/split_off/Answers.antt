@@ -1,7 +1,7 @@
 use Rattle.std.proofs.Common.{ap, ◌∙◌}
 use Rattle.std.specs.Map.{keys_of}
 use Rattle.std.specs.declared.ops.Bound.TheVariants.{Included, Excluded, Unbounded}
-use Rattle.art_set.proofs.Seen.{between, kept-names}
+use Rattle.art_set.proofs.KeyViews.{between, kept-names}
 use Rattle.art_set.proofs.set.TreeSet.split_off.Goals as goal
 
 pub returns-clause-off : goal.returns-clause-off

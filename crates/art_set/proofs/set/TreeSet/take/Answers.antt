@@ -1,7 +1,7 @@
 use Rattle.std.proofs.Common.{ap, ◌∙◌}
 use Rattle.art_map.proofs.Common.{on-err}
 use Rattle.art_set.proofs.Terms.{key_if_some}
-use Rattle.art_set.proofs.Seen.{found, has-key, kept-names, keys-without, shrinking}
+use Rattle.art_set.proofs.KeyViews.{found, has-key, kept-names, keys-without, none-key, shrinking}
 use Rattle.art_set.proofs.set.TreeSet.take.Goals as goal
 
 pub returns-in_err-pair-clause-shrinks : goal.returns-in_err-pair-clause-shrinks
@@ -17,3 +17,12 @@ returns-clause-keys g c = rw (← c.self.view_is, c.in_ok-pair.ensures.pairs) (k
 
 pub returns-clause-names : goal.returns-clause-names
 returns-clause-names g c = rw (← c.self.view_is) (kept-names g.K.AsBytes.bytes c.remove_entry.new.self.pairs c.self.inside.map.nodes c.remove_entry.new.self.nodes c.in_ok-pair.ensures.names)
+
+pub returns-in_err-pair-clause-room : goal.returns-in_err-pair-clause-room
+returns-in_err-pair-clause-room g c = rw (← c.self.view_is) c.in_err-pair.ensures.room
+
+pub returns-clause-room : goal.returns-clause-room
+returns-clause-room g c = rw (← c.self.view_is) c.in_ok-pair.ensures.room
+
+pub returns-clause-none_room : goal.returns-clause-none_room
+returns-clause-none_room g c = rw (← c.self.view_is) (none-key _ c.in_ok-pair.pair c.key_of.result c.key_of.ensures c.in_ok-pair.ensures.none_room)

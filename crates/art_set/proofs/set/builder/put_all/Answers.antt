@@ -4,7 +4,7 @@ use Rattle.art_map.proofs.LeafNames.{then-names}
 use Rattle.art_map.proofs.Puts.{put-item}
 use Rattle.art_map.proofs.RoomLeft.{used-more, used-none, used-up}
 use Rattle.art_map.specs.Builders.{nodes_of}
-use Rattle.art_set.proofs.KeyPuts.{next-back}
+use Rattle.art_set.proofs.KeyPuts.{next-back, stored-pair}
 use Rattle.art_set.proofs.set.builder.put_all.Goals as goal
 
 pub loop-key-init : goal.loop-key-init
@@ -31,10 +31,14 @@ returns-in-Err-clause-keys g c =
       c.loop-key.yielded,
       it.ensures.into_iter_gives,
       λ pairs has. c.in-Err.ensures.kept _ (c.loop-key.invariant.put pairs has),
+      (λ n some left. c.in-Err.ensures.kept_room n some (c.loop-key.invariant.room n left)),
       (
         next-back g.K.AsBytes.bytes (λ key. key) g.U.IntoIterator.into_iter_gives g.U.IntoIter.Iterator.next_gives it.result c.loop-key.key-iterator c.next.new.self c.loop-key.yielded c.in-Some.key (record { key = c.in-Err.refused.key })
             c.in-Some.key c.loop-key.yielded_by c.in-Some.ensures.steps refl c.in-Err.ensures.handed_back.0,
         used-up c.args.builder.now c.loop-key.yielded (λ left. let never = c.in-Err.ensures.succeeds (c.loop-key.invariant.room 2 left) in absurd (cc)),
+        λ pairs has stored.
+            let never = c.in-Err.ensures.stored _ (c.loop-key.invariant.put pairs has) (stored-pair g.K.AsBytes.bytes (λ key. key) g.U.IntoIterator.into_iter_gives g.U.IntoIter.Iterator.next_gives c.in-Err.refused.key c.in-Some.key c.in-Err.ensures.handed_back.0 c.loop-key.yielded pairs stored) in
+            absurd (cc),
       ),
     )
 
@@ -44,4 +48,4 @@ returns-in-Err-clause-names g c = then-names g.K.AsBytes.bytes (nodes_of c.put.n
 pub returns-clause-keys : goal.returns-clause-keys
 returns-clause-keys g c =
     let it = c.into_iter-key-iterator in
-    (it.result, c.loop-key.yielded, it.ensures.into_iter_gives, c.loop-key.invariant.put, (c.next.new.self, (c.loop-key.key-iterator, c.loop-key.yielded_by, c.in-None.ensures.steps)))
+    (it.result, c.loop-key.yielded, it.ensures.into_iter_gives, c.loop-key.invariant.put, (λ n some left. c.loop-key.invariant.room n left), (c.next.new.self, (c.loop-key.key-iterator, c.loop-key.yielded_by, c.in-None.ensures.steps)))

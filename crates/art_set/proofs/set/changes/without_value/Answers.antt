@@ -1,6 +1,6 @@
 use Rattle.std.proofs.Common.{subst}
 use Rattle.art_map.proofs.Common.{IsTryRefused}
-use Rattle.art_set.proofs.Seen.{blocks}
+use Rattle.art_set.proofs.KeyViews.{blocks}
 use Rattle.art_set.proofs.set.changes.without_value.Goals as goal
 
 pub returns-in-Prefix : goal.returns-in-Prefix

@@ -3,7 +3,7 @@ use Rattle.std.specs.Fn.{CalledAt, TakesAt}
 use Rattle.std.specs.Map.{keys_of}
 use Rattle.art_map.proofs.Common.{left_of, map_of}
 use Rattle.art_set.proofs.Terms.{AskingKeys, asking_keys}
-use Rattle.art_set.proofs.AskedKeys.{callable-behind, callable-next, extracts-later, extracts-none, extracts-now}
+use Rattle.art_set.proofs.AskedKeys.{callable-after, callable-next, extracts-later, extracts-none, extracts-now}
 use Rattle.art_set.proofs.AskedPairs.{fewer-left, first-left, first-passed, none-first, refused-key, taken-key}
 use Rattle.art_set.proofs.iterators.extract_if.ExtractIfIterator.next.Goals as goal
 
@@ -26,8 +26,8 @@ returns-then-pred-clause-steps g c =
       taken.same_map ∙ c.loop-key.invariant.same_map,
       c.loop-key.invariant.later _ _
           (extracts-now (CalledAt g.F.FnMut) g.K.AsBytes.bytes (asking_keys s) record { keys = keys_of qs; left = keys_of new; asks = c.pred.new.self } c.in-Some.key.now _ first call c.key_of.result
-          (taken-key g.K.AsBytes.bytes c.in-Some.key.now old new ps qs first c.take_front.result c.key_of.result c.key_of.ensures.ok c.key_of.ensures.told taken.left taken.pairs)
-          (refused-key g.K.AsBytes.bytes c.in-Some.key.now old new ps qs first c.take_front.result c.key_of.result c.key_of.ensures.told taken.err taken.shrinks)),
+          (taken-key g.K.AsBytes.bytes c.in-Some.key.now old new ps qs first c.take_front.result c.key_of.result c.key_of.ensures.ok c.key_of.ensures.outcome taken.left taken.pairs)
+          (refused-key g.K.AsBytes.bytes c.in-Some.key.now old new ps qs first c.take_front.result c.key_of.result c.key_of.ensures.outcome taken.err taken.shrinks)),
     )
 
 pub returns-then-pred-clause-goes : goal.returns-then-pred-clause-goes
@@ -39,8 +39,8 @@ returns-then-pred-clause-goes g c =
     let qs = (map_of c.take_front.new.self).now.pairs in
     let first = first-left (c.in-Some.key.now, c.in-Some.field-0-1.now) old c.in-Some.ensures in
     let call : CalledAt g.F.FnMut s.pred c.in-Some.key.now true c.pred.new.self = record { shown = c.in-Some.key; shows = refl; called = c.if-pred.ensures } in
-    let behind = callable-behind (CalledAt g.F.FnMut) (TakesAt g.F.FnMut) s.pred c.pred.new.self c.in-Some.key.now (asking_keys s).left _ first c.loop-key.invariant.can _ call in
-    let goes = fewer-left g.K.AsBytes.bytes c.in-Some.key.now old new ps qs first (CalledAt g.F.FnMut) (TakesAt g.F.FnMut) c.pred.new.self behind c.take_front.result c.take_front.ensures.left c.take_front.ensures.err in
+    let following = callable-after (CalledAt g.F.FnMut) (TakesAt g.F.FnMut) s.pred c.pred.new.self c.in-Some.key.now (asking_keys s).left _ first c.loop-key.invariant.can _ call in
+    let goes = fewer-left g.K.AsBytes.bytes c.in-Some.key.now old new ps qs first (CalledAt g.F.FnMut) (TakesAt g.F.FnMut) c.pred.new.self following c.take_front.result c.take_front.ensures.left c.take_front.ensures.err in
     let less = goes.1 in
     let all = ap length first in
     let fewer = c.loop-key.invariant.fewer in
@@ -60,7 +60,7 @@ loop-key-preserved g c =
     let fewer = c.loop-key.invariant.fewer in
     record {
       same_map = ap (λ r. r.ghost_name) c.pass_front.ensures.same ∙ c.loop-key.invariant.same_map;
-      can = callable-behind (CalledAt g.F.FnMut) (TakesAt g.F.FnMut) s.pred c.pred.new.self c.in-Some.key.now (asking_keys s).left _ passed c.loop-key.invariant.can _ call;
+      can = callable-after (CalledAt g.F.FnMut) (TakesAt g.F.FnMut) s.pred c.pred.new.self c.in-Some.key.now (asking_keys s).left _ passed c.loop-key.invariant.can _ call;
       fewer = omega (arith, all, fewer);
       later = λ r t e. c.loop-key.invariant.later r t
           (extracts-later (CalledAt g.F.FnMut) g.K.AsBytes.bytes (asking_keys s) m c.in-Some.key.now passed call (ap (λ r. keys_of r.now.pairs) c.pass_front.ensures.same) r t e);

@@ -1,6 +1,6 @@
 use Rattle.std.proofs.Common.{◌∷◌, refl, sym, ap, ◌∙◌}
 use Rattle.art_set.proofs.Comparisons.{left-both, left-first, left-second, no-first, no-second}
-use Rattle.art_set.proofs.MergeLemmas.{above-next, above-next-turned, above-none, step-both, step-first, step-second, compared, not-compared, one-less, one-less-behind, both-less}
+use Rattle.art_set.proofs.MergeLemmas.{above-next, above-next-turned, above-none, step-both, step-first, step-second, compared, not-compared, one-less, one-less-after, both-less}
 use Rattle.art_set.proofs.merges.sides.Sides+K+PREFIX_LEN.advance.Goals as goal
 
 pub returns-in-Some-peek-clause-met : goal.returns-in-Some-peek-clause-met
@@ -32,7 +32,10 @@ pub returns-in-Equal-clause-compared : goal.returns-in-Equal-clause-compared
 returns-in-Equal-clause-compared g c =
     rw (← c.self.view_is)
     (compared g.K.AsBytes.bytes _ _ c.one_more-self-inside.ensures
-    (left-both g.K.AsBytes.bytes c.in-Some.x.now c.in-Some-peek-2.y.now _ _ _ _ (c.in-Some.ensures ∙ ap (λ xs. c.in-Some.x.now ∷ xs) (sym c.advance-in-Equal.ensures)) (c.in-Some-peek-2.ensures ∙ ap (λ ys. c.in-Some-peek-2.y.now ∷ ys) (sym c.advance-in-Equal-2.ensures)) c.self.invariant.0 c.self.invariant.1 (sym c.in-Equal.ensures.bytes))
+    (left-both g.K.AsBytes.bytes c.in-Some.x.now c.in-Some-peek-2.y.now _ _ _ _
+    (c.in-Some.ensures ∙ ap (λ xs. c.in-Some.x.now ∷ xs) (sym c.advance-in-Equal.ensures))
+    (c.in-Some-peek-2.ensures ∙ ap (λ ys. c.in-Some-peek-2.y.now ∷ ys) (sym c.advance-in-Equal-2.ensures)) c.self.invariant.0 c.self.invariant.1
+    (sym c.in-Equal.ensures.bytes))
     (both-less c.in-Some.x.now c.in-Some-peek-2.y.now _ _ _ _ (c.in-Some.ensures ∙ ap (λ xs. c.in-Some.x.now ∷ xs) (sym c.advance-in-Equal.ensures)) (c.in-Some-peek-2.ensures ∙ ap (λ ys. c.in-Some-peek-2.y.now ∷ ys) (sym c.advance-in-Equal-2.ensures))))
 
 pub returns-in-Greater-clause-met : goal.returns-in-Greater-clause-met
@@ -46,13 +49,13 @@ returns-in-Greater-clause-compared g c =
     rw (← c.self.view_is)
     (compared g.K.AsBytes.bytes _ _ c.one_more-self-inside.ensures
     (left-second g.K.AsBytes.bytes c.in-Some.x.now c.in-Some-peek-2.y.now _ _ _ _ c.in-Some.ensures (c.in-Some-peek-2.ensures ∙ ap (λ ys. c.in-Some-peek-2.y.now ∷ ys) (sym c.advance-in-Greater.ensures)) c.self.invariant.0 c.self.invariant.1 (sym c.in-Greater.ensures.bytes))
-    (one-less-behind c.in-Some-peek-2.y.now _ _ _ (c.in-Some-peek-2.ensures ∙ ap (λ ys. c.in-Some-peek-2.y.now ∷ ys) (sym c.advance-in-Greater.ensures))))
+    (one-less-after c.in-Some-peek-2.y.now _ _ _ (c.in-Some-peek-2.ensures ∙ ap (λ ys. c.in-Some-peek-2.y.now ∷ ys) (sym c.advance-in-Greater.ensures))))
 
 pub returns-in-Some-peek-clause-compared : goal.returns-in-Some-peek-clause-compared
 returns-in-Some-peek-clause-compared g c =
     rw (← c.self.view_is)
     (not-compared g.K.AsBytes.bytes _ _ refl (no-first g.K.AsBytes.bytes _ _ c.in-None.ensures.0) (no-first g.K.AsBytes.bytes _ _ c.in-None.ensures.0)
-    (one-less-behind c.in-Some-peek.y.now _ _ _ (c.in-Some-peek.ensures ∙ ap (λ ys. c.in-Some-peek.y.now ∷ ys) (sym c.advance.ensures))))
+    (one-less-after c.in-Some-peek.y.now _ _ _ (c.in-Some-peek.ensures ∙ ap (λ ys. c.in-Some-peek.y.now ∷ ys) (sym c.advance.ensures))))
 
 pub returns-in-None-peek-2-clause-compared : goal.returns-in-None-peek-2-clause-compared
 returns-in-None-peek-2-clause-compared g c =

@@ -1,6 +1,7 @@
 -- A set's keys, from the pairs of the map that holds them.
-use Rattle.std.proofs.Common.{Result, Ok, Err, ◌≡◌, ◌⊎◌, ℕ, Bool, true, false, not, cond, List, [], ◌∷◌, Option, Some, refl, sym, ap, ◌∙◌, subst, inl, inr}
-use Rattle.std.specs.Prelude.{IfOk, OnOk, filter, find, is_some}
+use Rattle.std.proofs.Common.{Result, Ok, Err, ◌≡◌, ◌⊎◌, ℕ, Bool, true, false, not, cond, List, [], ◌∷◌, Option, Some, None, refl, sym, ap, ◌∙◌, subst, inl, inr}
+use Rattle.std.specs.Prelude.{IfNone, IfOk, OnOk, filter, find, is_some}
+use Rattle.std.specs.Bool.{OnFalse}
 use Rattle.std.specs.List.{AllZip, list_any}
 use Rattle.std.specs.Map.{keys_of, lookup, lookup_entry}
 use Rattle.std.specs.declared.ops.Bound.{Bound}
@@ -24,6 +25,15 @@ on-ok (Err e) f p = tt
 pub if-ok : {A E : Type 0} (r : Result A E) (P Q : A → Type 0) → ((a : A) → P a → Q a) → IfOk r P → IfOk r Q
 if-ok (Ok x) P Q f p = f x p
 if-ok (Err e) P Q f p = tt
+
+-- where no key was there, there was no pair
+pub none-key : {K V : Type 0} (A : Type 0) (o : Option (K × V)) (r : Option K) → r ≡ key_if_some o → IfNone o A → IfNone r A
+none-key A None r e kept = subst (λ x. IfNone x A) (sym e) kept
+none-key A (Some p) r e kept = subst (λ x. IfNone x A) (sym e) tt
+
+pub none-found : {V : Type 0} (A : Type 0) (o : Option V) (b : Bool) → b ≡ is_some o → IfNone o A → OnFalse b A
+none-found A None b e kept = subst (λ x. OnFalse x A) (sym e) kept
+none-found A (Some v) b e kept = subst (λ x. OnFalse x A) (sym e) tt
 
 module _ {K V : Type 0} where
   -- look-ups

@@ -1,0 +1,185 @@
+-- What is a member after a change and of a merge, how many keys there are then, and which. Callers cite these lemmas.
+use Rattle.std.proofs.Common.{◌≡◌, ◌⊎◌, inl, inr, ℕ, suc, ◌+◌, Bool, true, false, cond, not, ◌||◌, List, [], ◌∷◌, length, Some, bytes_eq, refl, sym, ap, ap₂, subst, ◌∙◌, arith}
+use Rattle.std.specs.Prelude.{◌&&◌, ◌↔◌, filter, find}
+use Rattle.std.proofs.lemmas.List.Filters.{length-filter_both}
+use Rattle.art_bytes.proofs.Common.{IsBefore}
+use Rattle.art_bytes.specs.Keys.{is_below}
+use Rattle.art_arena.proofs.Common.{AscendsByKey, IsIn, begins_with, bytes_from_same, same_key, without_front}
+use Rattle.art_map.proofs.Common.{first_item, has_bytes, keys_added, last_item}
+use Rattle.art_map.proofs.FoundAfter.{turned}
+use Rattle.art_map.proofs.ItemChanges.{first-least, found-by-key, in-all-put, in-kept, in-put-over, last-greatest, with_items}
+use Rattle.art_map.proofs.ItemCounts.{ascending-apart, has-kept, has-with, has-with-all, long-all-put, long-with, long-without}
+use Rattle.art_map.specs.PairLaws.{StandsLast}
+use Rattle.art_operations.proofs.Common.{HasKey, without_key}
+use Rattle.art_set.proofs.Terms.{difference_of, is_member, put_among, put_below, with_key_put, with_keys_put}
+use Rattle.art_set.specs.Merges.{intersection_of, symmetric_difference_of, union_of}
+
+-- a key that is there is a member, and a member's key is there
+key-there : {K : Type 0} (bytes : K → List ℕ) (k : List ℕ) (keys : List K) → HasKey bytes k keys → is_member bytes k keys ≡ true
+key-there bytes k [] (x, i, e) = absurd i
+key-there bytes k (y ∷ ys) (x, inl f, e) = ap (λ b. b || is_member bytes k ys) (same_key (bytes y) k (ap bytes f ∙ e))
+key-there bytes k (y ∷ ys) (x, inr j, e) = ap (λ b. bytes_eq (bytes y) k || b) (key-there bytes k ys (x, j, e)) ∙ always (bytes_eq (bytes y) k)
+  where
+    always : (b : Bool) → (b || true) ≡ true
+    always true = refl
+    always false = refl
+
+there-key : {K : Type 0} (bytes : K → List ℕ) (k : List ℕ) (keys : List K) → is_member bytes k keys ≡ true → HasKey bytes k keys
+there-key bytes k [] e = absurd (cc)
+there-key bytes k (y ∷ ys) e = by_test (bytes_eq (bytes y) k) refl e (there-key bytes k ys)
+  where
+    by_test : (b : Bool) → bytes_eq (bytes y) k ≡ b → (b || is_member bytes k ys) ≡ true → (is_member bytes k ys ≡ true → HasKey bytes k ys) → HasKey bytes k (y ∷ ys)
+    by_test true at e later = (y, inl refl, bytes_from_same (bytes y) k at)
+    by_test false at e later = let (x, i, same) = later e in (x, inr i, same)
+
+-- a test and another, the other way round
+either-way : (a b : Bool) → (a && b) ≡ (b && a)
+either-way true true = refl
+either-way true false = refl
+either-way false true = refl
+either-way false false = refl
+
+module _ {K : Type 0} where
+  pub in-retained-keys : (test : K → Bool) (q : K) (keys : List K) → IsIn q (filter test keys) ↔ (IsIn q keys × (test q ≡ true))
+  in-retained-keys = in-kept
+
+  pub long-retained-keys : (test : K → Bool) (keys : List K) → length (filter test keys) + length (filter (λ k. not (test k)) keys) ≡ length keys
+  long-retained-keys test keys = length-filter_both test (λ k. not (test k)) (λ k. refl) keys
+
+module _ {K : Type 0} (bytes : K → List ℕ) where
+  -- keys that are put in are items that are
+  all-put : (new keys : List K) → with_keys_put bytes new keys ≡ with_items bytes new keys
+  all-put [] keys = refl
+  all-put (k ∷ new) keys = all-put new (with_key_put bytes k keys)
+
+  module _ (query : List ℕ) where
+    pub member-inserted : (k : K) (keys : List K) → is_member bytes query (with_key_put bytes k keys) ≡ (bytes_eq (bytes k) query || is_member bytes query keys)
+    member-inserted = has-with bytes query
+
+    pub member-inserted-all : (new keys : List K) → is_member bytes query (with_keys_put bytes new keys) ≡ (is_member bytes query new || is_member bytes query keys)
+    member-inserted-all new keys = ap (is_member bytes query) (all-put new keys) ∙ has-with-all bytes query new keys
+
+    -- so each key that was put in is there
+    pub put-has : (new keys : List K) → HasKey bytes query new → HasKey bytes query (with_keys_put bytes new keys)
+    put-has new keys has = there-key bytes query (with_keys_put bytes new keys) (member-inserted-all new keys ∙ ap (λ b. b || is_member bytes query keys) (key-there bytes query new has))
+
+    pub member-retained : (keep : List ℕ → Bool) (keys : List K) → is_member bytes query (filter (λ k. keep (bytes k)) keys) ≡ (keep query && is_member bytes query keys)
+    member-retained keep keys = has-kept bytes keep query keys
+
+    pub member-removed : (key : List ℕ) (keys : List K) → is_member bytes query (without_key bytes key keys) ≡ (not (bytes_eq key query) && is_member bytes query keys)
+    member-removed key keys = member-retained (λ l. not (bytes_eq l key)) keys ∙ ap (λ b. not b && is_member bytes query keys) (turned query key)
+
+    pub member-cut : (front : List ℕ) (keys : List K) → is_member bytes query (without_front bytes front keys) ≡ (not (begins_with front query) && is_member bytes query keys)
+    member-cut front keys = member-retained (λ l. not (begins_with front l)) keys
+
+    pub member-both : (xs ys : List K) → is_member bytes query (intersection_of bytes xs ys) ≡ (is_member bytes query xs && is_member bytes query ys)
+    member-both xs ys = member-retained (λ l. is_member bytes l ys) xs ∙ either-way (is_member bytes query ys) (is_member bytes query xs)
+
+    pub member-alone : (xs ys : List K) → is_member bytes query (difference_of bytes xs ys) ≡ (is_member bytes query xs && not (is_member bytes query ys))
+    member-alone xs ys = member-retained (λ l. not (is_member bytes l ys)) xs ∙ either-way (not (is_member bytes query ys)) (is_member bytes query xs)
+
+    member-below : (x : K) (ys : List K) → is_member bytes query (put_below bytes x ys) ≡ (bytes_eq (bytes x) query || is_member bytes query ys)
+    member-below x [] = refl
+    member-below x (y ∷ ys) = by_place (is_below (bytes x) (bytes y)) (member-below x ys)
+      where
+        swapped : (a b c : Bool) → (b || (a || c)) ≡ (a || (b || c))
+        swapped true true c = refl
+        swapped true false c = refl
+        swapped false b c = refl
+
+        by_place : (b : Bool) → is_member bytes query (put_below bytes x ys) ≡ (bytes_eq (bytes x) query || is_member bytes query ys) → is_member bytes query (cond b (x ∷ y ∷ ys) (y ∷ put_below bytes x ys)) ≡ (bytes_eq (bytes x) query || (bytes_eq (bytes y) query || is_member bytes query ys))
+        by_place true later = refl
+        by_place false later = ap (λ h. bytes_eq (bytes y) query || h) later ∙ swapped (bytes_eq (bytes x) query) (bytes_eq (bytes y) query) (is_member bytes query ys)
+
+    member-among : (xs ys : List K) → is_member bytes query (put_among bytes xs ys) ≡ (is_member bytes query xs || is_member bytes query ys)
+    member-among [] ys = refl
+    member-among (x ∷ xs) ys = member-below x (put_among bytes xs ys) ∙ ap (λ h. bytes_eq (bytes x) query || h) (member-among xs ys) ∙ grouped (bytes_eq (bytes x) query)
+      where
+        grouped : (a : Bool) → (a || (is_member bytes query xs || is_member bytes query ys)) ≡ ((a || is_member bytes query xs) || is_member bytes query ys)
+        grouped true = refl
+        grouped false = refl
+
+    pub member-either : (xs ys : List K) → is_member bytes query (union_of bytes xs ys) ≡ (is_member bytes query xs || is_member bytes query ys)
+    member-either xs ys = member-among (difference_of bytes ys xs) xs ∙ ap (λ h. h || is_member bytes query xs) (member-alone ys xs) ∙ so (is_member bytes query xs) (is_member bytes query ys)
+      where
+        so : (a b : Bool) → ((b && not a) || a) ≡ (a || b)
+        so true true = refl
+        so true false = refl
+        so false true = refl
+        so false false = refl
+
+    pub member-one : (xs ys : List K) → is_member bytes query (symmetric_difference_of bytes xs ys) ≡ ((is_member bytes query xs && not (is_member bytes query ys)) || (is_member bytes query ys && not (is_member bytes query xs)))
+    member-one xs ys =
+        member-among (difference_of bytes ys xs) (difference_of bytes xs ys) ∙ ap₂ (λ a b. a || b) (member-alone ys xs) (member-alone xs ys)
+        ∙ so (is_member bytes query xs && not (is_member bytes query ys)) (is_member bytes query ys && not (is_member bytes query xs))
+      where
+        so : (a b : Bool) → (b || a) ≡ (a || b)
+        so true true = refl
+        so true false = refl
+        so false true = refl
+        so false false = refl
+
+  -- how many there are
+  pub long-key-inserted : (k : K) (keys : List K) → AscendsByKey bytes keys → length (with_key_put bytes k keys) ≡ cond (is_member bytes (bytes k) keys) (length keys) (suc (length keys))
+  long-key-inserted k keys up = long-with bytes k keys (ascending-apart bytes keys up)
+
+  pub long-key-removed : (key : List ℕ) (keys : List K) → AscendsByKey bytes keys → length (without_key bytes key keys) + cond (is_member bytes key keys) 1 0 ≡ length keys
+  long-key-removed key keys up = long-without bytes key keys (ascending-apart bytes keys up)
+
+  pub long-keys-inserted : (new keys : List K) → AscendsByKey bytes keys → length (with_keys_put bytes new keys) ≡ length keys + keys_added bytes new keys
+  long-keys-inserted new keys up = ap length (all-put new keys) ∙ long-all-put bytes new keys (ascending-apart bytes keys up)
+
+  long-below : (x : K) (ys : List K) → length (put_below bytes x ys) ≡ suc (length ys)
+  long-below x [] = refl
+  long-below x (y ∷ ys) = by_place (is_below (bytes x) (bytes y)) (long-below x ys)
+    where
+      by_place : (b : Bool) → length (put_below bytes x ys) ≡ suc (length ys) → length (cond b (x ∷ y ∷ ys) (y ∷ put_below bytes x ys)) ≡ suc (suc (length ys))
+      by_place true later = refl
+      by_place false later = ap suc later
+
+  long-among : (xs ys : List K) → length (put_among bytes xs ys) ≡ length ys + length xs
+  long-among [] ys = omega arith
+  long-among (x ∷ xs) ys = let below = long-below x (put_among bytes xs ys) in let later = long-among xs ys in omega (arith, below, later)
+
+  pub long-union : (xs ys : List K) → length (union_of bytes xs ys) ≡ length xs + length (difference_of bytes ys xs)
+  long-union xs ys = long-among (difference_of bytes ys xs) xs
+
+  pub long-symmetric : (xs ys : List K) → length (symmetric_difference_of bytes xs ys) ≡ length (difference_of bytes xs ys) + length (difference_of bytes ys xs)
+  long-symmetric xs ys = long-among (difference_of bytes ys xs) (difference_of bytes xs ys)
+
+  -- and which
+  pub in-key-inserted : (q k : K) (keys : List K) → IsIn q (with_key_put bytes k keys) ↔ ((q ≡ k) ⊎ (IsIn q keys × (bytes_eq (bytes q) (bytes k) ≡ false)))
+  in-key-inserted q k keys = in-put-over bytes (λ x. bytes_eq (bytes x) (bytes k)) k q keys
+
+  pub in-keys-inserted : (q : K) (new keys : List K) → IsIn q (with_keys_put bytes new keys) ↔ (StandsLast bytes q new ⊎ (IsIn q keys × (HasKey bytes (bytes q) new → ⊥)))
+  in-keys-inserted q new keys = subst (λ l. IsIn q l ↔ (StandsLast bytes q new ⊎ (IsIn q keys × (HasKey bytes (bytes q) new → ⊥)))) (sym (all-put new keys)) (in-all-put bytes q new keys)
+
+  pub key-found : (query : List ℕ) (k : K) (keys : List K) → AscendsByKey bytes keys → (find (has_bytes bytes query) keys ≡ Some k) ↔ (IsIn k keys × (bytes_eq (bytes k) query ≡ true))
+  key-found = found-by-key bytes
+
+  pub first-key-least : (k q : K) (keys : List K) → AscendsByKey bytes keys → first_item keys ≡ Some k → IsIn q keys → (q ≡ k) ⊎ IsBefore (bytes k) (bytes q)
+  first-key-least = first-least bytes
+
+  pub last-key-greatest : (k q : K) (keys : List K) → AscendsByKey bytes keys → last_item keys ≡ Some k → IsIn q keys → (q ≡ k) ⊎ IsBefore (bytes q) (bytes k)
+  last-key-greatest = last-greatest bytes
+
+-- what the laws of a set say
+pub ruleset member_laws = (
+  member-inserted,
+  member-removed,
+  member-cut,
+  member-inserted-all,
+  member-retained,
+  member-both,
+  member-alone,
+  member-either,
+  member-one,
+  long-key-inserted,
+  long-key-removed,
+  long-keys-inserted,
+  long-retained-keys,
+  long-union,
+  long-symmetric,
+  first-key-least,
+  last-key-greatest,
+)
