@@ -5,7 +5,8 @@ use Rattle.art_lines.specs.Lines.{whole_lines_of, unfinished_line_of}
 use Rattle.art_lines.proofs.Common.{lines_of, lines_so_far, name, natural, signed, bytes, shown, line_of, span, put, get, nget, drop, of_tenant, dump, Spells, list, full_key, IsCut}
 use Rattle.art_lines.specs.Reading.{command_of, natural_in, tenant_in, number_in, bytes_in}
 use Rattle.art_bytes.proofs.Common.{is_below, conflicts}
-use Rattle.art_engine.proofs.Terms.{number_key_of, number_of_bytes, full_key_of, exactly, visits_of, path_nodes, fronts_shared, KeyRecord, KeyFits, Records, no_records, own, with_own, State, unread, most_ahead, dump_of, audit_lines, MayRefuse, LineMayRefuse, answers, IsLineDone, reply_to, IsOutcome, AfterWriteFault, IsCutLine}
+use Rattle.art_engine.proofs.Terms.{number_key_of, number_of_bytes, full_key_of, exactly, visits_of, path_nodes, fronts_shared, KeyRecord, KeyFits, Records, no_records, own, with_own, State, unread, most_ahead, dump_of, audit_lines, MayRefuse, LineMayRefuse, answers, IsLineDone, reply_to}
+use Rattle.art_engine.proofs.Terms.{IsOutcome, AfterWriteFault, IsCutLine}
 use Rattle.hex.proofs.OnLiterals.{hex_on_literals}
 use Rattle.std.specs.Fmt.{digits}
 use mathlib.Core.Bool.{false≢true}

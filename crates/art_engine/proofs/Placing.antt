@@ -21,7 +21,7 @@ use Rattle.art_engine.proofs.Dropping.{All-put}
 use Rattle.art_engine.proofs.Filters.{All-left, All-right}
 use Rattle.art_engine.proofs.FullKeys.{full_before, cmp_itself}
 use Rattle.art_engine.proofs.OwnLaws.{key_made}
-use Rattle.art_engine.proofs.Standing.{AllBefore, AllBehind, stands_to, standing, cmp_same, Parted, absent, present, parted}
+use Rattle.art_engine.proofs.Standing.{AllBefore, AllAfter, stands_to, standing, cmp_same, Parted, absent, present, parted}
 use Rattle.art_engine.proofs.Putting.{pairs_of_tenant, value_in_gap, value_there, no_conflict_with, new_after, new_before, same_after, same_before, FitsBetween, put_keeps, put_records, InOrder-before, InOrder-following}
 
 -- the record of a full key
@@ -79,7 +79,7 @@ module _ (t : ℕ) (k : List ℕ) (small : t < 2 ^ 32) where
   skips [] bs low = refl
   skips (p ∷ fs) bs low = rw (not_there p Less low.0 (λ e. cc)) (skips fs bs low.1)
 
-  none : (bs : List Pair) → AllBehind t k (map record_of bs) → lookup (is_full_key t k) bs ≡ None
+  none : (bs : List Pair) → AllAfter t k (map record_of bs) → lookup (is_full_key t k) bs ≡ None
   none [] high = refl
   none (p ∷ bs) high = rw (not_there p Greater high.0 (λ e. cc)) (none bs high.1)
 
@@ -116,7 +116,7 @@ module _ (t : ℕ) (k v : List ℕ) (e : Pair) (fits : t < 2 ^ 32) (full : bytes
   is_made : record_of e ≡ key_made t (k, v)
   is_made = full_record t k v e fits full value
 
-  put_absent : (fs bs : List Pair) → AreFull (fs ++ bs) → AllBefore t k (map record_of fs) → AllBehind t k (map record_of bs)
+  put_absent : (fs bs : List Pair) → AreFull (fs ++ bs) → AllBefore t k (map record_of fs) → AllAfter t k (map record_of bs)
       → (IsBlocked bytes_of (full_key t k) (fs ++ bs) → ⊥) → IsPutAmong t k v (fs ++ bs) (fs ++ e ∷ bs) × IsNewList e (fs ++ bs) (fs ++ e ∷ bs)
   put_absent fs bs are low high free =
       let apart = no_conflict_with t k (map record_of (fs ++ bs)) (free_told t k fits (fs ++ bs) are.full are.tenants free) in
@@ -135,7 +135,7 @@ module _ (t : ℕ) (k v : List ℕ) (e : Pair) (fits : t < 2 ^ 32) (full : bytes
       (record { keeps = keeps; records_are = put_records t k v fs [] bs e are between }, (put_new bytes_of e fs bs (pairs_ascend (fs ++ e ∷ bs) keeps)).new_is)
 
   put_present : (fs : List Pair) (m : Pair) (bs : List Pair) → AreFull (fs ++ m ∷ bs) → AllBefore t k (map record_of fs) → stands_to t k (record_of m) ≡ Equal
-      → AllBehind t k (map record_of bs) → IsPutAmong t k v (fs ++ m ∷ bs) (fs ++ e ∷ bs) × IsNewList e (fs ++ m ∷ bs) (fs ++ e ∷ bs)
+      → AllAfter t k (map record_of bs) → IsPutAmong t k v (fs ++ m ∷ bs) (fs ++ e ∷ bs) × IsNewList e (fs ++ m ∷ bs) (fs ++ e ∷ bs)
   put_present fs m bs are low here high =
       let order = subst (InOrder KeyComesBefore) (map-append record_of fs (m ∷ bs)) are.in_order in
       let same = full_there t k fits m (All-right IsFull fs (m ∷ bs) are.full).0 here ∙ sym full in

@@ -12,7 +12,7 @@ use Rattle.art_bytes.proofs.Common.{is_below, is_proper_front, conflicts}
 use Rattle.art_engine.proofs.Terms.{KeyRecord, own, with_own, InOrder, KeyComesBefore, value_at, has_conflict, with_pair, Pair, record_of, records_of, IsFull, AreFull, IsOfTenant}
 use Rattle.art_engine.proofs.Filters.{filter-all, filter-none, All-map, All-append, All-left, All-right}
 use Rattle.art_engine.proofs.OwnLaws.{key_part, key_made, key_ascends, made_from_mine, three_parts, records_from_lists}
-use Rattle.art_engine.proofs.Standing.{AllBefore, AllBehind, stands_to, standing, not_below_itself, not_both_below}
+use Rattle.art_engine.proofs.Standing.{AllBefore, AllAfter, stands_to, standing, not_below_itself, not_both_below}
 
 -- a tenant's pairs among some records
 abbrev pub pairs_of_tenant : ℕ → List KeyRecord → List (List ℕ × List ℕ)
@@ -82,7 +82,7 @@ module _ (t : ℕ) (k : List ℕ) where
   pairs_before : (rs : List KeyRecord) → AllBefore t k rs → AllByRecursion (λ p. IsTrue (is_below p.0 k)) (pairs_of_tenant t rs)
   pairs_before rs h = pairs_all (λ j. IsTrue (is_below j k)) t rs (All-map (λ r. stands_to t k r ≡ Less) (λ r. r.tenant ≡ t → IsTrue (is_below r.key k)) before_key rs h)
 
-  pairs_after : (rs : List KeyRecord) → AllBehind t k rs → AllByRecursion (λ p. IsTrue (is_below k p.0)) (pairs_of_tenant t rs)
+  pairs_after : (rs : List KeyRecord) → AllAfter t k rs → AllByRecursion (λ p. IsTrue (is_below k p.0)) (pairs_of_tenant t rs)
   pairs_after rs h = pairs_all (λ j. IsTrue (is_below k j)) t rs (All-map (λ r. stands_to t k r ≡ Greater) (λ r. r.tenant ≡ t → IsTrue (is_below k r.key)) after_key rs h)
 
   pairs_at : (rs : List KeyRecord) → AllAt t k rs → AllByRecursion (λ p. p.0 ≡ k) (pairs_of_tenant t rs)
@@ -98,7 +98,7 @@ module _ (t : ℕ) (k : List ℕ) where
   above_other j h = false_from_ne_true (bytes_eq j k) (λ e. both_ways _ (not_below_itself k) (subst (λ x. IsTrue (is_below k x)) ((bytes_eq-Decides j k).0 e) h))
 
   -- the value at a key that is in a gap, and at one that is there
-  pub value_in_gap : (fs bs : List KeyRecord) → AllBefore t k fs → AllBehind t k bs → value_at bytes_eq k (pairs_of_tenant t (fs ++ bs)) ≡ None
+  pub value_in_gap : (fs bs : List KeyRecord) → AllBefore t k fs → AllAfter t k bs → value_at bytes_eq k (pairs_of_tenant t (fs ++ bs)) ≡ None
   value_in_gap fs bs low high = ap (λ ps. value_at bytes_eq k ps) (pairs_append fs bs) ∙ ap (option_map (λ p. p.1))
       (find-skips (λ p. bytes_eq p.0 k) (pairs_of_tenant t fs) (pairs_of_tenant t bs) (All-map (λ p. IsTrue (is_below p.0 k)) (λ p. bytes_eq p.0 k ≡ false) (λ p. below_other p.0) (pairs_of_tenant t fs) (pairs_before fs low))
       ∙ find-none (λ p. bytes_eq p.0 k) (pairs_of_tenant t bs) (All-map (λ p. IsTrue (is_below k p.0)) (λ p. bytes_eq p.0 k ≡ false) (λ p. above_other p.0) (pairs_of_tenant t bs) (pairs_after bs high)))
@@ -119,7 +119,7 @@ module _ (t : ℕ) (k : List ℕ) where
   above_itself_not p e = rw e (not_below_itself k)
 
   -- the tenant's pairs with the key's value put in place
-  pairs_put : (v : List ℕ) (fs ms bs : List KeyRecord) → AllBefore t k fs → AllAt t k ms → AllBehind t k bs
+  pairs_put : (v : List ℕ) (fs ms bs : List KeyRecord) → AllBefore t k fs → AllAt t k ms → AllAfter t k bs
       → with_pair is_below k v (pairs_of_tenant t (fs ++ (ms ++ bs))) ≡ pairs_of_tenant t fs ++ (k, v) ∷ pairs_of_tenant t bs
   pairs_put v fs ms bs low here high =
       let A = pairs_of_tenant t fs in let M = pairs_of_tenant t ms in let B = pairs_of_tenant t bs in
@@ -141,7 +141,7 @@ module _ (t : ℕ) (k : List ℕ) where
       ap (with_pair is_below k v) parts ∙ rw (lower, upper) refl
 
   -- and all records with the tenant's put back
-  pub records_put : (v : List ℕ) (fs ms bs : List KeyRecord) → InOrder KeyComesBefore (fs ++ (ms ++ bs)) → AllBefore t k fs → AllAt t k ms → AllBehind t k bs
+  pub records_put : (v : List ℕ) (fs ms bs : List KeyRecord) → InOrder KeyComesBefore (fs ++ (ms ++ bs)) → AllBefore t k fs → AllAt t k ms → AllAfter t k bs
       → filter (λ r. nat_lt r.tenant t) (fs ++ (ms ++ bs)) ++ map (key_made t) (with_pair is_below k v (pairs_of_tenant t (fs ++ (ms ++ bs)))) ++ filter (λ r. nat_lt t r.tenant) (fs ++ (ms ++ bs))
       ≡ fs ++ key_made t (k, v) ∷ bs
   records_put v fs ms bs order low here high =
@@ -202,7 +202,7 @@ module _ (t : ℕ) (k v : List ℕ) where
       step : (r : KeyRecord) → stands_to t k r ≡ Less → (r.tenant ≡ t → conflicts k r.key ≡ false) → KeyComesBefore r (key_made t (k, v))
       step r e apart = elim (standing t k r Less e) [ inl lt ↦ inl lt | inr up ↦ inr (up.0, up.1, conflicts_back k r.key (apart up.0)) ]
 
-  pub new_before : (rs : List KeyRecord) → AllBehind t k rs → AllByRecursion (λ r. r.tenant ≡ t → conflicts k r.key ≡ false) rs → AllByRecursion (λ r. KeyComesBefore (key_made t (k, v)) r) rs
+  pub new_before : (rs : List KeyRecord) → AllAfter t k rs → AllByRecursion (λ r. r.tenant ≡ t → conflicts k r.key ≡ false) rs → AllByRecursion (λ r. KeyComesBefore (key_made t (k, v)) r) rs
   new_before rs high free = All-both (λ r. stands_to t k r ≡ Greater) (λ r. r.tenant ≡ t → conflicts k r.key ≡ false) (λ r. KeyComesBefore (key_made t (k, v)) r) step rs high free
     where
       step : (r : KeyRecord) → stands_to t k r ≡ Greater → (r.tenant ≡ t → conflicts k r.key ≡ false) → KeyComesBefore (key_made t (k, v)) r
@@ -231,7 +231,7 @@ module _ (t : ℕ) (k v : List ℕ) where
 pub record FitsBetween (t : ℕ) (k v : List ℕ) (fs ms bs : List Pair) (e : Pair) : Type 0 where
   pub low : AllBefore t k (map record_of fs)
   pub here : AllByRecursion (λ r. stands_to t k r ≡ Equal) (map record_of ms)
-  pub high : AllBehind t k (map record_of bs)
+  pub high : AllAfter t k (map record_of bs)
   pub is : record_of e ≡ key_made t (k, v)
   pub full : IsFull e
   pub fits : t < 2 ^ 32

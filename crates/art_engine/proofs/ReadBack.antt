@@ -11,7 +11,8 @@ use Rattle.art_bytes.proofs.Common.{conflicts, is_below}
 use Rattle.art_lines.proofs.Common.{lines_of, name, text_of, line_of, put, nput, Command, of_tenant, put_reply, end_words}
 use Rattle.art_lines.specs.Words.{Word}
 use Rattle.art_lines.specs.Reading.{command_of}
-use Rattle.art_engine.proofs.Terms.{Own, KeyRecord, NumberRecord, Records, no_records, own, with_own, InOrder, KeyComesBefore, NumberComesBefore, KeyFits, NumberFits, AreRecords, value_at, has_conflict, with_pair, puts, command_reply, command_after, with_changed, key_lines, number_lines, dump_of, answers, reply_to, records_after, dump_text, DumpsTellRecords, DumpsAreReadBack}
+use Rattle.art_engine.proofs.Terms.{Own, KeyRecord, NumberRecord, Records, no_records, own, with_own, InOrder, KeyComesBefore, NumberComesBefore, KeyFits, NumberFits, AreRecords, value_at, has_conflict, with_pair, puts, command_reply, command_after, with_changed, key_lines, number_lines}
+use Rattle.art_engine.proofs.Terms.{dump_of, answers, reply_to, records_after, dump_text, DumpsTellRecords, DumpsAreReadBack}
 use Rattle.art_engine.proofs.Dropping.{IsOwnTest, own_find}
 use Rattle.art_engine.proofs.Dumping.{words_put, words_nput}
 use Rattle.art_engine.proofs.DumpTexts.{put_spelled, nput_spelled, end_spelled, put_lines, nput_lines, end_line, OneLine, lines_are}

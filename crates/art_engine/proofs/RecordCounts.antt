@@ -10,7 +10,8 @@ use Rattle.art_bytes.proofs.Common.{is_below, bytes_cmp, pair_key}
 use Rattle.art_arena.proofs.Common.{begins_with}
 use Rattle.art_operations.proofs.Common.{OpeningReads, ReadsAtLeast}
 use Rattle.art_walks.proofs.Common.{ReadsPathOf}
-use Rattle.art_engine.proofs.Terms.{exactly, listing, longest, path_nodes, GrewBy, Grew, full_key_of, number_key_of, own, value_at, numbers_from_to, own_pair, IsListed, own_number, IsNumbered, Pair, NumberPair, record_of, records_of, number_record_of, number_records_of, IsNumberPair, AreFull, ArePairs, AreNumberPairs}
+use Rattle.art_engine.proofs.Terms.{exactly, listing, longest, path_nodes, GrewBy, Grew, full_key_of, number_key_of, own, value_at, numbers_from_to, own_pair, IsListed, own_number, IsNumbered, Pair, NumberPair, record_of, records_of, number_record_of, number_records_of, IsNumberPair}
+use Rattle.art_engine.proofs.Terms.{AreFull, ArePairs, AreNumberPairs}
 use Rattle.art_lines.proofs.Common.{full_key}
 use Rattle.art_engine.proofs.Changing.{keys_are, option_map-map}
 use Rattle.art_engine.proofs.Conflicts.{bytes_of}

@@ -22,8 +22,8 @@ stands_to tenant key r = ordering_then (nat_cmp r.tenant tenant) (slice_cmp nat_
 abbrev pub StandsBefore : ℕ → List ℕ → KeyRecord → Type 0
 StandsBefore t k r = (r.tenant < t) ⊎ ((r.tenant ≡ t) × IsTrue (is_below r.key k))
 
-abbrev pub StandsBehind : ℕ → List ℕ → KeyRecord → Type 0
-StandsBehind t k r = (t < r.tenant) ⊎ ((r.tenant ≡ t) × IsTrue (is_below k r.key))
+abbrev pub StandsAfter : ℕ → List ℕ → KeyRecord → Type 0
+StandsAfter t k r = (t < r.tenant) ⊎ ((r.tenant ≡ t) × IsTrue (is_below k r.key))
 
 pub lt_is : (o : Ordering) → is_lt o ≡ true → o ≡ Less
 lt_is Less h = refl
@@ -67,7 +67,7 @@ not_both_below a b h = ap is_lt (cmp_above b a h)
 abbrev pub Says : ℕ → List ℕ → KeyRecord → Ordering → Type 0
 Says t k r Less = StandsBefore t k r
 Says t k r Equal = (r.tenant ≡ t) × (r.key ≡ k)
-Says t k r Greater = StandsBehind t k r
+Says t k r Greater = StandsAfter t k r
 
 said_by_keys : (t : ℕ) (k : List ℕ) (r : KeyRecord) → r.tenant ≡ t → (o : Ordering) → slice_cmp nat_cmp r.key k ≡ o → Says t k r o
 said_by_keys t k r same Less e = inr (same, ap is_lt e)
@@ -96,7 +96,7 @@ stands_before t k r (inr h) =
     let e = h.0 in let no : nat_lt r.tenant t ≡ false = le-ltb r.tenant t (omega arith) in
     rw (no, eq-eqb r.tenant t e) (cmp_less r.key k h.1)
 
-pub stands_after : (t : ℕ) (k : List ℕ) (r : KeyRecord) → StandsBehind t k r → stands_to t k r ≡ Greater
+pub stands_after : (t : ℕ) (k : List ℕ) (r : KeyRecord) → StandsAfter t k r → stands_to t k r ≡ Greater
 stands_after t k r (inl high) =
     let no : nat_lt r.tenant t ≡ false = le-ltb r.tenant t (omega arith) in let other : (r.tenant == t) ≡ false = ne_eqb r.tenant t (λ e. omega arith) in
     rw (no, other) refl
@@ -104,7 +104,7 @@ stands_after t k r (inr h) =
     let e = h.0 in let no : nat_lt r.tenant t ≡ false = le-ltb r.tenant t (omega arith) in
     rw (no, eq-eqb r.tenant t e) (cmp_above r.key k h.1)
 
-pub after_after : (t : ℕ) (k : List ℕ) (r s : KeyRecord) → KeyComesBefore r s → StandsBehind t k r → StandsBehind t k s
+pub after_after : (t : ℕ) (k : List ℕ) (r s : KeyRecord) → KeyComesBefore r s → StandsAfter t k r → StandsAfter t k s
 after_after t k r s (inl low) (inl lt) = inl (omega arith)
 after_after t k r s (inl low) (inr same) = let e = same.0 in inl (omega arith)
 after_after t k r s (inr up) (inl lt) = let e = up.0 in inl (omega arith)
@@ -113,29 +113,29 @@ after_after t k r s (inr up) (inr same) = inr (sym up.0 ∙ same.0, below_trans 
 abbrev pub AllBefore : ℕ → List ℕ → List KeyRecord → Type 0
 AllBefore t k rs = AllByRecursion (λ r. stands_to t k r ≡ Less) rs
 
-abbrev pub AllBehind : ℕ → List ℕ → List KeyRecord → Type 0
-AllBehind t k rs = AllByRecursion (λ r. stands_to t k r ≡ Greater) rs
+abbrev pub AllAfter : ℕ → List ℕ → List KeyRecord → Type 0
+AllAfter t k rs = AllByRecursion (λ r. stands_to t k r ≡ Greater) rs
 
 -- all that come after a record at the key, or after one that stands after it, stand after the key
-after_of_same : (t : ℕ) (k : List ℕ) (r s : KeyRecord) → KeyComesBefore r s → r.tenant ≡ t → r.key ≡ k → StandsBehind t k s
+after_of_same : (t : ℕ) (k : List ℕ) (r s : KeyRecord) → KeyComesBefore r s → r.tenant ≡ t → r.key ≡ k → StandsAfter t k s
 after_of_same t k r s (inl low) e f = inl (omega arith)
 after_of_same t k r s (inr up) e f = inr (sym up.0 ∙ e, subst (λ x. IsTrue (is_below x s.key)) f up.1)
 
-after_found : (t : ℕ) (k : List ℕ) (r : KeyRecord) (rs : List KeyRecord) → stands_to t k r ≡ Equal → AllByRecursion (KeyComesBefore r) rs → AllBehind t k rs
+after_found : (t : ℕ) (k : List ℕ) (r : KeyRecord) (rs : List KeyRecord) → stands_to t k r ≡ Equal → AllByRecursion (KeyComesBefore r) rs → AllAfter t k rs
 after_found t k r rs here order =
     let same = standing t k r Equal here in
     All-map (KeyComesBefore r) (λ s. stands_to t k s ≡ Greater) (λ s before. stands_after t k s (after_of_same t k r s before same.0 same.1)) rs order
 
-after_from : (t : ℕ) (k : List ℕ) (r : KeyRecord) (rs : List KeyRecord) → stands_to t k r ≡ Greater → AllByRecursion (KeyComesBefore r) rs → AllBehind t k rs
+after_from : (t : ℕ) (k : List ℕ) (r : KeyRecord) (rs : List KeyRecord) → stands_to t k r ≡ Greater → AllByRecursion (KeyComesBefore r) rs → AllAfter t k rs
 after_from t k r rs here order =
     let first = standing t k r Greater here in
     All-map (KeyComesBefore r) (λ s. stands_to t k s ≡ Greater) (λ s before. stands_after t k s (after_after t k r s before first)) rs order
 
 -- Pairs whose records are in order fall into those before a tenant's key, the one at it if there is one, and those after.
 pub data Parted (t : ℕ) (k : List ℕ) (ps : List Pair) : Type 0 where
-  absent : (fs bs : List Pair) → ps ≡ fs ++ bs → AllBefore t k (map record_of fs) → AllBehind t k (map record_of bs) → Parted t k ps
+  absent : (fs bs : List Pair) → ps ≡ fs ++ bs → AllBefore t k (map record_of fs) → AllAfter t k (map record_of bs) → Parted t k ps
   present : (fs : List Pair) (m : Pair) (bs : List Pair) → ps ≡ fs ++ m ∷ bs → AllBefore t k (map record_of fs) → stands_to t k (record_of m) ≡ Equal
-      → AllBehind t k (map record_of bs) → Parted t k ps
+      → AllAfter t k (map record_of bs) → Parted t k ps
 
 parted_after : (t : ℕ) (k : List ℕ) (p : Pair) (ps : List Pair) → stands_to t k (record_of p) ≡ Less → Parted t k ps → Parted t k (p ∷ ps)
 parted_after t k p ps first (absent fs bs e low high) = absent (p ∷ fs) bs (ap (λ l. p ∷ l) e) (first, low) high

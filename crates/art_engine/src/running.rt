@@ -1,7 +1,7 @@
 //! From a source to a sink.
 ghost use Rattle.std.specs.Prelude.{◌≡◌, ℕ, ◌<◌, ◌++◌, ◌∷◌, ◌↔◌, ◌⊎◌, [], List, take, OnOk, OnErr, IfErr, is_err};
 ghost use Rattle.std.specs.Prelude.{true, false, suc, Err};
-ghost use Rattle.art_lines.specs.Ends.{calls_to_flush, has_write_failed};
+ghost use Rattle.art_lines.specs.Ends.{bytes_taken, calls_to_flush, has_write_failed, writes_unflushed};
 ghost use Rattle.art_lines.specs.Lines.{lines_of, whole_lines_of, lines_so_far};
 ghost use Rattle.art_engine.specs.State.{State};
 ghost use Rattle.art_engine.specs.Ahead.{AreNext, IsAllTold, Tells};
@@ -70,8 +70,43 @@ pub fn run<S: Source, W: Sink, const PREFIX_LEN: usize>(
         × AfterWriteFault index.old (lines_so_far (S.has_ended source.new) text) written index.new }
 {
     let mut held: ArrayVec<u8, HELD> = ArrayVec::new();
-    let mut room = PieceRoom::new(index.alloc());
     let mut read_ahead = ReadAhead::new(index.alloc());
+    run_held(index, &mut held, &mut read_ahead, source, sink)
+}
+
+/// Does what `run` does, over room that it is lent. (`run` owns it and has one way out: Rattle's own compiler makes
+/// room at each for what is dropped there.)
+fn run_held<S: Source, W: Sink, const PREFIX_LEN: usize>(
+    index: &mut Index<PREFIX_LEN>,
+    held: &mut ArrayVec<u8, HELD>,
+    read_ahead: &mut ReadAhead,
+    source: &mut S,
+    sink: &mut W,
+) -> Result<(), RunFault>
+    requires none_held { held.old.items ≡ [] }
+    requires used_up { to_come read_ahead.old ≡ [] }
+    requires source_open { S.has_failed source.old ≡ false }
+    requires source_goes_on { S.has_ended source.old ≡ false }
+    requires sink_open { W.has_failed sink.old ≡ false }
+    ensures ended { OnOk result (S.has_ended source.new ≡ true) }
+    ensures outcome { OnOk result ((text written : List ℕ)
+        × (S.given source.new ≡ S.given source.old ++ text)
+        × (W.taken sink.new ≡ W.taken sink.old ++ written)
+        × IsOutcome index.old (lines_of text) written index.new) }
+    ensures ahead { OnOk result (IsAllTold index.old index.new) }
+    ensures read { (result ≡ Err RunFault.Read) ↔ (S.has_failed source.new ≡ true) }
+    ensures write { (result ≡ Err RunFault.Write) ↔ (W.has_failed sink.new ≡ true) }
+    ensures after_read_fault { result ≡ Err RunFault.Read → (text written : List ℕ)
+        × (S.given source.new ≡ S.given source.old ++ text)
+        × (W.taken sink.new ≡ W.taken sink.old ++ written)
+        × IsOutcome index.old (whole_lines_of text) written index.new }
+    ensures ahead_of_read_fault { result ≡ Err RunFault.Read → IsAllTold index.old index.new }
+    ensures after_write_fault { result ≡ Err RunFault.Write → (text written : List ℕ)
+        × (S.given source.new ≡ S.given source.old ++ text)
+        × (W.taken sink.new ≡ W.taken sink.old ++ written)
+        × AfterWriteFault index.old (lines_so_far (S.has_ended source.new) text) written index.new }
+{
+    let mut room = PieceRoom::new(index.alloc());
     'reads: loop {
         sink.send();
         let buf = room.as_mut_slice();
@@ -81,7 +116,7 @@ pub fn run<S: Source, W: Sink, const PREFIX_LEN: usize>(
         if n == 0 {
             break 'reads;
         }
-        feed(index, &mut held, &mut read_ahead, &buf[..n], sink)?;
+        feed(index, held, read_ahead, &buf[..n], sink)?;
     }
     drop(room);
     if held.is_empty() {
@@ -194,6 +229,9 @@ pub fn flushed<W: Write>(
     ensures exact { OnOk done (is_err result ≡ has_write_failed writer.new) }
     ensures flushes { OnOk done (has_write_failed writer.old ≡ false
         → calls_to_flush writer.new ≡ suc (calls_to_flush writer.old)) }
+    ensures flushed { OnOk result (calls_to_flush writer.new ≡ suc (calls_to_flush writer.old)) }
+    ensures unflushed { OnOk result (writes_unflushed writer.new ≡ 0) }
+    ensures taken { bytes_taken writer.new ≡ bytes_taken writer.old }
 {
     done?;
     writer.flush()?;

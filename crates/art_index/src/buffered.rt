@@ -31,6 +31,7 @@ pub fn run_buffered<S: Source, W: Sink, const PREFIX_LEN: usize>(
     // A failure of either end stays one. That of the source is told first.
     ensures read { (result ≡ Err RunFault.Read) ↔ (S.has_failed source.new ≡ true) }
     ensures write { W.has_failed sink.new.sink ≡ true → IsErr result }
+    ensures write_failed { result ≡ Err RunFault.Write → W.has_failed sink.new.sink ≡ true }
 
     // After a failed read, the whole lines of the text given are answered, and nothing else. The inner sink of the
     // buffered one has taken all answers, or where it failed, too, all but some at their end.

@@ -10,7 +10,11 @@
 //! contract can say.
 #![tactic(auto)]
 
-ghost use Rattle.std.specs.Prelude.{◌<◌, length};
+ghost use Rattle.std.specs.Prelude.{◌≡◌, ◌<◌, ◌↔◌, length, true, false, OnOk, Err};
+ghost use Rattle.art_lines.specs.Ends.{bytes_given, has_run_out, has_read_failed};
+ghost use Rattle.art_lines.specs.Ends.{bytes_taken, calls_to_flush, has_write_failed, writes_unflushed};
+ghost use Rattle.art_lines.specs.Lines.{lines_of};
+ghost use Rattle.art_engine.specs.Outcome.{IsOutcome};
 
 mod buffered;
 mod serving;
@@ -19,7 +23,7 @@ use art_engine::{Index, RunFault, flushed, run};
 use art_lines::buffered::reserve_buffer;
 use art_lines::{Buffered, FromReader, ToWriter};
 use buffered::run_buffered;
-use serving::{report, touch_stack};
+use serving::{Ends, report, touch_stack};
 use std::env;
 use std::process::ExitCode;
 
@@ -28,22 +32,43 @@ const PREFIX_LEN: usize = 16;
 
 /// Answers standard input out of an index. Replies leave by way of a room.
 #[inline(never)]
-fn serve(rt: &HostRuntime, index: &mut Index<PREFIX_LEN>, room: Vec<u8>) -> Result<(), RunFault>
+fn serve(rt: &HostRuntime, index: &mut Index<PREFIX_LEN>, room: Vec<u8>) -> Ends
     requires { 0 < length room.items }
+
+    // Where nothing failed, all of the input was read, all of the answers were written, and all that was written was
+    // flushed.
+    ensures ended { OnOk result.done (has_run_out result.source ≡ true) }
+    ensures outcome { OnOk result.done
+        (IsOutcome index.old (lines_of (bytes_given result.source)) (bytes_taken result.sink) index.new) }
+    ensures flushed { OnOk result.done ((0 < calls_to_flush result.sink) × (writes_unflushed result.sink ≡ 0)) }
+
+    // A failure of either end is told, that of the source first.
+    ensures read { (result.done ≡ Err RunFault.Read) ↔ (has_read_failed result.source ≡ true) }
+    ensures write { OnOk result.done (has_write_failed result.sink ≡ false) }
 {
     let mut source = FromReader::new(rt.stdin());
-    let mut sink = Buffered::new(ToWriter::new(rt.stdout()), room);
-    let done = run_buffered(index, &mut source, &mut sink);
-    flushed(done, &mut sink.into_sink())
+    let mut gathering = Buffered::new(ToWriter::new(rt.stdout()), room);
+    let answered = run_buffered(index, &mut source, &mut gathering);
+    let mut sink = gathering.into_sink();
+    let done = flushed(answered, &mut sink);
+    Ends { source, sink, done }
 }
 
 /// Answers standard input out of an index where there is no memory for a room: each reply leaves at once.
 #[inline(never)]
-fn serve_at_once(rt: &HostRuntime, index: &mut Index<PREFIX_LEN>) -> Result<(), RunFault> {
+fn serve_at_once(rt: &HostRuntime, index: &mut Index<PREFIX_LEN>) -> Ends
+    ensures ended { OnOk result.done (has_run_out result.source ≡ true) }
+    ensures outcome { OnOk result.done
+        (IsOutcome index.old (lines_of (bytes_given result.source)) (bytes_taken result.sink) index.new) }
+    ensures flushed { OnOk result.done ((0 < calls_to_flush result.sink) × (writes_unflushed result.sink ≡ 0)) }
+    ensures read { (result.done ≡ Err RunFault.Read) ↔ (has_read_failed result.source ≡ true) }
+    ensures write { OnOk result.done (has_write_failed result.sink ≡ false) }
+{
     let mut source = FromReader::new(rt.stdin());
     let mut sink = ToWriter::new(rt.stdout());
-    let done = run(index, &mut source, &mut sink);
-    flushed(done, &mut sink)
+    let ran = run(index, &mut source, &mut sink);
+    let done = flushed(ran, &mut sink);
+    Ends { source, sink, done }
 }
 
 fn main(rt: HostRuntime) -> ExitCode {
@@ -57,9 +82,9 @@ fn main(rt: HostRuntime) -> ExitCode {
     }
     let filler = touch_stack(count, count / 2);
     let mut index: Index<PREFIX_LEN> = Index::new(rt.alloc());
-    let done = match reserve_buffer(rt.alloc(), filler) {
+    let ends = match reserve_buffer(rt.alloc(), filler) {
         Ok(room) => serve(&rt, &mut index, room),
         Err(_) => serve_at_once(&rt, &mut index),
     };
-    report(&rt, done)
+    report(&rt, ends.done)
 }

@@ -3,7 +3,17 @@ ghost use Rattle.std.specs.Prelude.{◌≡◌, OnOk, OnErr};
 ghost use Rattle.std.specs.Process.{exit_status};
 
 use art_engine::RunFault;
+use art_lines::{FromReader, ToWriter};
+use std::io::{Stdin, Stdout};
 use std::process::ExitCode;
+
+/// The two ends of the program when all is done, and which of them failed, if one did.
+#[derive(Drop)]
+pub(crate) struct Ends {
+    pub(crate) source: FromReader<Stdin>,
+    pub(crate) sink: ToWriter<Stdout>,
+    pub(crate) done: Result<(), RunFault>,
+}
 
 /// The bytes of the stack that a line may need, and some more.
 const DEPTH: usize = 48_128;

@@ -45,7 +45,9 @@ pub digits_of_eight : (v : List ℕ) → length v ≡ 8 → Each1 (Fits w8) v �
 unfolding encode_with
 digits_of_eight (a ∷ b ∷ c ∷ d ∷ e ∷ f ∷ g ∷ h ∷ []) long fits =
     let ones = fits.1 in let twos = ones.1 in let threes = twos.1 in let fours = threes.1 in let fives = fours.1 in let sixes = fives.1 in let sevens = sixes.1 in
-    λ i. high_digit a fits.0.fits i ∷ low_digit a i ∷ high_digit b ones.0.fits i ∷ low_digit b i ∷ high_digit c twos.0.fits i ∷ low_digit c i ∷ high_digit d threes.0.fits i ∷ low_digit d i ∷ high_digit e fours.0.fits i ∷ low_digit e i ∷ high_digit f fives.0.fits i ∷ low_digit f i ∷ high_digit g sixes.0.fits i ∷ low_digit g i ∷ high_digit h sevens.0.fits i ∷ low_digit h i ∷ []
+    λ i. high_digit a fits.0.fits i ∷ low_digit a i ∷ high_digit b ones.0.fits i ∷ low_digit b i ∷ high_digit c twos.0.fits i ∷ low_digit c i
+    ∷ high_digit d threes.0.fits i ∷ low_digit d i ∷ high_digit e fours.0.fits i ∷ low_digit e i ∷ high_digit f fives.0.fits i ∷ low_digit f i
+    ∷ high_digit g sixes.0.fits i ∷ low_digit g i ∷ high_digit h sevens.0.fits i ∷ low_digit h i ∷ []
 digits_of_eight v long fits = absurd (omega (arith, long))
 
 pub eights_none : (room value : List ℕ) (at : ℕ) → Puts at at (encode_lower (take 0 value)) room room

@@ -1,5 +1,5 @@
 -- What spells a command is read as that command, and the other way.
-use Rattle.std.proofs.Common.{◌≡◌, ℕ, suc, ℤ, pos, negsuc, ◌+◌, ◌^◌, ◌<◌, List, [], ◌∷◌, length, drop as drop_first, get_or, refl, ap, sym, ◌∙◌, subst, Bool, true, false, cond, arith, Some, None, Option, Ok}
+use Rattle.std.proofs.Common.{◌≡◌, ℕ, suc, ℤ, pos, negsuc, ◌+◌, ◌^◌, ◌<◌, List, [], ◌∷◌, length, drop as drop_first, get_or, refl, ap, sym, ◌∙◌, subst, Bool, true, false, arith, Some, None, Option, Ok}
 use Rattle.std.specs.Prelude.{◌==◌, ◌↔◌, decimal, codes, nat_le, Result, option_map, option_and_then}
 use Rattle.hex.specs.declared.error.FromHexError.{FromHexError}
 use Rattle.std.specs.List.{AllZip}
@@ -10,7 +10,8 @@ use Rattle.std.proofs.lemmas.Fmt.{decimal_is_IsNumeral, decimal_nonempty}
 use Rattle.std.proofs.lemmas.Str.Parse.{digit_at}
 use Rattle.hex.specs.Hex.{decode_of, decode_pairs}
 use Rattle.art_lines.specs.Words.{Word}
-use Rattle.art_lines.proofs.Terms.{name, natural, signed, bytes, Reads, Shape, Key, KeyAndValue, Number, NumberAndValue, TwoNumbers, Tenant, Nothing, put, over, del, get, find, list, span, nput, nget, ndel, nspan, drop, Command, of_tenant, dump, audit, words_of, fields_of, Spells, FieldsFor, shape_of, made_by, called, found_among, all_words, word_in, negated, some_bytes, one_in, two_in, tenant_alone_in, nothing_in, fields_in, command_by, command_in}
+use Rattle.art_lines.proofs.Terms.{name, natural, signed, bytes, Reads, Shape, Key, KeyAndValue, Number, NumberAndValue, TwoNumbers, Tenant, Nothing, put, over, del, get, find, list, span, nput, nget, ndel, nspan, drop, Command, of_tenant, dump, audit, words_of, fields_of, Spells}
+use Rattle.art_lines.proofs.Terms.{FieldsFor, shape_of, made_by, called, found_among, all_words, word_in, negated, some_bytes, one_in, two_in, tenant_alone_in, nothing_in, fields_in, command_by, command_in}
 use Rattle.art_lines.specs.declared.command.word.Word.{Word as Called}
 use Rattle.art_lines.specs.declared.command.word.Word.TheVariants.{LookUp, Change, Whole, Drop}
 use Rattle.art_lines.specs.declared.command.word.LookUp.TheVariants as look_up

@@ -37,12 +37,15 @@ bytes_taken s = s.taken.items
 abbrev pub has_write_failed : {W : Type 0} → ToWriter W → Bool
 has_write_failed s = s.failed
 
--- how often the writer was called to write, and how often to flush
+-- how often the writer was called to write, how often to flush, and how often to write since it was flushed
 abbrev pub calls_to_write : {W : Type 0} → ToWriter W → ℕ
 calls_to_write s = length s.writer.calls.items
 
 abbrev pub calls_to_flush : {W : Type 0} → ToWriter W → ℕ
 calls_to_flush s = length s.writer.flushes.items
+
+abbrev pub writes_unflushed : {W : Type 0} → ToWriter W → ℕ
+writes_unflushed s = length s.writer.unflushed.items
 
 -- the inner sink of a gathering one, what is held back before it, and whether a write to the gathering one failed
 abbrev pub inner_sink : {S : Type 0} {of : sink.Ghosts S} → Buffered S of → S

@@ -1,5 +1,5 @@
 //! A sink that gathers what it takes, so that it leaves in large writes.
-ghost use Rattle.std.specs.Prelude.{◌≡◌, ◌<◌, ◌≤◌, ◌++◌, [], length, take, false, true, IfOk};
+ghost use Rattle.std.specs.Prelude.{◌≡◌, ◌<◌, ◌≤◌, ◌++◌, ◌⊎◌, [], length, take, false, true, IfOk};
 ghost use Rattle.std.specs.List.{between};
 
 use crate::room::put_text;
@@ -20,7 +20,8 @@ const LEAST: usize = 512;
 /// assert_eq!(rt; room.len(), 65_536);
 /// ```
 pub fn reserve_buffer(alloc: Global, filler: u8) -> Result<Vec<u8>, AllocError>
-    ensures { IfOk result (λ room. 0 < length room.items) }
+    ensures some { IfOk result (λ room. 0 < length room.items) }
+    ensures size { IfOk result (λ room. (length room.items ≡ 65536) ⊎ (length room.items ≡ 512)) }
 {
     match vec![in alloc; filler; ROOM] {
         Ok(room) => Ok(room),
@@ -40,6 +41,7 @@ pub struct Buffered<S: Sink> {
     ghost begins: { from ≤ to },
     ghost fits: { to ≤ length room.items },
     ghost has_room: { 0 < length room.items },
+    ghost stopped: { failed ≡ true → S.has_failed sink ≡ true },
 }
 
 impl<S: Sink> Buffered<S> {
@@ -99,6 +101,7 @@ impl<S: Sink> Buffered<S> {
         ensures all { result ≡ true → S.taken (inner_sink self.new) ≡ ⟦<Buffered<S> as Sink>⟧.taken self.old }
         ensures failed { S.has_failed (inner_sink self.new) ≡ true → result ≡ false }
         ensures exact { S.has_failed (inner_sink self.new) ≡ false → result ≡ true }
+        ensures stopped { ⟦<Buffered<S> as Sink>⟧.has_failed self.old ≡ true → result ≡ false }
         ensures sent { S.has_failed (inner_sink self.new) ≡ false → held_back self.new ≡ [] }
     {
         self.write_out();
@@ -159,6 +162,7 @@ fn write_to<S: Sink>(sink: &mut S, bytes: &[u8]) -> usize
     ensures bound { result ≤ length bytes.now }
     ensures output { S.taken sink.new ≡ S.taken sink.old ++ take result bytes.now }
     ensures all { S.has_failed sink.new ≡ false → result ≡ length bytes.now }
+    ensures stays { S.has_failed sink.old ≡ true → S.has_failed sink.new ≡ true }
 {
     let mut at = 0;
     while at < bytes.len() {

@@ -8,24 +8,26 @@ use art_bytes::{Count, History};
 use std::io;
 use std::io::{Read, Write};
 
-/// One that was called so often: a reader to read, a writer to write and to flush.
+/// One that was called so often: a reader to read, a writer to write and to flush, and to write since it was flushed.
 #[derive(Drop)]
 pub(crate) struct Counted<T> {
     inner: T,
     calls: History,
     flushes: History,
+    unflushed: History,
 }
 
 impl<T> Counted<T> {
     /// One that was not called yet.
     pub(crate) fn new(inner: T) -> Self
         ensures inner { result.inner ≡ inner }
-        ensures none { (result.calls.items ≡ []) × (result.flushes.items ≡ []) }
+        ensures none { (result.calls.items ≡ []) × (result.flushes.items ≡ []) × (result.unflushed.items ≡ []) }
     {
         Counted {
             inner,
             calls: History::new(),
             flushes: History::new(),
+            unflushed: History::new(),
         }
     }
 }
@@ -49,8 +51,10 @@ impl<W: Write> Counted<W> {
         ensures bytes { WriteAppends (W.contents self.old.inner) (W.contents self.new.inner) result piece.now }
         ensures counts { self.new.calls.items ≡ self.old.calls.items ++ 1 ∷ [] }
         ensures flushes { self.new.flushes.items ≡ self.old.flushes.items }
+        ensures unflushed { self.new.unflushed.items ≡ self.old.unflushed.items ++ 1 ∷ [] }
     {
         self.calls = self.calls.then_count(&Count { number: 1 });
+        self.unflushed = self.unflushed.then_count(&Count { number: 1 });
         self.inner.write(piece)
     }
 
@@ -59,8 +63,10 @@ impl<W: Write> Counted<W> {
         ensures bytes { Keeps (W.contents self.old.inner) (W.contents self.new.inner) }
         ensures counts { self.new.flushes.items ≡ self.old.flushes.items ++ 1 ∷ [] }
         ensures calls { self.new.calls.items ≡ self.old.calls.items }
+        ensures unflushed { self.new.unflushed.items ≡ [] }
     {
         self.flushes = self.flushes.then_count(&Count { number: 1 });
+        self.unflushed = History::new();
         self.inner.flush()
     }
 }

@@ -89,6 +89,10 @@ impl<R: Read> Source for FromReader<R> {
         ensures once { calls_to_read self.new ≤ calls_to_read self.old + 1 }
         ensures not_again { IsTrue (has_read_failed self.old) ⊎ IsTrue (has_run_out self.old)
             → calls_to_read self.new ≡ calls_to_read self.old }
+
+        // Where it fails first, though more reads may follow, the reader was called.
+        ensures asked { OnErr result (has_read_failed self.old ≡ false → 0 < reads_to_come self.old
+            → calls_to_read self.new ≡ suc (calls_to_read self.old)) }
     {
         if self.failed || self.reads_left == 0 {
             self.failed = true;

@@ -109,7 +109,28 @@ pub fn gather_pair<W: Sink>(
         (take held room.old ++ line_of (pair_words (drop 4 full.now, value.now)))) }
     ensures failed { is_err result ≡ W.has_failed sink.new }
 {
-    let key = key_of(full);
+    gather_key_and_value(sink, room, held, key_of(full), value)
+}
+
+/// Gathers the line of a key and a value, as `gather_pair` does that of a pair under a full key.
+#[inline]
+fn gather_key_and_value<W: Sink>(
+    sink: &mut W,
+    room: &mut [u8],
+    held: usize,
+    key: &[u8],
+    value: &[u8],
+) -> Result<usize, WriteFailed>
+    requires open { W.has_failed sink.old ≡ false }
+    requires held { held < length room.old }
+    requires line { length (line_of (pair_words (key.now, value.now))) ≤ 4097 }
+    ensures fits { IfOk result (λ next. next < length room.new) }
+    ensures taken { IfOk result (λ next. IsPartTaken (W.taken sink.old) (W.taken sink.new) (take next room.new)
+        (take held room.old ++ line_of (pair_words (key.now, value.now)))) }
+    ensures cut { OnErr result (IsCut (W.taken sink.old) (W.taken sink.new)
+        (take held room.old ++ line_of (pair_words (key.now, value.now)))) }
+    ensures failed { is_err result ≡ W.has_failed sink.new }
+{
     let len = length_of_pair(key, value);
     let at = flush_above(sink, room, held, room.len().saturating_sub(len + 1))?;
     if at + len < room.len() {

@@ -1,8 +1,9 @@
 //! A writer as a sink.
 ghost use Rattle.std.specs.Prelude.{◌≡◌, ◌+◌, ◌<◌, ◌≤◌, ◌++◌, [], length, take, is_err, IsTrue, IsErr, IfOk, OnErr};
-ghost use Rattle.std.specs.Prelude.{suc, true, false};
+ghost use Rattle.std.specs.Prelude.{suc, true, false, OnOk};
 ghost use Rattle.std.specs.Io.KnownBytes.{Keeps, WriteAppends};
-ghost use Rattle.art_lines.specs.Ends.{calls_to_flush, calls_to_write, writer_of, bytes_taken, has_write_failed};
+ghost use Rattle.art_lines.specs.Ends.{calls_to_flush, calls_to_write, writes_unflushed, writer_of, bytes_taken};
+ghost use Rattle.art_lines.specs.Ends.{has_write_failed};
 
 use crate::counted::Counted;
 use crate::stream::{Sink, WriteFailed};
@@ -31,7 +32,7 @@ impl<W: Write> ToWriter<W> {
         ensures taken { ⟦<ToWriter<W> as Sink>⟧.taken result ≡ [] }
         ensures failed { ⟦<ToWriter<W> as Sink>⟧.has_failed result ≡ false }
         ensures over { writer_of result ≡ writer }
-        ensures calls { (calls_to_write result ≡ 0) × (calls_to_flush result ≡ 0) }
+        ensures calls { (calls_to_write result ≡ 0) × (calls_to_flush result ≡ 0) × (writes_unflushed result ≡ 0) }
     {
         ToWriter {
             writer: Counted::new(writer),
@@ -54,6 +55,8 @@ impl<W: Write> ToWriter<W> {
         ensures once { has_write_failed self.old ≡ false → calls_to_flush self.new ≡ suc (calls_to_flush self.old) }
         ensures not_again { has_write_failed self.old ≡ true → calls_to_flush self.new ≡ calls_to_flush self.old }
         ensures calls { calls_to_write self.new ≡ calls_to_write self.old }
+        ensures flushed { OnOk result (calls_to_flush self.new ≡ suc (calls_to_flush self.old)) }
+        ensures unflushed { OnOk result (writes_unflushed self.new ≡ 0) }
     {
         if self.failed {
             return Err(WriteFailed);
@@ -90,6 +93,9 @@ impl<W: Write> Sink for ToWriter<W> {
         // It calls the writer once; where a write has failed, not again.
         ensures once { calls_to_write self.new ≤ calls_to_write self.old + 1 }
         ensures not_again { IsTrue (has_write_failed self.old) → calls_to_write self.new ≡ calls_to_write self.old }
+        ensures unflushed { calls_to_write self.old < calls_to_write self.new → 0 < writes_unflushed self.new }
+        ensures asked { OnErr result (has_write_failed self.old ≡ false
+            → calls_to_write self.new ≡ suc (calls_to_write self.old)) }
     {
         if self.failed {
             return Err(WriteFailed);

@@ -30,7 +30,7 @@ pub(crate) fn put_value<const PREFIX_LEN: usize>(
         (key_in_place fields.now) (value_in_place fields.now) (records_of records.new.pairs) }
 {
     let full = fields.full_key();
-    let Ok(place) = records.place(&SliceKey(full)) else {
+    let Ok(place) = records.find_place(&SliceKey(full)) else {
         return Changed::Conflict;
     };
     let Ok(key) = Vec::from_slice(alloc, full) else {
@@ -39,7 +39,7 @@ pub(crate) fn put_value<const PREFIX_LEN: usize>(
     let Ok(value) = Vec::from_slice(alloc, fields.value()) else {
         return Changed::Memory;
     };
-    match records.put_at(place, key, value) {
+    match records.insert_at(place, key, value) {
         Ok(Some(old)) => Changed::Old(old),
         Ok(None) => Changed::New,
         Err(_) => Changed::Memory,

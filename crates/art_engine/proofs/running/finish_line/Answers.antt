@@ -23,7 +23,19 @@ returns-then-is_empty-clause-carried g c = λ start text before none h.
     let empty : held ≡ [] = length_nil held (eqb-true _ _ (sym c.if-is_empty.ensures)) in
     let memory = c.in_ok-execute_parsed.field-0.memory in
     let done : IsLineDone memory c.args.index.now part c.execute_parsed.new.self = done_from memory c.args.index.now c.prefetch.new.self c.execute_parsed.new.self part k.0 k.1 k.2
-    (record { lawful = e.lawful; left = e.left; visits = c.in_ok-execute_parsed.field-0.visits; within = e.visits; short = e.short; own_path = e.own_path; counted = e.counted; visits_ahead = c.parsed-parsed.result.ahead; few = subst (λ n. n ≤ most_ahead (command_of part)) (sym c.parsed-parsed.ensures.ahead) c.next.ensures.few; counted_ahead = e.ahead }) in
+    (record {
+      lawful = e.lawful;
+      left = e.left;
+      visits = c.in_ok-execute_parsed.field-0.visits;
+      within = e.visits;
+      short = e.short;
+      own_path = e.own_path;
+      counted = e.counted;
+      visits_ahead = c.parsed-parsed.result.ahead;
+      few = subst (λ n. n ≤ most_ahead (command_of part))
+          (sym c.parsed-parsed.ensures.ahead) c.next.ensures.few;
+      counted_ahead = e.ahead;
+    }) in
     carried_line start c.args.index.now c.execute_parsed.new.self text part part held held before (g.W.Sink.taken c.args.sink.now) (g.W.Sink.taken c.execute_parsed.new.sink) memory
     h none (whole_in_piece start c.args.index.now text held before (g.W.Sink.taken c.args.sink.now) part part h empty refl)
     done (e.output ∙ ap (λ r. g.W.Sink.taken c.args.sink.now ++ answer memory r part) k.0) empty

@@ -1,4 +1,4 @@
-use Rattle.std.proofs.Common.{◌≡◌, ◌≤◌, ◌-◌, ◌++◌, length, take}
+use Rattle.std.proofs.Common.{◌≡◌, ◌≤◌, ◌-◌, ◌++◌, length, take, true}
 use Rattle.art_lines.proofs.buffered.write_to.Given as goal
 
 -- what is written so far is taken
@@ -6,6 +6,7 @@ abbrev pub invariant-loop-at : goal.invariant-loop-at
 invariant-loop-at g l = record {
   bound : l.at ≤ length l.fn.bytes;
   output : g.S.Sink.taken l.sink ≡ g.S.Sink.taken l.fn.sink ++ take l.at l.fn.bytes;
+  stays : g.S.Sink.has_failed l.fn.sink ≡ true → g.S.Sink.has_failed l.sink ≡ true;
 }
 
 abbrev pub decreases-loop-at : goal.decreases-loop-at

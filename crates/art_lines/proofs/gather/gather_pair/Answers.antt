@@ -1,12 +1,16 @@
-use Rattle.std.proofs.Common.{◌≡◌, arith}
-use Rattle.art_lines.proofs.Cuts.{cut_alone, cut_before, when_err}
+use Rattle.std.proofs.Common.{◌≤◌, length, subst, sym}
+use Rattle.art_lines.proofs.Terms.{line_of, pair_words}
 use Rattle.art_lines.proofs.gather.gather_pair.Goals as goal
 
-pub returns-in_err-at-clause-cut : goal.returns-in_err-at-clause-cut
-returns-in_err-at-clause-cut g c = when_err _ (cut_before _ _ _ _ c.in_err-at.ensures.cut)
+pub gather_key_and_value-requires : goal.gather_key_and_value-requires
+gather_key_and_value-requires g c = record {
+  «open» = c.requires.open;
+  held = c.requires.held;
+  line = subst (λ k. length (line_of (pair_words (k, c.args.value.now))) ≤ 4097) (sym c.key_of.ensures) c.requires.line;
+}
 
-pub returns-in_err-write_pair-clause-cut : goal.returns-in_err-write_pair-clause-cut
-returns-in_err-write_pair-clause-cut g c =
-    let most = c.in_ok-at.ensures.fits in let left = c.saturating_sub.ensures in let full = c.if-at-len.false in
-    let none : c.in_ok-at.at ≡ 0 = omega arith in
-    when_err _ (cut_alone _ _ _ _ _ _ _ none c.in_ok-at.ensures.taken (rw c.key_of-key.ensures at c.in_err-write_pair.ensures.cut))
+pub returns-clause-taken : goal.returns-clause-taken
+returns-clause-taken g c = rw c.key_of.ensures at c.gather_key_and_value.ensures.taken
+
+pub returns-clause-cut : goal.returns-clause-cut
+returns-clause-cut g c = rw c.key_of.ensures at c.gather_key_and_value.ensures.cut

@@ -5,7 +5,7 @@ use Rattle.art_engine.proofs.Terms.{answer, AfterWriteFault, Carried, total}
 use Rattle.art_engine.proofs.LinesAhead.{told_more}
 use Rattle.art_engine.proofs.Carrying.{carried_none, outcome_last}
 use Rattle.art_engine.proofs.CutRuns.{cut_run-last}
-use Rattle.art_engine.proofs.running.run.Goals as goal
+use Rattle.art_engine.proofs.running.run_held.Goals as goal
 
 -- a read of no byte gives nothing
 given_end : (start text old new : List ℕ) (n : ℕ) (buf : List ℕ) → old ≡ start ++ text → new ≡ old ++ take n buf → n ≡ 0 → new ≡ start ++ text
@@ -13,8 +13,8 @@ given_end start text old new n buf e h none = h ∙ ap (λ k. old ++ take k buf)
 
 pub reads-init : goal.reads-init
 reads-init g c = record {
-  carried = ([], sym (append-nil (g.S.Source.given c.args.source.now)), rw c.new-held.ensures (carried_none c.args.index.now (g.W.Sink.taken c.args.sink.now)));
-  used_up = c.new-read_ahead.ensures;
+  carried = ([], sym (append-nil (g.S.Source.given c.args.source.now)), rw c.requires.none_held (carried_none c.args.index.now (g.W.Sink.taken c.args.sink.now)));
+  used_up = c.requires.used_up;
   counted = omega arith;
   source_open = c.requires.source_open;
   source_goes_on = c.requires.source_goes_on;

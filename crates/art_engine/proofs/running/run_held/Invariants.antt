@@ -1,6 +1,6 @@
 use Rattle.std.proofs.Common.{◌≡◌, ℕ, List, [], ◌++◌, false}
 use Rattle.art_engine.proofs.Terms.{Carried, Tells, to_come}
-use Rattle.art_engine.proofs.running.run.Given as goal
+use Rattle.art_engine.proofs.running.run_held.Given as goal
 
 -- what is given so far is carried
 abbrev pub invariant-reads : goal.invariant-reads
