@@ -16,7 +16,7 @@ pub fn block_of<'a>(
 }
 
 /// Gives a block to an owner, and takes from others what it overlaps: how many blocks that were.
-pub fn give<'a>(
+pub fn reassign<'a>(
     blocks: &mut TreeMap<SliceKey<'a>, u32, 16>,
     front: &'a [u8],
     owner: u32,
@@ -37,14 +37,14 @@ pub fn owner_of<'a>(
 
 /// Gives a block to an owner, unless it overlaps another: whether it was given. The place that is found for it is good
 /// until the table changes.
-pub fn give_free<'a>(
+pub fn assign_free<'a>(
     blocks: &mut TreeMap<SliceKey<'a>, u32, 16>,
     front: &'a [u8],
     owner: u32,
 ) -> Result<bool, InsertRefused<SliceKey<'a>, u32>> {
-    match blocks.place(&SliceKey(front)) {
+    match blocks.find_place(&SliceKey(front)) {
         Ok(place) => {
-            blocks.put_at(place, SliceKey(front), owner)?;
+            blocks.insert_at(place, SliceKey(front), owner)?;
             Ok(true)
         }
         Err(_) => Ok(false),
@@ -294,7 +294,7 @@ pub fn forget_rare(
 }
 
 /// Forgets the words that begin with these letters, in both tables or in neither: how many went.
-pub fn forget_behind(
+pub fn forget_under_prefix(
     counts: &mut TreeMap<[u8; 4], u32, 16>,
     others: &mut TreeMap<[u8; 4], u32, 16>,
     letters: &[u8],
@@ -341,7 +341,7 @@ pub fn total(counts: TreeMap<[u8; 4], u32, 16>) -> u32 {
     total
 }
 
-/// Claims a name, and answers whose it is then. A name that is a front of another, or that goes on behind one, has no
+/// Claims a name, and answers whose it is then. A name that is a front of another, or that goes on after one, has no
 /// owner.
 pub fn claim(
     names: &mut TreeMap<Vec<u8>, u32, 16>,

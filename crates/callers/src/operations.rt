@@ -160,7 +160,7 @@ pub fn first_between<'a, K: AsBytes, V, const PREFIX_LEN: usize>(
 }
 
 /// The first key that begins with a prefix.
-pub fn first_behind<'a, K: AsBytes, V, const PREFIX_LEN: usize>(
+pub fn first_under_prefix<'a, K: AsBytes, V, const PREFIX_LEN: usize>(
     arena: &'a NodeArena<K, V, PREFIX_LEN>,
     root: OpaqueNodePtr,
     prefix: &[u8],

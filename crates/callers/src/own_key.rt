@@ -16,7 +16,7 @@ use std::cmp::Ordering;
 use std::hash::{Hash, Hasher};
 use std::marker::Model;
 
-/// Bytes none of which is zero, with a zero behind them, so that no key begins another, and a tag.
+/// Bytes none of which is zero, with a zero after them, so that no key begins another, and a tag.
 #[derive(Drop)]
 pub struct TaggedKey {
     bytes: ZeroEnded,

@@ -1,4 +1,4 @@
-//! The part of a tree behind a prefix: room is made to cut it off, and it is left.
+//! The part of a tree with a prefix: room is made to cut it off, and it is left.
 ghost use Rattle.std.specs.Prelude.{IfSome};
 ghost use Rattle.art_arena.specs.arena.Arena.{SameNodes};
 ghost use Rattle.art_arena.specs.arena.Shapes.{Shape};
@@ -11,7 +11,7 @@ use art_nodes::OpaqueNodePtr;
 use art_operations::{SubtreeDeletePoint, search_for_subtree_delete_point};
 use std::alloc::AllocError;
 
-/// The part behind a prefix.
+/// The part with a prefix.
 pub fn part_of<K: AsBytes, V, const PREFIX_LEN: usize>(
     arena: &NodeArena<K, V, PREFIX_LEN>,
     root: OpaqueNodePtr,
@@ -25,7 +25,7 @@ pub fn part_of<K: AsBytes, V, const PREFIX_LEN: usize>(
     search_for_subtree_delete_point(&mut reader, root, prefix)
 }
 
-/// Makes room for the cut of the part behind a prefix, and leaves it. None where there is no such part.
+/// Makes room for the cut of the part with a prefix, and leaves it. None where there is no such part.
 pub fn leave<K: AsBytes, V, const PREFIX_LEN: usize>(
     arena: &mut NodeArena<K, V, PREFIX_LEN>,
     root: OpaqueNodePtr,

@@ -8,7 +8,7 @@ ghost use Rattle.art_arena.specs.arena.Stores.{StoresBeside, StoresOnly};
 use art_arena::NodeArena;
 use art_bytes::AsBytes;
 use art_nodes::OpaqueNodePtr;
-use art_operations::{put_pair, search_unchecked, take_pair};
+use art_operations::{insert_at, search_unchecked, take_pair};
 
 // Stores a pair as a tree of its own beside another tree, and returns its root.
 fn put_beside<K: AsBytes + Drop, V: Drop>(
@@ -21,7 +21,7 @@ fn put_beside<K: AsBytes + Drop, V: Drop>(
     ensures { IfSome result (λ other. (s : Shape K V) × (t : Shape K V)
         × StoresBeside K.bytes 4 arena.new root (cells 4 t) s × IsSubtree K.bytes 4 (node_at arena.new) other [] t) }
 {
-    match put_pair(arena, None, key, value) {
+    match insert_at(arena, None, key, value) {
         Ok(put) => Some(put.new_root),
         Err(_) => None,
     }

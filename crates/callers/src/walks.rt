@@ -76,7 +76,7 @@ fn run_between(ends: Option<(LeafPtr, LeafPtr)>) -> RawIterator
 }
 
 /// The pairs whose keys begin with a prefix.
-pub fn pairs_behind<'a, K: AsBytes, V>(
+pub fn pairs_under_prefix<'a, K: AsBytes, V>(
     arena: &'a NodeArena<K, V, 4>,
     root: OpaqueNodePtr,
     prefix: &[u8],

@@ -54,7 +54,7 @@ fn line_for(alloc: Global, text: &str) -> Result<Option<String>, AllocError> {
     Ok(Some(line))
 }
 
-/// The bytes of a text as digits, with a zero behind them, so that no seat's digits begin another's.
+/// The bytes of a text as digits, with a zero after them, so that no seat's digits begin another's.
 fn digits_of(alloc: Global, text: &str) -> Result<String, AllocError> {
     let digits = hex::encode(alloc, text.as_bytes())?;
     format!(in alloc; "{digits}00")
@@ -70,16 +70,16 @@ fn answer_lines(rt: &HostRuntime, seats: &mut Seats) -> io::Result<()> {
         }
     }
     println!(rt; "{} seats are taken", count(seats))?;
-    told(save(seats, &mut ToWriter::new(rt.stdout())))
+    io_result(save(seats, &mut ToWriter::new(rt.stdout())))
 }
 
 /// Has the index carry out a line.
 fn answer(rt: &HostRuntime, seats: &mut Seats, line: &[u8]) -> io::Result<()> {
-    told(seats.handle(line, &mut ToWriter::new(rt.stdout())))
+    io_result(seats.handle(line, &mut ToWriter::new(rt.stdout())))
 }
 
 /// What the index says of the output, as an error of the output.
-fn told<T: Drop>(done: Result<T, RunFault>) -> io::Result<()> {
+fn io_result<T: Drop>(done: Result<T, RunFault>) -> io::Result<()> {
     match done {
         Ok(_) => Ok(()),
         Err(_) => Err(io::ErrorKind::Other.into()),

@@ -5,7 +5,7 @@ use Rattle.std.specs.Option.{unwrap_or}
 use Rattle.art_arena.proofs.Common.{bytes_from_same}
 use Rattle.art_operations.proofs.Common.{with_pair_put}
 use Rattle.art_map.proofs.Common.{has_bytes, ended, ended-found, ended-same}
-use Rattle.art_map.proofs.FoundBehind.{found-inserted}
+use Rattle.art_map.proofs.FoundAfter.{found-inserted}
 use Rattle.art_set.specs.Members.{Members}
 use Rattle.use_inverted_index.specs.Notes.{numbers_in, numbers_of}
 

@@ -1,5 +1,5 @@
 //! An inverted index: for each word the numbers of the notes that it stands in. It is a map whose values are sets. A
-//! word has an end mark behind it, a zero, so that no word is a front of another, and `entry` refuses none.
+//! word has an end mark after it, a zero, so that no word is a front of another, and `entry` refuses none.
 #![tactic(auto)]
 
 ghost use Rattle.std.specs.Prelude.{◌≡◌, List, ℕ, bytes_eq, if◌then◌else◌, OnOk, OnErr};
@@ -53,7 +53,7 @@ fn stands_in(index: &Index, word: &ZeroEnded, number: &Number) -> bool
     }
 }
 
-/// A word as a key: its bytes with a zero behind them, unless one of them is a zero.
+/// A word as a key: its bytes with a zero after them, unless one of them is a zero.
 fn word_of(alloc: Global, text: &str) -> Result<Option<ZeroEnded>, AllocError> {
     match ZeroEnded::new(Vec::from_slice(alloc, text.as_bytes())?) {
         Ok(word) => Ok(Some(word)),

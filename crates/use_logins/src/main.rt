@@ -1,5 +1,5 @@
 //! The logins of a service: a token is open from when somebody logs in, is touched each time that it is used, and goes
-//! when it is closed or was not used for too long. The contracts say what is found behind each call, by the map's laws.
+//! when it is closed or was not used for too long. The contracts say what is found after each call, by the map's laws.
 #![tactic(auto)]
 
 ghost use Rattle.std.specs.Prelude.{◌≡◌, Some, None, List, ℕ, bytes_eq, if◌then◌else◌, is_none, is_some};

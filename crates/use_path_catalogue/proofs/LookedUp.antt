@@ -1,4 +1,4 @@
--- What a call answers of the size that was at a path, and what is found behind it: by the map's laws.
+-- What a call answers of the size that was at a path, and what is found after it: by the map's laws.
 use Rattle.std.proofs.Common.{◌≡◌, ℕ, cond, List, Option, None, bytes_eq, ap, ◌∙◌}
 use Rattle.std.specs.Map.{lookup}
 use Rattle.std.specs.Prelude.{Ok, Err, IfOk, OnOk}

@@ -1,5 +1,5 @@
 //! A catalogue of files by their paths. A directory and what stands in it are both entries: each path has an end mark
-//! behind it, a zero, and so no path is a front of another, and `insert` refuses none.
+//! after it, a zero, and so no path is a front of another, and `insert` refuses none.
 #![tactic(auto)]
 
 ghost use Rattle.std.specs.Prelude.{◌≡◌, Some, None, List, ℕ, bytes_eq, if◌then◌else◌, IfOk, OnOk, OnErr};
@@ -44,7 +44,7 @@ fn forget(catalogue: &mut Catalogue, path: &ZeroEnded) -> Result<Option<u64>, Al
     catalogue.remove(path)
 }
 
-/// A path as a key: its bytes with a zero behind them, unless one of them is a zero.
+/// A path as a key: its bytes with a zero after them, unless one of them is a zero.
 fn path_of(alloc: Global, text: &str) -> Result<Option<ZeroEnded>, AllocError> {
     match ZeroEnded::new(Vec::from_slice(alloc, text.as_bytes())?) {
         Ok(path) => Ok(Some(path)),
@@ -54,7 +54,7 @@ fn path_of(alloc: Global, text: &str) -> Result<Option<ZeroEnded>, AllocError> {
 }
 
 /// How a call answers with the size that it found.
-fn told(alloc: Global, size: Option<u64>) -> Result<String, AllocError> {
+fn size_text(alloc: Global, size: Option<u64>) -> Result<String, AllocError> {
     match size {
         Some(size) => format!(in alloc; "{size}"),
         None => format!(in alloc; "no such file"),
@@ -77,8 +77,8 @@ fn answer(alloc: Global, catalogue: &mut Catalogue, line: &str) -> Result<String
             Some(old) => format!(in alloc; "filed, was {old}"),
             None => format!(in alloc; "filed"),
         },
-        ("size", Some(path), None) => told(alloc, size_of(catalogue, &path)),
-        ("forget", Some(path), None) => told(alloc, forget(catalogue, &path)?),
+        ("size", Some(path), None) => size_text(alloc, size_of(catalogue, &path)),
+        ("forget", Some(path), None) => size_text(alloc, forget(catalogue, &path)?),
         _ => format!(in alloc; "not understood"),
     }
 }

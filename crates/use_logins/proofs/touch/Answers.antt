@@ -11,4 +11,4 @@ returns-in-Some-clause-seen c = λ other.
 pub returns-in-Some-clause-many : goal.returns-in-Some-clause-many
 returns-in-Some-clause-many c =
     ap length (c.get_mut.follows.holds c.args.time).0
-    ∙ long-written (λ k. k) (λ k. bytes_eq k c.args.token.now) c.args.time c.args.logins.now.pairs
+    ∙ long-written (λ k. bytes_eq k c.args.token.now) c.args.time c.args.logins.now.pairs

@@ -12,4 +12,4 @@ pub returns : goal.returns
 returns g c =
     let r = c.requires in
     found-part g.K.AsBytes.bytes c.args.prefix.now g.row.PREFIX_LEN c.args.arena.now [] c.args.root c.search_for_subtree_delete_point.result c.search_for_subtree_delete_point.ensures.root
-    (λ s stores. c.search_for_subtree_delete_point.ensures.answer s (subst (λ a. IsSubtree g.K.AsBytes.bytes g.row.PREFIX_LEN (node_at a) c.args.root [] s) (sym c.new-reader.ensures.arena) stores)) r.0 r.1
+    (λ s stores. c.search_for_subtree_delete_point.ensures.value s (subst (λ a. IsSubtree g.K.AsBytes.bytes g.row.PREFIX_LEN (node_at a) c.args.root [] s) (sym c.new-reader.ensures.arena) stores)) r.0 r.1

@@ -3,8 +3,8 @@ use Rattle.art_arena.proofs.Common.{node_at, cells, holds-only, nodes-subtree}
 use Rattle.art_arena.proofs.shapes.KeptTrees.{other-tree}
 use Rattle.callers.proofs.two_trees.put_beside.Goals as goal
 
-pub put_pair-requires : goal.put_pair-requires
-put_pair-requires g c =
+pub insert_at-requires : goal.insert_at-requires
+insert_at-requires g c =
     let r = c.requires in
     (omega arith, ([], cells 4 r.0, (refl, holds-only (node_at c.args.arena.now) (cells 4 r.0) r.1.nodes.holds)))
 
@@ -16,6 +16,6 @@ returns-in-Ok g c =
     let kept = c.in-Ok.ensures.others [] (cells 4 r.0) (refl, alone) in (
       r.0,
       has.0,
-      other-tree g.K.AsBytes.bytes 4 c.args.arena.now c.put_pair.new.arena c.args.root c.in-Ok.put.new_root r.0 has.0 r.1 kept has.1,
-      nodes-subtree g.K.AsBytes.bytes 4 (node_at c.put_pair.new.arena) c.in-Ok.put.new_root has.0 has.1.nodes,
+      other-tree g.K.AsBytes.bytes 4 c.args.arena.now c.insert_at.new.arena c.args.root c.in-Ok.put.new_root r.0 has.0 r.1 kept has.1,
+      nodes-subtree g.K.AsBytes.bytes 4 (node_at c.insert_at.new.arena) c.in-Ok.put.new_root has.0 has.1.nodes,
     )

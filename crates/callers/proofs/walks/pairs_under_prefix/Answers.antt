@@ -2,7 +2,7 @@ use Rattle.std.proofs.Common.{◌∙◌, arith}
 use Rattle.art_arena.proofs.Common.{begins_with}
 use Rattle.art_operations.proofs.Common.{front_convex}
 use Rattle.callers.proofs.TreeRuns.{passing-run, stores}
-use Rattle.callers.proofs.walks.pairs_behind.Goals as goal
+use Rattle.callers.proofs.walks.pairs_under_prefix.Goals as goal
 
 pub new-requires : goal.new-requires
 new-requires g c =

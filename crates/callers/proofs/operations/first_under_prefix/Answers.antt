@@ -2,7 +2,7 @@ use Rattle.std.proofs.Common.{arith}
 use Rattle.art_arena.proofs.Common.{node_at, leaves, begins_with, nodes-subtree}
 use Rattle.art_operations.proofs.Common.{leaf-held}
 use Rattle.callers.proofs.FirstLeaf.{first-passing, key-passes}
-use Rattle.callers.proofs.operations.first_behind.Goals as goal
+use Rattle.callers.proofs.operations.first_under_prefix.Goals as goal
 
 pub as_key_ref-requires : goal.as_key_ref-requires
 as_key_ref-requires g c =
