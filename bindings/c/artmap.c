@@ -74,6 +74,8 @@ const char *artmap_code_text(artmap_code code) {
     artmap_code artmap_##KIND##_reserve(KIND *map, size_t additional) { return KIND##_reserve(map, additional); }         \
     code KIND##_shrink(KIND *);                                                                                           \
     artmap_code artmap_##KIND##_shrink(KIND *map) { return KIND##_shrink(map); }                                          \
+    code KIND##_compact(KIND *);                                                                                          \
+    artmap_code artmap_##KIND##_compact(KIND *map) { return KIND##_compact(map); }                                        \
     code KIND##_clear(KIND *);                                                                                            \
     artmap_code artmap_##KIND##_clear(KIND *map) { return KIND##_clear(map); }                                            \
     code KIND##_freeze(KIND *);                                                                                           \

@@ -267,11 +267,18 @@ artmap_code artmap_words_reserve(artmap_words *map, size_t additional);
  * ARTMAP_DONE. */
 artmap_code artmap_words_shrink(artmap_words *map);
 
+/* Makes all nodes anew in the order of the keys, and gives memory back as artmap_words_shrink does. A walk then finds each
+ * pair beside the one before it: where the keys came in random order it costs a fraction of what it did. Meanwhile there is
+ * memory for the old nodes and the new ones.
+ * ARTMAP_DONE: always where the map is empty; ARTMAP_NO_MEMORY: the map is as it was. */
+artmap_code artmap_words_compact(artmap_words *map);
+
 /* Takes all pairs out, and frees their memory.
  * ARTMAP_DONE. */
 artmap_code artmap_words_clear(artmap_words *map);
 
-/* Freezes the map: no call changes it from then on, and all calls that read serve as before. A frozen map stays so.
+/* Freezes the map: no call changes it from then on, and all calls that read serve as before. A frozen map stays so. First
+ * the nodes are put in order, as by artmap_words_compact, where there is memory for that.
  * ARTMAP_DONE; ARTMAP_NO_MEMORY: it is not frozen. */
 artmap_code artmap_words_freeze(artmap_words *map);
 
@@ -360,6 +367,7 @@ artmap_code artmap_bytes_split_off(artmap_bytes *map, const void *key, size_t ke
 artmap_code artmap_bytes_append(artmap_bytes *map, artmap_bytes *other);
 artmap_code artmap_bytes_reserve(artmap_bytes *map, size_t additional);
 artmap_code artmap_bytes_shrink(artmap_bytes *map);
+artmap_code artmap_bytes_compact(artmap_bytes *map);
 artmap_code artmap_bytes_clear(artmap_bytes *map);
 artmap_code artmap_bytes_freeze(artmap_bytes *map);
 artmap_code artmap_bytes_share(artmap_bytes *map, artmap_bytes *to);

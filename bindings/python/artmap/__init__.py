@@ -13,6 +13,7 @@ The calls of Art, which has all those of a dict, too:
     remove_prefix(prefix)                   takes these out, and returns how many
     peekitem(index=-1)  popitem(*, index=-1)
     load(pairs)                             puts in pairs whose keys ascend, many at a time
+    compact()                               puts the nodes in the order of the keys: a walk over all is faster then
 
 ArtSet has the calls of a set, and these with keys in the place of pairs.
 
@@ -36,7 +37,7 @@ last: what is put in ahead of it is told, what is taken out ahead is not, and no
 the moment when it is told. So a loop that puts in keys ahead of itself doesn't end by itself.
 
 Any thread may call a map: each call is one, and waits for no lock but Python's own. A call may also come from a
-finalizer, from a signal handler or behind a fork.
+finalizer, from a signal handler or after a fork.
 """
 from collections.abc import ItemsView, KeysView, MutableMapping, ValuesView
 

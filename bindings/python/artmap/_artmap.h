@@ -124,6 +124,7 @@ int store_take_end(Art *map, bool is_last, PyObject **key, PyObject **value);
 int store_find(Art *map, Key *query, PyObject **key, PyObject **value);
 artmap_code store_take_prefix(Art *map, const Key *prefix, PyObject ***gone, size_t *count);
 bool store_clone(Art *from, Art *to);
+bool store_compact(Art *map);
 Store store_detach(Art *map);
 void store_drop(Store store);
 void let_go(PyObject **gone, size_t count);

@@ -71,7 +71,7 @@ static Place text_key(PyObject *it, bool is_prefix, Key *key) {
     uint8_t *to = key->room;
     if (count > 64) {
         if (count > PY_SSIZE_T_MAX / 8) return PyErr_NoMemory(), FAILED;
-        /* (four bytes for each, and the code points behind them) */
+        /* (four bytes for each, and the code points after them) */
         to = key->block = PyMem_Malloc((size_t)count * 8 + 8);
         if (!to) return PyErr_NoMemory(), FAILED;
         chars = (Py_UCS4 *)(void *)(to + (size_t)count * 4 + 4);

@@ -153,6 +153,10 @@ class ArtSet(MutableSet):
         """Puts in keys that ascend, many at a time, as Art.load does."""
         self._map.load((key, None) for key in keys)
 
+    def compact(self):
+        """Puts the nodes in the order of the keys, as Art.compact does."""
+        self._map.compact()
+
     # As a set.
 
     def _from_iterable(self, keys):  # (what MutableSet makes its results by)

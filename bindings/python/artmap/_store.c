@@ -35,7 +35,7 @@ static void free_tree(Store *store) {
 /* Counts the bytes of a tree that changed. */
 static void measure(Store *store) { store->bytes += memory_taken(); }
 
-/* Behind a removal: where nothing is left, the memory of what was is given back. */
+/* After a removal: where nothing is left, the memory of what was is given back. */
 static void tidy(Store *store) {
     measure(store);
     if (store->places <= SOME || artmap_words_len(&store->tree)) return;
@@ -297,6 +297,19 @@ bool store_clone(Art *from, Art *to) {
     }
     END_ALONE
     return is_made;
+}
+
+/* Puts the nodes of the tree in the order of the keys, and gives memory back that the map does not need. Words stay. */
+bool store_compact(Art *map) {
+    bool is_done;
+    ALONE(map)
+    Store *store = &map->store;
+    is_done = !store->tree.is_made || artmap_words_compact(&store->tree) == ARTMAP_DONE;
+    PyObject **slots = is_done && store->used ? PyMem_Realloc(store->slots, store->used * sizeof(PyObject *)) : NULL;
+    if (slots) store->slots = slots, store->places = store->used;
+    measure(store);
+    END_ALONE
+    return is_done;
 }
 
 /* Empties a map. What it had is the caller's. */

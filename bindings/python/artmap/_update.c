@@ -177,7 +177,7 @@ static int add(Bulk *bulk, PyObject *it, PyObject *value) {
     return status;
 }
 
-/* Puts in what is kept, also where what came behind it failed: then that is raised, if this is not. */
+/* Puts in what is kept, also where what came after it failed: then that is raised, if this is not. */
 static int bulk_end(Bulk *bulk, int status) {
     PyObject *type = NULL, *why = NULL, *trace = NULL;
     if (status) PyErr_Fetch(&type, &why, &trace);

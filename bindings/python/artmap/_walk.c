@@ -19,7 +19,7 @@ struct Walk {
     size_t at, count;     /* of the pairs that were copied, how many are told */
     const uint8_t *next;  /* the key of the next one */
     size_t told;          /* in all */
-    bool is_all, is_rest; /* whether the span is all pairs; whether no pair is left behind those that were copied */
+    bool is_all, is_rest; /* whether the span is all pairs; whether no pair is left after those that were copied */
     uint8_t *room;
     artmap_words_pair *pairs;
     size_t room_len, places, wanted;
@@ -62,7 +62,7 @@ PyObject *walk_all(Art *map, Kind kind, bool back) {
     return walk_new(map, kind, &all);
 }
 
-/* Goes on behind the pair that was told last, if one was. */
+/* Goes on after the pair that was told last, if one was. */
 static bool step_on(Walk *it) {
     if (!it->at) return true;
     size_t len = it->pairs[it->at - 1].key_len;

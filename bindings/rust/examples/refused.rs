@@ -184,6 +184,7 @@ fn call(map: &mut Map, which: usize, given: &mut Given) -> Result<usize, AllocEr
             Ok(entry) => entry.try_insert_entry(value).map(|it| it.get().len()),
             Err(_) => exit(3),
         }),
+        30 => map.try_compact().map(|()| map.len()),
         _ => exit(3),
     }
 }

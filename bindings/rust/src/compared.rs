@@ -61,14 +61,14 @@
 //! | `prefix_entry`, `PrefixEntry`, `InnerOccupiedEntry` | the same; a leaf is `Occupied`, and `Inner` is beside it; [`try_prefix_entry`](crate::ArtMap::try_prefix_entry) |
 //! | `Clone`, `Debug`, `Default`, `Eq`, `Ord`, `Hash`, `Index`, `Extend`, `FromIterator`, `From` of arrays | the same |
 //! | `Send` and `Sync` | `Send`; for readers a [`FrozenMap`](crate::FrozenMap) |
-//! | - | [`remove_prefix`](crate::ArtMap::remove_prefix), [`iter_bytes`](crate::ArtMap::iter_bytes), [`freeze`](crate::ArtMap::freeze) |
+//! | - | [`remove_prefix`](crate::ArtMap::remove_prefix), [`iter_bytes`](crate::ArtMap::iter_bytes), [`freeze`](crate::ArtMap::freeze), [`compact`](crate::ArtMap::compact) |
 //!
 //! # blart's `TreeSet`
 //!
 //! | There | Here |
 //! |---|---|
 //! | its look-ups, insertions, removals, walks, merges and operators | as those of `BTreeSet` above |
-//! | - | `prefix`, `prefix_get`, `remove_prefix`, these with `try_`, and `freeze` |
+//! | - | `prefix`, `prefix_get`, `remove_prefix`, `compact`, these with `try_`, and `freeze` |
 //!
 //! # The rest of blart
 //!

@@ -11,7 +11,7 @@
 //!    written is initialised.
 //! 4. What a call writes is `&mut` or a local, and so overlaps nothing else: the handles by their cells, one room, locals.
 //! 5. `malloc`, `realloc` and `free` are those of the C library that Rust's std stands on.
-//! 6. A call in a handler of signals or behind a fork needs `unsafe` of the user's own.
+//! 6. A call in a handler of signals or after a fork needs `unsafe` of the user's own.
 //!
 //! At each block stands the clause of `art_c` that says what its call answers (`crates/art_c`).
 use crate::Key;
@@ -74,6 +74,7 @@ unsafe extern "C" {
     fn artmap_words_clone(map: *mut Handle, to: *mut Handle) -> u32;
     fn artmap_words_split_off(map: *mut Handle, key: *const u8, key_len: usize, to: *mut Handle) -> u32;
     fn artmap_words_shrink(map: *mut Handle) -> u32;
+    fn artmap_words_compact(map: *mut Handle) -> u32;
     fn artmap_words_freeze(map: *mut Handle) -> u32;
     fn artmap_words_share(map: *mut Handle, to: *mut Handle) -> u32;
     fn artmap_words_thaw(map: *mut Handle) -> u32;
@@ -175,7 +176,7 @@ impl Words {
 
     /// Frees the map: there are no pairs from then on.
     pub(crate) fn clear(&mut self) {
-        // SAFETY: rules 1, 2. Clause of `artmap_words_free`: store_behind.
+        // SAFETY: rules 1, 2. Clause of `artmap_words_free`: store_of.
         unsafe { artmap_words_free(self.handle.get()) }
     }
 
@@ -224,7 +225,7 @@ impl Words {
     pub(crate) fn find(&self, query: &[u8]) -> Option<u64> {
         let (mut len, mut word) = (0, 0);
         let at = self.handle.get();
-        // SAFETY: rules 1 to 4; both are locals. Clause of `artmap_words_find`: IsFrontRead.
+        // SAFETY: rules 1 to 4; both are locals. Clause of `artmap_words_find`: IsLenWordRead.
         match unsafe { artmap_words_find(at, query.as_ptr(), query.len(), &raw mut len, &raw mut word) } {
             DONE => Some(word),
             NOT_FOUND | NO_MAP => None,
@@ -385,6 +386,16 @@ impl Words {
         }
     }
 
+    /// Makes all nodes anew in the order of the keys, and gives memory back that they don't need.
+    pub(crate) fn compact(&mut self) -> Result<(), AllocError> {
+        // SAFETY: rules 1, 2. Clause of `artmap_words_compact`: IsCompacted.
+        match unsafe { artmap_words_compact(self.handle.get()) } {
+            DONE | NO_MAP => Ok(()),
+            NO_MEMORY => Err(AllocError),
+            code => not_told(code),
+        }
+    }
+
     /// Freezes the map: from then on [`share`](Self::share) makes other handles on it.
     pub(crate) fn freeze(&mut self) -> Result<(), AllocError> {
         self.make()?;
@@ -455,7 +466,7 @@ impl<'a, K: Key, V, L: Limits> WalkMut<'a, K, V, L> {
         let index = or_end(self.walk.next_sure(self.words, way, |_| last.expect("a key was lent")))?;
         assert!(index < self.len, "libartmap.a is not that of this crate: it told the word {index}");
         // SAFETY: rules 1 to 4 are kept by `Words`. Clause of `artmap_words_walk_words`: IsWordsWalked: the words are those of
-        // pairs that ascend (or descend), all behind the key given. `next_sure` goes on behind the very pair that was lent
+        // pairs that ascend (or descend), all after the key given. `next_sure` goes on after the very pair that was lent
         // last at this end, since `artmap_words_get` (IsWordRead) told its word for the bytes of that key; and it ends at the
         // word that the other end lent last. So no pair is met twice. No two pairs of a map have one word, since a word is
         // put in as that of a free slot. So this slot is lent once while `'a` lasts, and the slots are lent to `self` alone.

@@ -42,9 +42,10 @@ pub struct FrozenMap<K, V> {
     slab: Arc<Slab<K, V>>,
 }
 
-impl<K, V> ArtMap<K, V> {
-    /// Makes it a map that nobody changes, for readers in many threads. It has no form with `try_`, since std's `Arc` has no
-    /// such one.
+impl<K: Key, V> ArtMap<K, V> {
+    /// Makes it a map that nobody changes, for readers in many threads. Its pairs and nodes are put in the order of the keys
+    /// first, as by [`compact`](Self::compact), where there is memory for that. It has no form with `try_`, since std's `Arc`
+    /// has no such one.
     ///
     /// ```
     /// let frozen = artmap::ArtMap::from([(1, 'a')]).freeze();
@@ -52,6 +53,7 @@ impl<K, V> ArtMap<K, V> {
     /// ```
     #[must_use]
     pub fn freeze(mut self) -> FrozenMap<K, V> {
+        self.lay_out();
         or_end(self.words.freeze());
         FrozenMap { words: self.words, slab: Arc::new(self.slab) }
     }
@@ -380,7 +382,7 @@ impl<K, V> Clone for FrozenMap<K, V> {
     }
 }
 
-impl<K, V> From<ArtMap<K, V>> for FrozenMap<K, V> {
+impl<K: Key, V> From<ArtMap<K, V>> for FrozenMap<K, V> {
     fn from(map: ArtMap<K, V>) -> Self {
         map.freeze()
     }

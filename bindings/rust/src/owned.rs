@@ -51,7 +51,7 @@ impl<K: Key, V> IntoIter<K, V> {
         }
         let ArtMap { words, slab } = &mut self.map;
         let index = or_end(self.walk.next(words, way, |index| slab.pair(index).0))?;
-        // (behind the pair the walk finds no way once its key has gone)
+        // (after the pair the walk finds no way once its key has gone)
         or_end(self.walk.settle(words, way, |index| slab.pair(index).0));
         Some(slab.take(index))
     }

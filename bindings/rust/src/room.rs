@@ -24,7 +24,7 @@ impl Room {
         Ok(room)
     }
 
-    /// A room with fewer than 120 bytes, and a zero behind them if that is wanted.
+    /// A room with fewer than 120 bytes, and a zero after them if that is wanted.
     #[inline]
     pub(crate) fn small(bytes: &[u8], has_zero: bool) -> Room {
         let mut room = Room::new();

@@ -101,6 +101,28 @@ impl<K: Key> ArtSet<K> {
         self.map.shrink_to_fit();
     }
 
+    /// As [`ArtMap::compact`].
+    ///
+    /// ```
+    /// artmap::ArtSet::from([2, 1]).compact();
+    /// ```
+    pub fn compact(&mut self) {
+        self.map.compact();
+    }
+
+    /// As [`compact`](Self::compact).
+    ///
+    /// ```
+    /// assert_eq!(artmap::ArtSet::from([2, 1]).try_compact(), Ok(()));
+    /// ```
+    ///
+    /// # Errors
+    ///
+    /// Where memory lacks. The set is as it was.
+    pub fn try_compact(&mut self) -> Result<(), AllocError> {
+        self.map.try_compact()
+    }
+
     /// Whether a key is there.
     ///
     /// ```

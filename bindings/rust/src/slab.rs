@@ -100,7 +100,7 @@ impl<K, V> Slab<K, V> {
         }
     }
 
-    /// Puts a pair behind all slots. Its key need not be the greatest.
+    /// Puts a pair after all slots. Its key need not be the greatest.
     pub(crate) fn push(&mut self, key: K, value: V) {
         self.is_in_order = false;
         self.len += 1;
@@ -132,7 +132,7 @@ impl<K, V> Slab<K, V> {
         self.slots.len()
     }
 
-    /// Makes room for so many more pairs behind all slots.
+    /// Makes room for so many more pairs after all slots.
     pub(crate) fn reserve_behind(&mut self, additional: usize) -> Result<(), AllocError> {
         self.slots.try_reserve(additional)?;
         Ok(())
@@ -168,11 +168,16 @@ impl<K, V> Slab<K, V> {
         self.is_in_order.then_some(&self.slots)
     }
 
+    /// Whether the slots are in order, and there is no room after them.
+    pub(crate) fn is_tight(&self) -> bool {
+        self.is_in_order && self.slots.capacity() == self.slots.len()
+    }
+
     pub(crate) fn slots_mut(&mut self) -> &mut [Slot<K, V>] {
         &mut self.slots
     }
 
-    /// Gives back the slots behind the last pair, and the room behind those.
+    /// Gives back the slots after the last pair, and the room after those.
     pub(crate) fn shrink(&mut self) {
         while let Some(Slot::Free(_)) = self.slots.last() {
             self.slots.pop();
@@ -253,5 +258,18 @@ mod tests {
         }
         slab.settle();
         assert_eq!((slab.len(), slab.next_index()), (0, Ok(0)));
+    }
+
+    #[test]
+    fn a_compact_lays_the_slots_out() {
+        let mut map = crate::ArtMap::from([(3, 'c'), (1, 'a'), (2, 'b')]);
+        map.remove(&2);
+        assert!(map.slab.in_order().is_none());
+        map.compact();
+        assert!(map.slab.is_tight() && map.values().eq(&['a', 'c']));
+        map.insert(0, 'z');
+        assert!(map.slab.in_order().is_none());
+        map.lay_out();
+        assert!(map.slab.in_order().is_some() && map.values().eq(&['z', 'a', 'c']));
     }
 }

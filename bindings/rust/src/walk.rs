@@ -169,7 +169,7 @@ impl<L: Limits> Walk<L> {
         Ok(self.given(way).ok().flatten())
     }
 
-    /// As `next`, and it is sure that the walk goes on behind the pair that this end gave last: so no pair is met twice.
+    /// As `next`, and it is sure that the walk goes on after the pair that this end gave last: so no pair is met twice.
     pub(crate) fn next_sure<'k, K: Key + 'k>(
         &mut self,
         words: &Words,
@@ -239,7 +239,7 @@ impl<L: Limits> Walk<L> {
                     assert!(!is_sure || words.get_ended(front) == Some(last), "{CHANGED}");
                     let places = batch.places();
                     let told = words.walk(way, From::After(front), to, places);
-                    // (behind the bytes without their end comes that key itself)
+                    // (after the bytes without their end comes that key itself)
                     given = usize::from(told.0 > 0 && places[0] == last);
                     told
                 } else {

@@ -243,6 +243,7 @@ impl<K: Key + Ord + Clone + Debug> Both<K> {
                 let back = walk.next_back().map(|it| it.0);
                 assert_eq!(back.as_ref(), self.model.keys().skip(most).last());
             }
+            3 if self.random.below(2) == 0 => self.map.compact(),
             3 => self.map.shrink_to_fit(),
             4 if self.random.below(20) == 0 => {
                 self.map.clear();
@@ -431,6 +432,7 @@ fn pairs_in_order() {
                     map.retain(|key, _| key % 3 != 0);
                     model.retain(|key, _| key % 3 != 0);
                 }
+                9 if round % 2 == 0 => map.compact(),
                 9 => map.shrink_to_fit(),
                 10 => map = map.clone().freeze().thaw().unwrap(),
                 _ => assert_eq!(*map.entry(key).or_insert(6), *model.entry(key).or_insert(6)),

@@ -195,7 +195,7 @@ fn what_is_borrowed_has_the_same_bytes() {
     }
 }
 
-/// A walk goes on behind long texts as they lie.
+/// A walk goes on after long texts as they lie.
 #[test]
 fn long_texts_are_walked() {
     let all: Vec<String> =

@@ -28,6 +28,7 @@ fn an_empty_map_has_nothing() {
     assert_eq!((map.split_off(&0).len(), map.extract_if(.., |_, _| true).count()), (0, 0));
     map.clear();
     map.shrink_to_fit();
+    map.compact();
     map.retain(|_, _| false);
     assert_eq!(map, ArtMap::default());
     assert_eq!(format!("{map:?}"), "{}");

@@ -3,7 +3,7 @@ use Rattle.std.proofs.Common.{◌≡◌, ◌==◌, ℕ, Bool, true, length, List
 use Rattle.std.proofs.lemmas.List.{append-nil}
 use Rattle.art_arena.proofs.Common.{key_of, AscendsByKey}
 use Rattle.art_map.proofs.Common.{first_item, with_pairs_put}
-use Rattle.art_map.proofs.Puts.{put-behind, put-more}
+use Rattle.art_map.proofs.Puts.{put-after, put-more}
 use Rattle.art_c.specs.Calls.{IsPutRefused, whole}
 use Rattle.art_c.specs.Handles.{Pairs}
 use Rattle.art_c.specs.Joins.{ArePairsMoved, MoveEnds, MovesFirst}
@@ -38,7 +38,7 @@ module _ {V : Type 0} where
   all-moved all old none up = (
     all,
     sym (append-nil all) ∙ ap (λ ps. all ++ ps) (sym none),
-    sym (put-behind whole [] all up) ∙ ap (with_pairs_put whole all) (sym none),
+    sym (put-after whole [] all up) ∙ ap (with_pairs_put whole all) (sym none),
     ends old none,
   )
     where

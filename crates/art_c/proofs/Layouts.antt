@@ -1,11 +1,11 @@
--- Pairs in one buffer, and one more behind them.
+-- Pairs in one buffer, and one more after them.
 use Rattle.std.proofs.Common.{◌≡◌, ℕ, ◌+◌, ◌<◌, suc, List, [], ◌∷◌, ◌++◌, length, take, drop, get_or, sym, ap, ap₂, ◌∙◌, append_assoc, arith}
 use Rattle.std.proofs.Math.ListN.{set}
 use Rattle.std.proofs.Math.Seq.{drop-append_seam, drop-cons, set-append_seam, take-append_seam}
 use Rattle.std.proofs.lemmas.List.{append-nil, drop-drop, length-append, map-append}
 use Rattle.art_c.specs.Handles.{Pairs}
 use Rattle.art_c.specs.Copies.{written}
-use Rattle.art_c.specs.Layouts.{end_to_end, told_items}
+use Rattle.art_c.specs.Layouts.{end_to_end, items_of_pairs}
 
 -- a room whose start is written, and then more
 module _ {X : Type 0} where
@@ -39,5 +39,5 @@ module _ {V : Type 0} where
       ∙ sym (append_assoc q.0 (text q.1 ++ end_to_end text ps) (p.0 ++ text p.1))
 
   pub items-more : {I : Type 0} (item : List ℕ → V → I) (ps : Pairs V) (p : List ℕ × V)
-      → told_items item (ps ++ p ∷ []) ≡ told_items item ps ++ item p.0 p.1 ∷ []
+      → items_of_pairs item (ps ++ p ∷ []) ≡ items_of_pairs item ps ++ item p.0 p.1 ∷ []
   items-more item ps p = map-append (λ q. item q.0 q.1) ps (p ∷ [])

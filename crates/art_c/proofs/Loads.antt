@@ -7,7 +7,7 @@ use Rattle.art_map.proofs.Common.{with_pairs_put}
 use Rattle.art_map.proofs.Puts.{put-more}
 use Rattle.art_c.specs.Calls.{IsPutRefused, whole}
 use Rattle.art_c.specs.Handles.{Pairs}
-use Rattle.art_c.specs.Layouts.{end_to_end, told_items}
+use Rattle.art_c.specs.Layouts.{end_to_end, items_of_pairs}
 use Rattle.art_c.specs.Loads.{is_above, IsLoaded, IsRefused, last_key, LoadEnds, Rises}
 use Rattle.art_c.specs.declared.code.Code.{Code}
 use Rattle.art_c.specs.declared.code.Code.TheVariants.{Done, Replaced, NotFound, Conflict, NoRoom, NoMemory, NoMap, NotAbove, CutOff, More, Frozen, Shared}
@@ -57,7 +57,7 @@ module _ {V I : Type 0} (text : V → List ℕ) (item : List ℕ → V → I) (b
   pub record Taken (rest : List ℕ) (left : List I) (at : ℕ) (before : Option (List ℕ)) (now : Pairs V) : Type 0 where
     pub taken : Pairs V
     pub bytes_are : bytes ≡ end_to_end text taken ++ rest
-    pub items_are : items ≡ told_items item taken ++ left
+    pub items_are : items ≡ items_of_pairs item taken ++ left
     pub count : at ≡ length taken
     pub rises : Rises taken
     pub key : before ≡ last_key taken
@@ -65,18 +65,18 @@ module _ {V I : Type 0} (text : V → List ℕ) (item : List ℕ → V → I) (b
 
   -- one more is taken
   pub one-more : {rest : List ℕ} {left : List I} {at : ℕ} {before : Option (List ℕ)} {now : Pairs V} (t : Taken rest left at before now)
-      (is : I) (behind : List I) (key : List ℕ) (value : V) (others : List ℕ) (next : Pairs V) → left ≡ is ∷ behind
+      (is : I) (following : List I) (key : List ℕ) (value : V) (others : List ℕ) (next : Pairs V) → left ≡ is ∷ following
       → rest ≡ key ++ (text value ++ others) → is ≡ item key value → IsTrue (is_above before key)
       → next ≡ with_pair_put whole key value now
-      → Taken others behind (at + 1) (Some key) next
-  one-more {rest} {left} {at} {before} {now} t is behind key value others next left_is begins told above put =
+      → Taken others following (at + 1) (Some key) next
+  one-more {rest} {left} {at} {before} {now} t is following key value others next left_is begins told above put =
       let p : List ℕ × V = (key, value) in
       record {
         taken = t.taken ++ p ∷ [];
         bytes_are = t.bytes_are ∙ ap (λ z. end_to_end text t.taken ++ z) (begins ∙ sym (append_assoc key (text value) others))
             ∙ sym (append_assoc (end_to_end text t.taken) (key ++ text value) others) ∙ ap (λ z. z ++ others) (sym (bytes-more text t.taken p));
-        items_are = t.items_are ∙ ap (λ z. told_items item t.taken ++ z) (left_is ∙ ap (λ l. l ∷ behind) told)
-            ∙ sym (append_assoc (told_items item t.taken) (item key value ∷ []) behind) ∙ ap (λ z. z ++ behind) (sym (items-more item t.taken p));
+        items_are = t.items_are ∙ ap (λ z. items_of_pairs item t.taken ++ z) (left_is ∙ ap (λ l. l ∷ following) told)
+            ∙ sym (append_assoc (items_of_pairs item t.taken) (item key value ∷ []) following) ∙ ap (λ z. z ++ following) (sym (items-more item t.taken p));
         count = omega (arith, t.count, length-append t.taken (p ∷ []));
         rises = rises-more t.taken p t.rises (subst (λ k. IsTrue (is_above k key)) t.key above);
         key = sym (key-more t.taken p);

@@ -60,12 +60,12 @@ module _ (prefix : List ℕ) where
   abbrev pub has-it : List ℕ × ℕ → Bool
   has-it p = begins_with prefix p.0
 
-  none-behind : (p : List ℕ × ℕ) (ps : Pairs ℕ) → is_le (bytes_cmp prefix p.0) ≡ true → has-it p ≡ false
+  none-after : (p : List ℕ × ℕ) (ps : Pairs ℕ) → is_le (bytes_cmp prefix p.0) ≡ true → has-it p ≡ false
       → AllByRecursion (λ (q : List ℕ × ℕ). IsBefore p.0 q.0) ps → with_front (key_of whole) prefix ps ≡ []
-  none-behind p [] low out up = refl
-  none-behind p (q ∷ qs) low out up =
+  none-after p [] low out up = refl
+  none-after p (q ∷ qs) low out up =
       let no : has-it q ≡ false = none-above p.0 q.0 low out up.0 (has-it q) refl in
-      rw no (none-behind p qs low out up.1)
+      rw no (none-after p qs low out up.1)
 
   -- from the prefix on, the first keys are those that begin with it
   pub first-have : (ps : Pairs ℕ) → AscendsByKey (key_of whole) ps
@@ -77,7 +77,7 @@ module _ (prefix : List ℕ) where
           → while_so has-it (pairs_between whole (Included prefix) Unbounded ps) ≡ with_front (key_of whole) prefix ps
           → while_so has-it (pairs_between whole (Included prefix) Unbounded (p ∷ ps)) ≡ with_front (key_of whole) prefix (p ∷ ps)
       step true low true has rest = rw (low, has) (ap (λ qs. p ∷ qs) rest)
-      step true low false out rest = rw (low, out) (sym (none-behind p ps low out up.0))
+      step true low false out rest = rw (low, out) (sym (none-after p ps low out up.0))
       step false high true has rest = let low = not-below prefix p.0 has in absurd (cc)
       step false high false out rest = rw (high, out) rest
 

@@ -8,9 +8,9 @@ use Rattle.art_arena.specs.declared.ends.End.TheVariants.{First, Last}
 use Rattle.art_map.proofs.Common.{from_end, first_item}
 use Rattle.art_c.specs.Copies.{written}
 use Rattle.art_c.specs.Handles.{Pairs}
-use Rattle.art_c.specs.Layouts.{end_to_end, told_items}
+use Rattle.art_c.specs.Layouts.{end_to_end, items_of_pairs}
 use Rattle.art_c.specs.Spans.{Reach, goes_to, met_of, while_so}
-use Rattle.art_c.specs.Walks.{AreTaken, AreWordsTaken, Fit, NoneElseFits, ManyRooms, many_rooms, told_words}
+use Rattle.art_c.specs.Walks.{AreTaken, AreWordsTaken, Fit, NoneElseFits, ManyRooms, many_rooms, words_of_pairs}
 use Rattle.art_c.proofs.Layouts.{bytes-more, items-more, set-more, written-more}
 
 length-written : {X : Type 0} (a r : List X) → length a ≤ length r → length (written a r) ≡ length r
@@ -25,12 +25,12 @@ module _ {V I : Type 0} (text : V → List ℕ) (item : List ℕ → V → I) wh
       pub at_is : at ≡ length (end_to_end text given)
       pub count_is : count ≡ length given
       pub bytes_are : bytes ≡ written (end_to_end text given) x.bytes
-      pub items_are : items ≡ written (told_items item given) x.items
+      pub items_are : items ≡ written (items_of_pairs item given) x.items
       pub fit : Fit text item given x
 
   module _ (all : Pairs V) (x : ManyRooms I) {left : Pairs V} {bytes : List ℕ} {items : List I} {at count : ℕ}
       (c : CopiedOut all x left bytes items at count) (p : List ℕ × V) where
-    -- how long the pairs are with this one behind them
+    -- how long the pairs are with this one after them
     long : length (end_to_end text (c.given ++ p ∷ [])) ≡ length (end_to_end text c.given) + (length p.0 + length (text p.1))
     long = ap length (bytes-more text c.given p) ∙ length-append (end_to_end text c.given) (p.0 ++ text p.1)
         ∙ ap (λ n. length (end_to_end text c.given) + n) (length-append p.0 (text p.1))
@@ -40,8 +40,8 @@ module _ {V I : Type 0} (text : V → List ℕ) (item : List ℕ → V → I) wh
 
     long-items : length items ≡ length x.items
     long-items =
-        let is : length (told_items item c.given) ≡ length c.given = length-map c.given (λ q. item q.0 q.1) in
-        ap length c.items_are ∙ length-written (told_items item c.given) x.items (omega (arith, c.fit.1))
+        let is : length (items_of_pairs item c.given) ≡ length c.given = length-map c.given (λ q. item q.0 q.1) in
+        ap length c.items_are ∙ length-written (items_of_pairs item c.given) x.items (omega (arith, c.fit.1))
 
     -- it does not go in
     pub no-bytes : length bytes - at < length p.0 + length (text p.1) → Fit text item (c.given ++ p ∷ []) x → ⊥
@@ -56,8 +56,8 @@ module _ {V I : Type 0} (text : V → List ℕ) (item : List ℕ → V → I) wh
         → new ≡ take at bytes ++ written (p.0 ++ text p.1) (drop at bytes) → told ≡ set items count (item p.0 p.1)
         → CopiedOut all x rest new told (at + (length p.0 + length (text p.1))) (count + 1)
     one-more rest new told is within room place put set_is =
-        let same : length (told_items item c.given) ≡ length c.given = length-map c.given (λ q. item q.0 q.1) in
-        let there : length (told_items item c.given) < length x.items = omega (arith, same, c.count_is, long-items) in
+        let same : length (items_of_pairs item c.given) ≡ length c.given = length-map c.given (λ q. item q.0 q.1) in
+        let there : length (items_of_pairs item c.given) < length x.items = omega (arith, same, c.count_is, long-items) in
         record {
           given = c.given ++ p ∷ [];
           are = c.are ∙ ap (λ z. c.given ++ z) is ∙ sym (append_assoc c.given (p ∷ []) rest);
@@ -66,7 +66,7 @@ module _ {V I : Type 0} (text : V → List ℕ) (item : List ℕ → V → I) wh
           bytes_are = put ∙ ap₂ (λ n b. take n b ++ written (p.0 ++ text p.1) (drop n b)) c.at_is c.bytes_are
               ∙ written-more (end_to_end text c.given) (p.0 ++ text p.1) x.bytes ∙ ap (λ a. written a x.bytes) (sym (bytes-more text c.given p));
           items_are = set_is ∙ ap₂ (λ n l. set l n (item p.0 p.1)) (c.count_is ∙ sym same) c.items_are
-              ∙ set-more (told_items item c.given) x.items (item p.0 p.1) there ∙ ap (λ a. written a x.items) (sym (items-more item c.given p));
+              ∙ set-more (items_of_pairs item c.given) x.items (item p.0 p.1) there ∙ ap (λ a. written a x.items) (sym (items-more item c.given p));
           fit = (omega (arith, c.at_is, long, long-bytes), omega (arith, c.count_is, long-items, length-append c.given (p ∷ [])));
         }
 
@@ -115,27 +115,27 @@ module _ (all : Pairs ℕ) (x : List ℕ) where
   pub record WordsOut (left : Pairs ℕ) (words : List ℕ) (count : ℕ) : Type 0 where
     pub given : Pairs ℕ
     pub are : all ≡ given ++ left
-    pub words_are : words ≡ written (told_words given) x
+    pub words_are : words ≡ written (words_of_pairs given) x
     pub count_is : count ≡ length given
     pub fit : length given ≤ length x
 
   module _ {left : Pairs ℕ} {words : List ℕ} {count : ℕ} (c : WordsOut left words count) where
     pub same-words : length words ≡ length x
     same-words =
-        let is : length (told_words c.given) ≡ length c.given = length-map c.given (λ (p : List ℕ × ℕ). p.1) in
-        ap length c.words_are ∙ length-written (told_words c.given) x (omega (arith, is, c.fit))
+        let is : length (words_of_pairs c.given) ≡ length c.given = length-map c.given (λ (p : List ℕ × ℕ). p.1) in
+        ap length c.words_are ∙ length-written (words_of_pairs c.given) x (omega (arith, is, c.fit))
 
     -- one more
     unfoldable pub one-word : (p : List ℕ × ℕ) (rest : Pairs ℕ) (told : List ℕ) → left ≡ p ∷ rest → count < length words
         → told ≡ set words count p.1 → WordsOut rest told (count + 1)
     one-word p rest told is place set_is =
-        let same : length (told_words c.given) ≡ length c.given = length-map c.given (λ (q : List ℕ × ℕ). q.1) in
-        let there : length (told_words c.given) < length x = omega (arith, same, c.count_is, same-words, place) in
+        let same : length (words_of_pairs c.given) ≡ length c.given = length-map c.given (λ (q : List ℕ × ℕ). q.1) in
+        let there : length (words_of_pairs c.given) < length x = omega (arith, same, c.count_is, same-words, place) in
         record {
           given = c.given ++ p ∷ [];
           are = c.are ∙ ap (λ z. c.given ++ z) is ∙ sym (append_assoc c.given (p ∷ []) rest);
           words_are = set_is ∙ ap₂ (λ n l. set l n p.1) (c.count_is ∙ sym same) c.words_are
-              ∙ set-more (told_words c.given) x p.1 there ∙ ap (λ a. written a x) (sym (map-append (λ (q : List ℕ × ℕ). q.1) c.given (p ∷ [])));
+              ∙ set-more (words_of_pairs c.given) x p.1 there ∙ ap (λ a. written a x) (sym (map-append (λ (q : List ℕ × ℕ). q.1) c.given (p ∷ [])));
           count_is = omega (arith, c.count_is, length-append c.given (p ∷ []));
           fit = omega (arith, c.count_is, same-words, place, length-append c.given (p ∷ []));
         }

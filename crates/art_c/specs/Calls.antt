@@ -14,7 +14,7 @@ use Rattle.art_map.specs.Ranges.{pairs_between}
 use Rattle.art_c.specs.Codes.{code_number}
 use Rattle.art_c.specs.Handles.{MapState, own, Pairs}
 use Rattle.art_c.specs.Copies.{Rooms, KeyRoom, pair_code, pair_out, value_code, value_out, length_out}
-use Rattle.art_c.specs.Copies.{told_code, word_out, pairs_word_out, front_out, word_code, word_pair_out}
+use Rattle.art_c.specs.Copies.{found_code, word_out, pairs_word_out, len_word_out, word_code, word_pair_out}
 use Rattle.art_walks.specs.declared.stats.WellFormedTreeStats.{WellFormedTreeStats}
 use Rattle.art_c.specs.declared.nodes.NodeCounts.{NodeCounts}
 use Rattle.art_c.specs.declared.code.Code.{Code}
@@ -94,8 +94,8 @@ module _ {V : Type 0} where
   wanted_of (Below key) pairs = pair_below key.now pairs
 
 -- how many nodes of each kind there are, as C has them
-abbrev pub as_told : WellFormedTreeStats → NodeCounts
-as_told stats = record {
+abbrev pub as_node_counts : WellFormedTreeStats → NodeCounts
+as_node_counts stats = record {
   nodes4 = stats.num_node4;
   nodes16 = stats.num_node16;
   nodes32 = stats.num_node32;
@@ -106,7 +106,7 @@ as_told stats = record {
 
 -- the nodes of the tree are counted, or there is no memory for the count and nothing is told
 abbrev pub IsAudited : {V : Type 0} → Pairs V → NodeCounts → Code → NodeCounts → Type 0
-IsAudited pairs x Done y = y ≡ as_told (audit_of (key_of whole) pairs)
+IsAudited pairs x Done y = y ≡ as_node_counts (audit_of (key_of whole) pairs)
 IsAudited pairs x NoMemory y = y ≡ x
 IsAudited pairs x _ y = ⊥
 
@@ -142,15 +142,15 @@ IsRemoved key old _ _ new _ = ⊥
 -- the word of a key is told, if there is one
 abbrev pub IsWordRead : List ℕ → Pairs ℕ → ℕ → Code → ℕ → Type 0
 IsWordRead key pairs x code y =
-    (code ≡ told_code (stored_value key pairs)) × (y ≡ word_out (stored_value key pairs) x)
+    (code ≡ found_code (stored_value key pairs)) × (y ≡ word_out (stored_value key pairs) x)
 
 -- the word of a pair is told, if there is one
 abbrev pub IsPairsWordRead : (Pairs ℕ → Option (List ℕ × ℕ)) → Pairs ℕ → ℕ → Code → ℕ → Type 0
-IsPairsWordRead pick pairs x code y = (code ≡ told_code (pick pairs)) × (y ≡ pairs_word_out (pick pairs) x)
+IsPairsWordRead pick pairs x code y = (code ≡ found_code (pick pairs)) × (y ≡ pairs_word_out (pick pairs) x)
 
 -- how long the key of a pair is, and its word, if there is one
-abbrev pub IsFrontRead : (Pairs ℕ → Option (List ℕ × ℕ)) → Pairs ℕ → ℕ × ℕ → Code → ℕ × ℕ → Type 0
-IsFrontRead pick pairs x code y = (code ≡ told_code (pick pairs)) × (y ≡ front_out (pick pairs) x)
+abbrev pub IsLenWordRead : (Pairs ℕ → Option (List ℕ × ℕ)) → Pairs ℕ → ℕ × ℕ → Code → ℕ × ℕ → Type 0
+IsLenWordRead pick pairs x code y = (code ≡ found_code (pick pairs)) × (y ≡ len_word_out (pick pairs) x)
 
 -- the key of a pair is copied out, if there is one and it goes into the room; its length and its word are told
 abbrev pub IsWordPairRead : (Pairs ℕ → Option (List ℕ × ℕ)) → Pairs ℕ → KeyRoom → Code → KeyRoom → Type 0

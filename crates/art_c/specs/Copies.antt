@@ -66,9 +66,9 @@ length_out None len = len
 length_out (Some v) len = length v
 
 -- what is answered where nothing is copied
-abbrev pub told_code : {X : Type 0} → Option X → Code
-told_code None = NotFound
-told_code (Some x) = Done
+abbrev pub found_code : {X : Type 0} → Option X → Code
+found_code None = NotFound
+found_code (Some x) = Done
 
 -- the word that is told: of a key, and of a pair
 abbrev pub word_out : Option ℕ → ℕ → ℕ
@@ -80,9 +80,9 @@ pairs_word_out None word = word
 pairs_word_out (Some p) word = p.1
 
 -- the length of the key and the word that are told
-abbrev pub front_out : Option (List ℕ × ℕ) → ℕ × ℕ → ℕ × ℕ
-front_out None told = told
-front_out (Some p) told = (length p.0, p.1)
+abbrev pub len_word_out : Option (List ℕ × ℕ) → ℕ × ℕ → ℕ × ℕ
+len_word_out None old = old
+len_word_out (Some p) old = (length p.0, p.1)
 
 -- what is answered of a pair with a word whose key is copied, and the room then
 abbrev pub word_code : Option (List ℕ × ℕ) → List ℕ → Code

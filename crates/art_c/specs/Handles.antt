@@ -29,9 +29,9 @@ abbrev pub state_of : {V : Type 0} → Kept V → MapState V
 state_of (Own owned) = own owned.map.pairs
 state_of (Frozen shared) = shut shared.value.map.pairs
 
--- what lies behind a handle, if a map is made
-abbrev pub store_behind : Handle → Option Store
-store_behind handle = handle.held.store
+-- what a handle has, if a map is made
+abbrev pub store_of : Handle → Option Store
+store_of handle = handle.held.store
 
 -- the map of words, or of bytes, if it is one
 abbrev pub word_map_in : Option Store → Option (MapState ℕ)
@@ -45,11 +45,11 @@ byte_map_in (Some (Words kept)) = None
 byte_map_in None = None
 
 -- the same of a handle
-abbrev pub words_behind : Handle → Option (MapState ℕ)
-words_behind handle = word_map_in (store_behind handle)
+abbrev pub word_map_of : Handle → Option (MapState ℕ)
+word_map_of handle = word_map_in (store_of handle)
 
-abbrev pub bytes_behind : Handle → Option (MapState (List ℕ))
-bytes_behind handle = byte_map_in (store_behind handle)
+abbrev pub byte_map_of : Handle → Option (MapState (List ℕ))
+byte_map_of handle = byte_map_in (store_of handle)
 
 -- the pairs of a map, and none where there is no map
 abbrev pub pairs_or_none : {V : Type 0} → Option (MapState V) → Pairs V

@@ -20,7 +20,7 @@ module _ {V : Type 0} where
   MoveEnds (p ∷ rest) pairs code = IsPutRefused p.0 pairs code pairs
 
   -- The first pairs of the other map moved, each as it would be put in, and the others are still there. It ended so
-  -- behind them.
+  -- after them.
   abbrev pub ArePairsMoved : Pairs V → Pairs V → Code → Pairs V → Pairs V → Type 0
   ArePairsMoved other old code left new =
       (moved : Pairs V) × (other ≡ moved ++ left) × (new ≡ with_pairs_put whole moved old) × MoveEnds left new code

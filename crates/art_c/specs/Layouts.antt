@@ -29,8 +29,8 @@ bytes_text_len item = item.value_len
 
 module _ {V : Type 0} where
   -- what tells these pairs
-  abbrev pub told_items : {I : Type 0} → (List ℕ → V → I) → Pairs V → List I
-  told_items item pairs = map (λ p. item p.0 p.1) pairs
+  abbrev pub items_of_pairs : {I : Type 0} → (List ℕ → V → I) → Pairs V → List I
+  items_of_pairs item pairs = map (λ p. item p.0 p.1) pairs
 
   -- their bytes, end to end: those of the key, and those of the value
   abbrev pub end_to_end : (V → List ℕ) → Pairs V → List ℕ
@@ -38,6 +38,6 @@ module _ {V : Type 0} where
   end_to_end text (p ∷ ps) = p.0 ++ (text p.1 ++ end_to_end text ps)
 
 -- the first of some places with this item, if there is a place
-abbrev pub told_first : {I : Type 0} → I → List I → List I
-told_first item [] = []
-told_first item (_ ∷ places) = item ∷ places
+abbrev pub with_first : {I : Type 0} → I → List I → List I
+with_first item [] = []
+with_first item (_ ∷ places) = item ∷ places

@@ -7,7 +7,7 @@ use Rattle.art_map.specs.Asked.{with_pairs_put}
 use Rattle.art_operations.specs.KeyedLists.{IsBlocked}
 use Rattle.art_c.specs.Calls.{whole}
 use Rattle.art_c.specs.Handles.{Pairs}
-use Rattle.art_c.specs.Layouts.{end_to_end, told_items}
+use Rattle.art_c.specs.Layouts.{end_to_end, items_of_pairs}
 use Rattle.art_c.specs.declared.code.Code.{Code}
 use Rattle.art_c.specs.declared.code.Code.TheVariants.{Done, Conflict, NoMemory, NotAbove, CutOff}
 
@@ -37,13 +37,13 @@ module _ {V : Type 0} where
       IsTrue (is_above before key) × (IsBlocked (key_of whole) key pairs → ⊥)
   IsRefused before key pairs _ = ⊥
 
-  -- the bytes begin with this pair, which is told so, and these are behind it
+  -- the bytes begin with this pair, which is told so, and these are after it
   abbrev pub BeginsWithPair : {I : Type 0} → (V → List ℕ) → (List ℕ → V → I)
       → I → List ℕ → List ℕ → V → List ℕ → Type 0
   BeginsWithPair text item is bytes key value rest = (bytes ≡ key ++ (text value ++ rest)) × (is ≡ item key value)
 
   module _ {I : Type 0} (text : V → List ℕ) (item : List ℕ → V → I) (key_len text_len : I → ℕ) where
-    -- how it ends behind the pairs that were taken: there is no other, the bytes end before it does, or it is refused
+    -- how it ends after the pairs that were taken: there is no other, the bytes end before it does, or it is refused
     abbrev pub LoadEnds : Option (List ℕ) → List ℕ → List I → Pairs V → Code → Type 0
     LoadEnds before bytes [] pairs code = code ≡ Done
     LoadEnds before bytes (is ∷ items) pairs code =
@@ -52,9 +52,9 @@ module _ {V : Type 0} where
         × BeginsWithPair text item is bytes key value rest × IsRefused before key pairs code)
 
     -- The pairs that lie first in the buffer were put in, one after the other, and they rise. So many they are, and
-    -- behind them it ended so.
+    -- after them it ended so.
     abbrev pub IsLoaded : List ℕ → List I → Pairs V → ℕ → Code → Pairs V → ℕ → Type 0
     IsLoaded bytes items old _ code new count =
         (taken : Pairs V) × (more : List ℕ) × (left : List I)
-        × (bytes ≡ end_to_end text taken ++ more) × (items ≡ told_items item taken ++ left) × (count ≡ length taken)
+        × (bytes ≡ end_to_end text taken ++ more) × (items ≡ items_of_pairs item taken ++ left) × (count ≡ length taken)
         × Rises taken × (new ≡ with_pairs_put whole taken old) × LoadEnds (last_key taken) more left new code

@@ -8,7 +8,7 @@ use Rattle.art_c.specs.Calls.{whole}
 use Rattle.art_c.specs.Copies.{written}
 use Rattle.art_c.specs.Handles.{Pairs}
 use Rattle.art_c.specs.Spans.{while_so}
-use Rattle.art_c.specs.Walks.{told_words, words_code}
+use Rattle.art_c.specs.Walks.{words_of_pairs, words_code}
 use Rattle.art_c.specs.declared.code.Code.{Code}
 use Rattle.art_c.specs.declared.code.Code.TheVariants.{NoMemory}
 
@@ -22,7 +22,7 @@ abbrev pub without_keys : Pairs ℕ → Pairs ℕ → Pairs ℕ
 without_keys [] pairs = pairs
 without_keys (p ∷ ps) pairs = without_keys ps (without_key (key_of whole) p.0 pairs)
 
--- How it ends behind so many that were taken, with these left: there is no other, or it has no place, or no memory is
+-- How it ends after so many that were taken, with these left: there is no other, or it has no place, or no memory is
 -- found for the smaller node that its loss makes.
 abbrev pub TakeEnds : ℕ → ℕ → Pairs ℕ → Pairs ℕ → Code → Type 0
 TakeEnds taken places [] pairs code = code ≡ words_code taken false
@@ -33,7 +33,7 @@ TakeEnds taken places (p ∷ rest) pairs code =
 abbrev pub AreTakenOut : Pairs ℕ → Pairs ℕ → List ℕ → ℕ × Code → Pairs ℕ → List ℕ → Type 0
 AreTakenOut with old x r new y =
     (taken : Pairs ℕ) × (left : Pairs ℕ) × (with ≡ taken ++ left) × (length taken ≤ length x)
-    × (new ≡ without_keys taken old) × (y ≡ written (told_words taken) x) × (r.0 ≡ length taken)
+    × (new ≡ without_keys taken old) × (y ≡ written (words_of_pairs taken) x) × (r.0 ≡ length taken)
     × TakeEnds (length taken) (length x) left new r.1
 
 -- the same of those that come first and have the prefix

@@ -5,7 +5,7 @@ use Rattle.art_map.specs.Asked.{from_end}
 use Rattle.art_map.specs.Contents.{first_item}
 use Rattle.art_c.specs.Copies.{written}
 use Rattle.art_c.specs.Handles.{Pairs}
-use Rattle.art_c.specs.Layouts.{end_to_end, told_items, told_first}
+use Rattle.art_c.specs.Layouts.{end_to_end, items_of_pairs, with_first}
 use Rattle.art_c.specs.Spans.{Reach, AreReached, goes_to, met_of}
 use Rattle.art_c.specs.declared.code.Code.{Code}
 use Rattle.art_c.specs.declared.code.Code.TheVariants.{Done, NotFound, NoRoom, More}
@@ -39,7 +39,7 @@ module _ {V I : Type 0} (text : V → List ℕ) (item : List ℕ → V → I) wh
   abbrev pub with_pairs_copied : Pairs V → ManyRooms I → ManyRooms I
   with_pairs_copied given x = record {
     bytes = written (end_to_end text given) x.bytes;
-    items = written (told_items item given) x.items;
+    items = written (items_of_pairs item given) x.items;
     count = length given;
   }
 
@@ -51,7 +51,7 @@ module _ {V I : Type 0} (text : V → List ℕ) (item : List ℕ → V → I) wh
 
   -- the rooms where not even the first pair goes in: what tells it is in the first place
   abbrev pub with_first_told : List ℕ × V → ManyRooms I → ManyRooms I
-  with_first_told p x = record { bytes = x.bytes; items = told_first (item p.0 p.1) x.items; count = 0 }
+  with_first_told p x = record { bytes = x.bytes; items = with_first (item p.0 p.1) x.items; count = 0 }
 
   -- what is answered of the pairs that were copied out and of the others, and the rooms then
   abbrev pub AreCopied : Pairs V → Pairs V → ManyRooms I → Code → ManyRooms I → Type 0
@@ -67,10 +67,10 @@ module _ {V I : Type 0} (text : V → List ℕ) (item : List ℕ → V → I) wh
       × Fit given x × NoneElseFits given rest x × AreCopied given rest x code y
 
 -- the words of some pairs
-abbrev pub told_words : Pairs ℕ → List ℕ
-told_words pairs = map (λ p. p.1) pairs
+abbrev pub words_of_pairs : Pairs ℕ → List ℕ
+words_of_pairs pairs = map (λ p. p.1) pairs
 
--- whether others are left behind the words that were copied out: all places are taken then
+-- whether others are left after the words that were copied out: all places are taken then
 abbrev pub WordsEnd : Pairs ℕ → Pairs ℕ → List ℕ → Bool → Type 0
 WordsEnd [] given x more = more ≡ false
 WordsEnd (p ∷ rest) given x more = (more ≡ true) × (length given ≡ length x)
@@ -79,7 +79,7 @@ WordsEnd (p ∷ rest) given x more = (more ≡ true) × (length given ≡ length
 abbrev pub AreWordsTaken : Pairs ℕ → List ℕ → ℕ → Bool → List ℕ → Type 0
 AreWordsTaken pairs x count is_more y =
     (given : Pairs ℕ) × (rest : Pairs ℕ) × (pairs ≡ given ++ rest) × (length given ≤ length x)
-    × (y ≡ written (told_words given) x) × (count ≡ length given) × WordsEnd rest given x is_more
+    × (y ≡ written (words_of_pairs given) x) × (count ≡ length given) × WordsEnd rest given x is_more
 
 -- what is answered then
 abbrev pub words_code : ℕ → Bool → Code

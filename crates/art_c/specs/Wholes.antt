@@ -21,21 +21,21 @@ abbrev pub HasRoomIn : {V : Type 0} → ℕ → Kept V → Type 0
 HasRoomIn n (Own owned) = HasRoom owned.map.nodes n
 HasRoomIn n (Frozen shared) = ⊥
 
--- the same of the map behind a handle
-abbrev pub HasRoomBehind : ℕ → Option Store → Type 0
-HasRoomBehind n (Some (Words kept)) = HasRoomIn n kept
-HasRoomBehind n (Some (Bytes kept)) = HasRoomIn n kept
-HasRoomBehind n None = ⊥
+-- the same of the map of a handle
+abbrev pub HasRoomInStore : ℕ → Option Store → Type 0
+HasRoomInStore n (Some (Words kept)) = HasRoomIn n kept
+HasRoomInStore n (Some (Bytes kept)) = HasRoomIn n kept
+HasRoomInStore n None = ⊥
 
--- a map that is kept has no slot that its nodes do not need, and the map behind a handle
+-- a map that is kept has no slot that its nodes do not need, and the map of a handle
 abbrev pub IsTrimmedIn : {V : Type 0} → Kept V → Type 0
 IsTrimmedIn (Own owned) = IsTrimmed owned.map.nodes
 IsTrimmedIn (Frozen shared) = ⊥
 
-abbrev pub IsTrimmedBehind : Option Store → Type 0
-IsTrimmedBehind (Some (Words kept)) = IsTrimmedIn kept
-IsTrimmedBehind (Some (Bytes kept)) = IsTrimmedIn kept
-IsTrimmedBehind None = ⊥
+abbrev pub IsTrimmedStore : Option Store → Type 0
+IsTrimmedStore (Some (Words kept)) = IsTrimmedIn kept
+IsTrimmedStore (Some (Bytes kept)) = IsTrimmedIn kept
+IsTrimmedStore None = ⊥
 
 module _ {V : Type 0} where
   -- a handle gets this map, in the place of what it had, or there is no memory and it has what it had
@@ -65,6 +65,9 @@ module _ {V : Type 0} where
 
   abbrev pub IsShrunk : Pairs V → Nothing → Code → Pairs V → Nothing → Type 0
   IsShrunk old _ code new _ = (code ≡ Done) × (new ≡ old)
+
+  abbrev pub IsCompacted : Pairs V → Nothing → Code → Pairs V → Nothing → Type 0
+  IsCompacted old _ code new _ = ((code ≡ Done) ⊎ (code ≡ NoMemory)) × (new ≡ old)
 
   -- all pairs are gone
   abbrev pub IsCleared : Pairs V → Nothing → Code → Pairs V → Nothing → Type 0

@@ -2,8 +2,8 @@
 ghost use Rattle.std.specs.Prelude.{◌≡◌, ◌≤◌, length, option_map};
 ghost use Rattle.std.specs.Option.{option_copied};
 ghost use Rattle.std.specs.Map.Iter.{deref_pair};
-ghost use Rattle.art_c.specs.Copies.{front_out, key_room, length_out, pair_code, pair_out, pairs_word_out, rooms};
-ghost use Rattle.art_c.specs.Copies.{told_code, value_code, value_out, word_code, word_out, word_pair_out, written};
+ghost use Rattle.art_c.specs.Copies.{len_word_out, key_room, length_out, pair_code, pair_out, pairs_word_out, rooms};
+ghost use Rattle.art_c.specs.Copies.{found_code, value_code, value_out, word_code, word_out, word_pair_out, written};
 
 use crate::bytes::Bytes;
 use crate::code::Code;
@@ -39,7 +39,7 @@ pub(crate) fn give_value(found: Option<&Bytes>, room: &mut [u8], len: &mut usize
 
 /// Tells a word, if there is one.
 pub(crate) fn give_word(found: Option<&u64>, word: &mut u64) -> Code
-    ensures code { result ≡ told_code (option_copied found.entry) }
+    ensures code { result ≡ found_code (option_copied found.entry) }
     ensures word { word.new ≡ word_out (option_copied found.entry) word.old }
 {
     match found {
@@ -53,7 +53,7 @@ pub(crate) fn give_word(found: Option<&u64>, word: &mut u64) -> Code
 
 /// Tells the word of a pair, if there is one.
 pub(crate) fn give_pairs_word(found: Option<(&Bytes, &u64)>, word: &mut u64) -> Code
-    ensures code { result ≡ told_code (option_map deref_pair found.entry) }
+    ensures code { result ≡ found_code (option_map deref_pair found.entry) }
     ensures word { word.new ≡ pairs_word_out (option_map deref_pair found.entry) word.old }
 {
     match found {
@@ -66,9 +66,13 @@ pub(crate) fn give_pairs_word(found: Option<(&Bytes, &u64)>, word: &mut u64) -> 
 }
 
 /// Tells how long the key of a pair is, and its word, if there is one.
-pub(crate) fn give_front(found: Option<(&Bytes, &u64)>, key_len: &mut usize, word: &mut u64) -> Code
-    ensures code { result ≡ told_code (option_map deref_pair found.entry) }
-    ensures told { (key_len.new, word.new) ≡ front_out (option_map deref_pair found.entry) (key_len.old, word.old) }
+pub(crate) fn give_len_word(
+    found: Option<(&Bytes, &u64)>,
+    key_len: &mut usize,
+    word: &mut u64,
+) -> Code
+    ensures code { result ≡ found_code (option_map deref_pair found.entry) }
+    ensures lent { (key_len.new, word.new) ≡ len_word_out (option_map deref_pair found.entry) (key_len.old, word.old) }
 {
     match found {
         Some((key, is)) => {

@@ -17,10 +17,10 @@ pub(crate) use store::Store;
 pub struct Handle {
     held: Held,
     is_made: bool,
-    ghost known: { is_made ≡ is_some held.store },
+    ghost agrees: { is_made ≡ is_some held.store },
 }
 
-// What is read of the map of this kind behind a handle: the number of the code that it gives.
+// What is read of the map of this kind in a handle: the number of the code that it gives.
 macro_rules! reading {
     ($alloc:ident, $handle:ident, $kind:ident not $other:ident, |$map:ident| $done:expr) => {
         match $handle.take($alloc) {
@@ -41,7 +41,7 @@ macro_rules! reading {
     };
 }
 
-// What is done with the map of this kind behind a handle, where it is not frozen: the number of the code that it gives.
+// What is done with the map of this kind in a handle, where it is not frozen: the number of the code that it gives.
 macro_rules! changing {
     ($alloc:ident, $handle:ident, $kind:ident not $other:ident, |$map:ident| $done:expr) => {
         match $handle.take($alloc) {

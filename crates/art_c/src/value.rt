@@ -24,12 +24,12 @@ pub struct BytesPair {
     pub(crate) value_len: usize,
 }
 
-/// A value, as C has it in a buffer: bytes behind those of its key, and an item of an array.
+/// A value, as C has it in a buffer: bytes after those of its key, and an item of an array.
 pub trait Value: Drop + Sized {
     /// What tells a pair.
     type Item: Copy;
 
-    /// The bytes that stand behind those of the key.
+    /// The bytes that stand after those of the key.
     ghost text_of: { Self → List ℕ };
 
     /// What tells the pair of this key.
@@ -38,7 +38,7 @@ pub trait Value: Drop + Sized {
     /// The value of a pair that is told so, with these bytes.
     ghost value_of: { Self.Item → List ℕ → Self };
 
-    /// How long the key of such a pair is, and the bytes behind it.
+    /// How long the key of such a pair is, and the bytes after it.
     ghost key_len_of: { Self.Item → ℕ };
 
     ghost text_len_of: { Self.Item → ℕ };
@@ -49,7 +49,7 @@ pub trait Value: Drop + Sized {
     fn item(&self, key: &[u8]) -> Self::Item
         ensures { result ≡ item_of key.now self.now };
 
-    /// The pair that the bytes begin with, which is told so: its key, the bytes of its value, and those behind it; or
+    /// The pair that the bytes begin with, which is told so: its key, the bytes of its value, and those after it; or
     /// nothing where the bytes end before it does.
     fn parts<'a>(item: Self::Item, bytes: &'a [u8]) -> Option<(&'a [u8], &'a [u8], &'a [u8])>
         ensures { MatchOption result (length bytes.now < key_len_of item + text_len_of item)
@@ -119,8 +119,8 @@ impl Value for Bytes {
     }
 
     fn parts<'a>(item: BytesPair, bytes: &'a [u8]) -> Option<(&'a [u8], &'a [u8], &'a [u8])> {
-        let (key, behind) = bytes.split_at_checked(item.key_len)?;
-        let (text, rest) = behind.split_at_checked(item.value_len)?;
+        let (key, following) = bytes.split_at_checked(item.key_len)?;
+        let (text, rest) = following.split_at_checked(item.value_len)?;
         Some((key, text, rest))
     }
 

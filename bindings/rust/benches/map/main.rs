@@ -3,12 +3,16 @@
 //!     cargo bench --offline [-- SIZE .. KEYS .. rounds=N]   1000, 100000 and 1000000 pairs of all keys, if none are told
 //!
 //! A line tells the keys, how many, the map, the nanoseconds of a pair, and the step; a last one the ratios.
-//! All maps have keys of the same type and `u64` values, and lend what they lend. `perf/bindings.py` has unproved radix trees
-//! beside them. Keys are looked up, missed and taken out in
-//! another order than they went in. Each map runs in turn, several rounds; the least time of each counts. Keys:
+//! All maps have keys of the same type and `u64` values, and lend what they lend. `perf/bindings.py` has unproved radix
+//! trees beside them. Keys are looked up, missed and taken out in another order than they went in. Each map runs in turn,
+//! several rounds, which are `rounds` at least; the least time of each counts: of the processor by `perf/bindings.py`, else
+//! by the wall clock. Keys:
 //!
 //! - `rand8`: `Vec<u8>` of eight random bytes; `url`: `Vec<u8>` of some 60 bytes, of hosts and paths;
 //! - `u64`: random numbers; `dense`: the numbers from 0 on; `text`: `String`s as the urls.
+//!
+//! Some hundred of the urls are with a prefix, 256 of the dense numbers, and of random keys those of the first byte, or
+//! of the first two from 10^6 on.
 #[cfg(peer)]
 mod peer;
 
@@ -19,7 +23,8 @@ use std::fs;
 use std::hash::Hash;
 use std::hint::black_box;
 use std::process::Command;
-use std::time::Instant;
+#[cfg(not(peer))]
+use std::{sync::LazyLock, time::Instant};
 
 /// A step of a map, and the nanoseconds that a pair takes in it.
 type Times = Vec<(&'static str, f64)>;
@@ -46,6 +51,11 @@ impl Random {
 /// A type of keys, and those of a bench: the one of a number.
 trait Made: Clone + Ord + Hash + Key {
     fn of(number: u64) -> Self;
+
+    /// What some keys of a map of this size begin with, this one too, and the least key that may begin so.
+    fn front(&self, size: usize) -> (Vec<u8>, Self);
+
+    fn is_under(&self, front: &[u8]) -> bool;
 }
 
 /// What unproved trees ask of keys.
@@ -68,15 +78,49 @@ fn url(number: u64) -> String {
     format!("https://www.host-{host:03}.example/articles/{path:05}/read-{it:016x}")
 }
 
+/// How many bytes of an url are those of a prefix, and how many of eight random ones.
+fn front_of_url(size: usize) -> usize {
+    match size {
+        0..10_000 => "https://www.host-0".len(),
+        10_000..1_000_000 => "https://www.host-000.".len(),
+        _ => "https://www.host-000.example/articles/00".len(),
+    }
+}
+
+fn front_of_8(size: usize) -> usize {
+    if size < 1_000_000 { 1 } else { 2 }
+}
+
+fn front_of_number(number: u64, len: usize) -> (Vec<u8>, u64) {
+    (number.to_be_bytes()[..len].to_vec(), number & !(u64::MAX >> (8 * len)))
+}
+
 impl Made for u64 {
     fn of(number: u64) -> u64 {
         mixed(number)
+    }
+
+    fn front(&self, size: usize) -> (Vec<u8>, u64) {
+        front_of_number(*self, front_of_8(size))
+    }
+
+    fn is_under(&self, front: &[u8]) -> bool {
+        self.to_be_bytes().starts_with(front)
     }
 }
 
 impl Made for String {
     fn of(number: u64) -> String {
         url(number)
+    }
+
+    fn front(&self, size: usize) -> (Vec<u8>, String) {
+        let front = &self[..front_of_url(size)];
+        (front.into(), front.into())
+    }
+
+    fn is_under(&self, front: &[u8]) -> bool {
+        self.as_bytes().starts_with(front)
     }
 }
 
@@ -98,11 +142,20 @@ impl Made for Dense {
     fn of(number: u64) -> Dense {
         Dense(number)
     }
+
+    fn front(&self, _: usize) -> (Vec<u8>, Dense) {
+        let (front, least) = front_of_number(self.0, 7);
+        (front, Dense(least))
+    }
+
+    fn is_under(&self, front: &[u8]) -> bool {
+        self.0.to_be_bytes().starts_with(front)
+    }
 }
 
 /// Bytes of a fixed length, by which none begins another.
 macro_rules! bytes {
-    ($of:ident, $number:ident, $bytes:expr) => {
+    ($of:ident, $number:ident, $bytes:expr, $front:expr) => {
         #[derive(Clone, PartialEq, Eq, PartialOrd, Ord, Hash)]
         struct $of(Vec<u8>);
 
@@ -120,18 +173,38 @@ macro_rules! bytes {
             fn of($number: u64) -> Self {
                 $of($bytes)
             }
+
+            fn front(&self, size: usize) -> (Vec<u8>, Self) {
+                let front = &self.0[..$front(size)];
+                (front.into(), $of(front.into()))
+            }
+
+            fn is_under(&self, front: &[u8]) -> bool {
+                self.0.starts_with(front)
+            }
         }
     };
 }
 
-bytes!(Rand8, number, mixed(number).to_be_bytes().to_vec());
-bytes!(Url, number, url(number).into_bytes());
+bytes!(Rand8, number, mixed(number).to_be_bytes().to_vec(), front_of_8);
+bytes!(Url, number, url(number).into_bytes(), front_of_url);
 
+/// Nanoseconds, whose differences count; and what has malloc join the blocks that are free.
+#[cfg(peer)]
+use timing::{now, settle};
+#[cfg(not(peer))]
+fn settle() {}
+#[cfg(not(peer))]
+fn now() -> f64 {
+    static BEGAN: LazyLock<Instant> = LazyLock::new(Instant::now);
+    BEGAN.elapsed().as_secs_f64() * 1e9
+}
+
+#[allow(clippy::cast_precision_loss, reason = "a time is told in three digits")]
 fn timed(times: &mut Times, what: &'static str, pairs: usize, run: impl FnOnce() -> u64) {
-    let began = Instant::now();
+    let began = now();
     black_box(run());
-    #[allow(clippy::cast_precision_loss, reason = "a time is told in three digits")]
-    times.push((what, began.elapsed().as_nanos() as f64 / pairs as f64));
+    times.push((what, (now() - began) / pairs as f64));
 }
 
 /// The keys of a bench, in the orders that they are used in.
@@ -141,6 +214,7 @@ struct Keys<K> {
     missed: Vec<K>,
     going_out: Vec<K>,
     sorted: Vec<K>,
+    fronts: Vec<(Vec<u8>, K)>,
 }
 
 fn keys<K: Made>(size: usize) -> Keys<K> {
@@ -155,7 +229,8 @@ fn keys<K: Made>(size: usize) -> Keys<K> {
     random.shuffle(&mut missed);
     let mut sorted = going_in.clone();
     sorted.sort();
-    Keys { going_in, asked, missed, going_out, sorted }
+    let fronts = asked.iter().step_by(100).map(|key| key.front(size)).collect();
+    Keys { going_in, asked, missed, going_out, sorted, fronts }
 }
 
 fn sum<'a, K: 'a>(pairs: impl Iterator<Item = (&'a K, &'a u64)>) -> u64 {
@@ -172,9 +247,29 @@ macro_rules! back {
 /// Times ranges of 1, 10 and 100 pairs.
 type Ranges<M, K> = fn(&M, &Keys<K>, &mut Times, [&'static str; 3]);
 
+/// Goes through the pairs with a prefix, by the map's own call or from the least key on, and counts them.
+type Prefix<M, K> = fn(&M, &(Vec<u8>, K), &mut u64) -> usize;
+
+fn counted<'a, K: 'a>(pairs: impl Iterator<Item = (&'a K, &'a u64)>, all: &mut u64) -> usize {
+    let mut count = 0;
+    *all ^= sum(pairs.inspect(|_| count += 1));
+    count
+}
+
+/// Times walks after prefixes, for each pair that is met.
+#[allow(clippy::cast_precision_loss, reason = "a time is told in three digits")]
+fn behind<M, K>(map: &M, keys: &Keys<K>, times: &mut Times, prefix: Prefix<M, K>) {
+    let (mut all, mut count) = (0, 0);
+    let began = now();
+    keys.fronts.iter().for_each(|front| count += prefix(map, front, &mut all));
+    let nanos = now() - began;
+    black_box(all);
+    times.push(("prefix", nanos / count.max(1) as f64));
+}
+
 /// The steps of a map, which all maps spell alike.
 macro_rules! steps {
-    ($name:ident, $map:ident, [$($bound:tt)*], $is_ordered:literal, $ranges:expr, $back:expr) => {
+    ($name:ident, $map:ident, [$($bound:tt)*], $is_ordered:literal, $ranges:expr, $back:expr, $prefix:expr) => {
         fn $name<K: Made + $($bound)*>(keys: &Keys<K>) -> Times {
             let size = keys.going_in.len();
             let mut times = Vec::new();
@@ -193,33 +288,39 @@ macro_rules! steps {
                 timed(&mut times, "back", size, || back(&map));
                 let ranges: Ranges<$map<K, u64>, K> = $ranges;
                 ranges(&map, keys, &mut times, ["range of 1", "range of 10", "range of 100"]);
-                timed(&mut times, "clone", size, || map.clone().len() as u64);
+                behind(&map, keys, &mut times, $prefix);
             }
+            let mut copy = None;
+            timed(&mut times, "clone", size, || {
+                copy = Some(map.clone());
+                0
+            });
+            drop(copy);
             timed(&mut times, "remove", size, || {
                 keys.going_out.iter().filter_map(|key| map.remove(key)).fold(0, u64::wrapping_add)
             });
             drop(map);
+            settle();
+            let pairs: Vec<(K, u64)> = keys.sorted.iter().cloned().zip(0..).collect();
+            let mut made = $map::new();
+            timed(&mut times, "load", size, || {
+                made = pairs.into_iter().collect::<$map<K, u64>>();
+                0
+            });
             if $is_ordered {
-                let pairs: Vec<(K, u64)> = keys.sorted.iter().cloned().zip(0..).collect();
-                let mut made = None;
-                timed(&mut times, "load", size, || {
-                    made = Some(pairs.into_iter().collect::<$map<K, u64>>());
-                    0
-                });
-                if let Some(made) = &made {
-                    timed(&mut times, "next of these", size, || sum(made.iter()));
-                    let ranges: Ranges<$map<K, u64>, K> = $ranges;
-                    ranges(made, keys, &mut times, ["1 of these", "10 of these", "100 of these"]);
-                }
-                drop(made);
-                let pairs: Vec<(K, u64)> = keys.going_in.iter().cloned().zip(0..).collect();
-                let mut made = None;
-                timed(&mut times, "shuffled", size, || {
-                    made = Some(pairs.into_iter().collect::<$map<K, u64>>());
-                    0
-                });
-                drop(made);
+                timed(&mut times, "next of these", size, || sum(made.iter()));
+                let ranges: Ranges<$map<K, u64>, K> = $ranges;
+                ranges(&made, keys, &mut times, ["1 of these", "10 of these", "100 of these"]);
             }
+            drop(made);
+            settle();
+            let pairs: Vec<(K, u64)> = keys.going_in.iter().cloned().zip(0..).collect();
+            let mut made = $map::new();
+            timed(&mut times, "shuffled", size, || {
+                made = pairs.into_iter().collect::<$map<K, u64>>();
+                0
+            });
+            drop(made);
             times
         }
     };
@@ -238,9 +339,11 @@ macro_rules! ranges {
     };
 }
 
-steps!(art, ArtMap, [NoPrefixes], true, ranges!(), back!());
-steps!(tree, BTreeMap, [], true, ranges!(), back!());
-steps!(hash, HashMap, [], false, |_, _, _, _| {}, |_| 0);
+steps!(art, ArtMap, [NoPrefixes], true, ranges!(), back!(), |map, front, all| counted(map.prefix(&front.0[..]), all));
+steps!(tree, BTreeMap, [], true, ranges!(), back!(), |map, front, all| {
+    counted(map.range::<K, _>(&front.1..).take_while(|it| it.0.is_under(&front.0)), all)
+});
+steps!(hash, HashMap, [], false, |_, _, _, _| {}, |_| 0, |_, _, _| 0);
 
 /// The bytes that the process has in memory.
 fn resident() -> usize {
@@ -248,26 +351,44 @@ fn resident() -> usize {
     pages.split(' ').nth(1).and_then(|it| it.parse::<usize>().ok()).unwrap_or(0) * 4096
 }
 
-/// Makes one map alone, and prints the bytes a pair.
-fn weigh<K: Made + NoPrefixes>(map: &str, size: usize) {
-    let before = resident();
-    let mut random = Random(7);
-    let mut order: Vec<u64> = (0..size as u64).collect();
+/// The bytes a pair of maps of this size: of one, or of as many as have 200,000 pairs.
+fn weight<M>(size: usize, filled: impl Fn(&[u64]) -> M) -> usize {
+    let (mut random, mut order) = (Random(7), (0..size as u64).collect::<Vec<_>>());
     random.shuffle(&mut order);
-    let keys = order.iter().map(|it| K::of(*it)).zip(0..);
-    let held = order.capacity() * 8;
-    let after = if map == "ArtMap" {
-        let mut made = ArtMap::new();
-        assert_eq!(keys.filter_map(|(key, value)| made.insert(key, value)).count(), 0);
-        black_box(&made);
-        resident()
-    } else {
-        let mut made = BTreeMap::new();
-        assert_eq!(keys.filter_map(|(key, value)| made.insert(key, value)).count(), 0);
-        black_box(&made);
-        resident()
+    let count = (200_000 / size).max(1);
+    let mut held = Vec::with_capacity(count);
+    let before = resident();
+    held.extend((0..count).map(|_| filled(&order)));
+    let after = resident();
+    black_box(&held);
+    after.saturating_sub(before) / (size * count)
+}
+
+/// Puts in the keys of some numbers.
+macro_rules! filled {
+    ($map:ident) => {
+        |order| {
+            let mut made = $map::new();
+            let keys = order.iter().map(|it| K::of(*it)).zip(0u64..);
+            assert_eq!(keys.filter_map(|(key, value)| made.insert(key, value)).count(), 0);
+            made
+        }
     };
-    println!("{}", after.saturating_sub(before + held) / size);
+}
+
+/// Makes maps alone, and prints the bytes a pair.
+fn weigh<K: Made + NoPrefixes + Coded>(map: &str, size: usize) {
+    let bytes = match map {
+        "ArtMap" => weight(size, filled!(ArtMap)),
+        "BTreeMap" => weight(size, filled!(BTreeMap)),
+        "HashMap" => weight(size, filled!(HashMap)),
+        #[cfg(peer)]
+        "art-vec" => weight(size, peer::filled_vec::<K>),
+        #[cfg(peer)]
+        "art-list" => weight(size, peer::filled_list::<K>),
+        _ => return,
+    };
+    println!("{bytes}");
 }
 
 fn weighed(kind: &str, map: &str, size: usize) -> String {
@@ -299,20 +420,21 @@ fn bench<K: Made + NoPrefixes + Coded>(kind: &str, size: usize, rounds: usize) {
         ("art-list", peer::list),
     ];
     let mut best = maps.map(|_| Vec::new());
-    for _ in 0..rounds {
-        best.iter_mut().zip(maps).for_each(|(best, (_, steps))| least(best, steps(&keys)));
+    for round in 0..rounds {
+        for at in (0..maps.len()).map(|at| (at + round) % maps.len()) {
+            settle();
+            least(&mut best[at], maps[at].1(&keys));
+        }
     }
     for (times, (name, _)) in best.iter().zip(maps) {
         for (what, ns) in times {
-            println!("{kind} {size} {name} {ns:.0} {what}");
+            println!("{kind} {size} {name} {ns:.1} {what}");
         }
     }
-    let ratios = best[0].iter().zip(&best[1]).map(|((what, mine), (_, other))| format!("{what} {:.2}", mine / other));
+    let ratios = best[0].iter().zip(&best[1]).map(|((step, mine), (_, other))| format!("{step} {:.2}", mine / other));
     println!("{kind} {size}, ArtMap to BTreeMap: {}", ratios.collect::<Vec<_>>().join(", "));
-    if size >= 100_000 {
-        for map in ["ArtMap", "BTreeMap"] {
-            println!("{kind} {size} {map} {} bytes a pair", weighed(kind, map, size));
-        }
+    for (map, _) in maps {
+        println!("{kind} {size} {map} {} bytes a pair", weighed(kind, map, size));
     }
 }
 
@@ -337,7 +459,7 @@ fn main() {
     let rounds = words.iter().find_map(|it| it.strip_prefix("rounds=")?.parse().ok());
     let told: Vec<usize> = words.iter().filter_map(|it| it.parse().ok()).collect();
     for size in if told.is_empty() { vec![1_000, 100_000, 1_000_000] } else { told } {
-        let rounds = rounds.unwrap_or((2_000_000 / size).clamp(3, 50));
+        let rounds = (1_000_000 / size).clamp(rounds.unwrap_or(3), 30);
         if is_wanted("rand8") {
             bench::<Rand8>("rand8", size, rounds);
         }

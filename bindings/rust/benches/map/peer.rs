@@ -1,6 +1,6 @@
 //! Radix trees of raw pointers, beside which `perf/bindings.py` has this bench built: a leaf is a block with its key and value,
 //! and that of `art-list` has its neighbours in it, too. Keys are those bytes that no map codes: texts have no end mark.
-use super::{Dense, Keys, Made, Rand8, Times, Url, timed};
+use super::{Dense, Keys, Made, Rand8, Times, Url, behind, settle, timed};
 use peers::art::{Art, Insert, Leaf, Listed};
 use std::hint::black_box;
 
@@ -93,19 +93,50 @@ fn run<K: Made + Coded, L: Record<K::Code>>(keys: &Keys<K>) -> Times {
         sum
     });
     ranges(&map, keys, &mut times);
-    timed(&mut times, "clone", size, || map.clone().len() as u64);
+    behind(&map, keys, &mut times, |map, front, all| {
+        let mut count = 0;
+        map.prefix_each(&front.0, &mut |leaf: &L| (*all, count) = (*all ^ leaf.value(), count + 1));
+        count
+    });
+    let mut copy = None;
+    timed(&mut times, "clone", size, || {
+        copy = Some(map.clone());
+        0
+    });
+    drop(copy);
     timed(&mut times, "remove", size, || {
         let values = keys.going_out.iter().filter_map(|key| map.remove(key.code().as_ref()));
         values.fold(0, |sum, it| sum.wrapping_add(it.value()))
     });
-    let pairs: Vec<(K, u64)> = keys.sorted.iter().cloned().zip(0..).collect();
-    let mut made = Art::<L>::new();
-    timed(&mut times, "load", size, || {
-        pairs.into_iter().for_each(|(key, value)| drop(made.insert(L::of(key.coded(), value))));
-        0
-    });
-    black_box(&made);
+    drop(map);
+    for (step, order) in [("load", &keys.sorted), ("shuffled", &keys.going_in)] {
+        settle();
+        let pairs: Vec<(K, u64)> = order.iter().cloned().zip(0..).collect();
+        let mut made = Art::<L>::new();
+        timed(&mut times, step, size, || {
+            pairs.into_iter().for_each(|(key, value)| drop(made.insert(L::of(key.coded(), value))));
+            0
+        });
+        black_box(&made);
+    }
     times
+}
+
+/// A tree with the keys of some numbers.
+fn filled<K: Made + Coded, L: Record<K::Code>>(order: &[u64]) -> Art<L> {
+    let mut made = Art::new();
+    for (number, value) in order.iter().zip(0..) {
+        made.insert(L::of(K::of(*number).coded(), value));
+    }
+    made
+}
+
+pub(crate) fn filled_vec<K: Made + Coded>(order: &[u64]) -> Art<Box<(K::Code, u64)>> {
+    filled::<K, _>(order)
+}
+
+pub(crate) fn filled_list<K: Made + Coded>(order: &[u64]) -> Art<Box<Listed<K::Code, u64>>> {
+    filled::<K, _>(order)
 }
 
 /// Times ranges of 10 and 100 pairs, whose ends are known: such a tree has no other walk.

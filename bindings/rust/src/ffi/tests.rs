@@ -24,6 +24,7 @@ fn calls_answer_what_the_header_says() {
     assert_eq!((art.remove_prefix(b"a"), art.len()), (Ok(()), 1));
     assert_eq!((art.remove(b"b"), art.len()), (Ok(Some(5)), 0));
     art.shrink();
+    assert_eq!((art.compact(), copy.compact(), copy.get(b"ab")), (Ok(()), Ok(()), Some(2)));
     copy.freeze().unwrap();
     let other = copy.share().unwrap();
     assert!(!copy.thaw() && other.get(b"ab") == Some(2));

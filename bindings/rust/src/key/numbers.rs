@@ -12,7 +12,7 @@ trait Number: Copy {
     fn array(self) -> Self::Array;
 }
 
-/// The bytes of one number behind the other.
+/// The bytes of one number after the other.
 fn in_a_row<N: Number>(numbers: &[N]) -> Result<Room, AllocError> {
     let mut room = Room::new();
     for it in numbers {

@@ -1,4 +1,4 @@
-//! Many pairs at once: what ascends behind the last key goes in by one call of the library for many.
+//! Many pairs at once: what ascends after the last key goes in by one call of the library for many.
 use crate::error::{AllocError, TryInsertError, no_memory, or_end};
 use crate::ffi::{Pair, Put, Stop};
 use crate::map::{ArtMap, CHANGED, word_of};
@@ -97,9 +97,9 @@ struct Filling<'a, K: Key, V> {
 
 /// Where a key stands.
 enum Place {
-    /// Behind all others.
+    /// After all others.
     Behind,
-    /// Behind the greatest one, which begins it.
+    /// After the greatest one, which begins it.
     Under,
     Elsewhere,
 }
@@ -160,7 +160,7 @@ impl<'a, K: Key, V> Filling<'a, K, V> {
         }
     }
 
-    /// Has the bytes of a key wait that stands behind all others. Its pair then gets the index that it waits with.
+    /// Has the bytes of a key wait that stands after all others. Its pair then gets the index that it waits with.
     fn wait(&mut self, key: &K) -> Result<Place, AllocError> {
         if self.run.pairs.is_empty() {
             self.know()?;
@@ -174,7 +174,7 @@ impl<'a, K: Key, V> Filling<'a, K, V> {
         Ok(place)
     }
 
-    /// Puts what waits into the tree. The first pair that is refused is handed back, and those behind it are dropped.
+    /// Puts what waits into the tree. The first pair that is refused is handed back, and those after it are dropped.
     fn flush(&mut self) -> Result<(), TryInsertError<K, V>> {
         let Some(last) = self.run.last() else { return Ok(()) };
         self.greatest.clear();
@@ -259,7 +259,7 @@ impl<K, V> Parting<K, V> {
 }
 
 impl<K: Key, V> ArtMap<K, V> {
-    /// Stores pairs one by one, or many at once where their keys ascend behind the greatest one.
+    /// Stores pairs one by one, or many at once where their keys ascend after the greatest one.
     ///
     /// ```
     /// let mut map = artmap::ArtMap::new();
@@ -271,7 +271,7 @@ impl<K: Key, V> ArtMap<K, V> {
     /// # Errors
     ///
     /// At the first pair that is refused, as [`try_insert`](Self::try_insert) does, and it hands that one back. Those before
-    /// it are stored. Where memory lacks, pairs behind it may have been taken from the iterator, and are dropped.
+    /// it are stored. Where memory lacks, pairs after it may have been taken from the iterator, and are dropped.
     pub fn try_extend<I: IntoIterator<Item = (K, V)>>(&mut self, pairs: I) -> Result<(), TryInsertError<K, V>> {
         Filling::new(self).fill(pairs)
     }
@@ -412,6 +412,48 @@ impl<K: Key, V> ArtMap<K, V> {
         } else {
             self.words.shrink();
             self.slab.shrink();
+        }
+    }
+
+    /// Puts the pairs in the order of their keys, and the nodes of the tree, and gives memory back that neither uses. A walk
+    /// then reads them as they lie. Meanwhile it needs memory for a second tree.
+    ///
+    /// ```
+    /// let mut map = artmap::ArtMap::from([(3, 'c'), (1, 'a'), (2, 'b')]);
+    /// map.compact();
+    /// assert!(map.into_values().eq(['a', 'b', 'c']));
+    /// ```
+    pub fn compact(&mut self) {
+        or_end(self.try_compact());
+    }
+
+    /// As [`compact`](Self::compact).
+    ///
+    /// ```
+    /// let mut map = artmap::ArtMap::from([(2, 'b'), (1, 'a')]);
+    /// assert_eq!(map.try_compact(), Ok(()));
+    /// ```
+    ///
+    /// # Errors
+    ///
+    /// Where memory lacks. The map is as it was.
+    pub fn try_compact(&mut self) -> Result<(), AllocError> {
+        if self.slab.is_tight() {
+            return self.words.compact();
+        }
+        let mut parting = self.parting(Between(Bound::Unbounded, Bound::Unbounded))?;
+        parting.made.words.compact()?;
+        *self = parting.end(&mut self.slab);
+        Ok(())
+    }
+
+    /// Puts the pairs in the order of their keys, where there is memory for that; their tree is made anew with them.
+    pub(crate) fn lay_out(&mut self) {
+        if self.slab.in_order().is_some() {
+            return;
+        }
+        if let Ok(parting) = self.parting(Between(Bound::Unbounded, Bound::Unbounded)) {
+            *self = parting.end(&mut self.slab);
         }
     }
 

@@ -48,7 +48,7 @@ impl<K: Key, V, F: Goes<K, V>, L: Limits> Extraction<'_, K, V, F, L> {
         while let Some(index) = walk.next(words, Way::Up, |index| slab.pair(index).0)? {
             let (key, value) = slab.pair_mut(index);
             if self.goes.goes(key, value) {
-                // (behind the pair the walk finds no way once its key has gone)
+                // (after the pair the walk finds no way once its key has gone)
                 walk.settle(words, Way::Up, |index| slab.pair(index).0)?;
                 return self.map.take_at(index).map(Some);
             }
@@ -193,7 +193,7 @@ impl<K: Key, V> ArtMap<K, V> {
     ///
     /// # Errors
     ///
-    /// Where memory lacks. Those passed are done; that pair stays, with its value as the closure left it, and those behind
+    /// Where memory lacks. Those passed are done; that pair stays, with its value as the closure left it, and those after
     /// it are as they were.
     pub fn try_retain<F: FnMut(&K, &mut V) -> bool>(&mut self, mut keep: F) -> Result<(), AllocError> {
         let goes = Said(|key: &K, value: &mut V| !keep(key, value));

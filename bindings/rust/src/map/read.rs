@@ -237,7 +237,7 @@ impl<K: Key, V> ArtMap<K, V> {
     ///
     /// # Panics
     ///
-    /// As `range` of `BTreeMap`, and also of an empty map: where the start is behind the end, or both are the same key and
+    /// As `range` of `BTreeMap`, and also of an empty map: where the start is after the end, or both are the same key and
     /// excluded.
     pub fn range<Q, R>(&self, range: R) -> Range<'_, K, V>
     where

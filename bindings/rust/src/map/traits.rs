@@ -69,7 +69,7 @@ impl<K: Key + Borrow<Q>, Q: Key + ?Sized, V> Index<&Q> for ArtMap<K, V> {
     }
 }
 
-/// Pairs whose keys ascend behind the greatest one go in many at a time. Where the iterator panics, all that it gave before
+/// Pairs whose keys ascend after the greatest one go in many at a time. Where the iterator panics, all that it gave before
 /// are stored.
 impl<K: NoPrefixes, V> Extend<(K, V)> for ArtMap<K, V> {
     fn extend<I: IntoIterator<Item = (K, V)>>(&mut self, pairs: I) {

@@ -326,7 +326,7 @@ impl<K: Key> ArtSet<K> {
         Ok(ArtSet { map: self.map.try_split_off(key)? })
     }
 
-    /// Stores keys one by one, or many at once where they ascend behind the greatest one.
+    /// Stores keys one by one, or many at once where they ascend after the greatest one.
     ///
     /// ```
     /// assert!(artmap::ArtSet::new().try_extend([vec![1], vec![2]]).is_ok());

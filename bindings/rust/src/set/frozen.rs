@@ -21,7 +21,7 @@ use std::ops::RangeBounds;
 /// ```
 pub struct FrozenSet<K>(FrozenMap<K, ()>);
 
-impl<K> ArtSet<K> {
+impl<K: Key> ArtSet<K> {
     /// Makes it a set that nobody changes, for readers in many threads.
     ///
     /// ```
@@ -259,7 +259,7 @@ impl<K> Clone for FrozenSet<K> {
     }
 }
 
-impl<K> From<ArtSet<K>> for FrozenSet<K> {
+impl<K: Key> From<ArtSet<K>> for FrozenSet<K> {
     fn from(set: ArtSet<K>) -> Self {
         set.freeze()
     }

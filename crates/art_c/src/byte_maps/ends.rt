@@ -6,7 +6,7 @@ ghost use Rattle.art_c.specs.Answers.{Answers, OnlyReads};
 ghost use Rattle.art_c.specs.Calls.{first_with_prefix, IsPairRead, last_with_prefix, pair_above};
 ghost use Rattle.art_c.specs.Calls.{pair_below, pair_of_front};
 ghost use Rattle.art_c.specs.Copies.{rooms};
-ghost use Rattle.art_c.specs.Handles.{bytes_behind};
+ghost use Rattle.art_c.specs.Handles.{byte_map_of};
 
 use crate::calls::reads::{Wanted, pair_of};
 use crate::code::Code;
@@ -26,8 +26,8 @@ pub extern "C" fn bytes_find(
     value_len: &mut usize,
 ) -> u32
     ensures { Answers (OnlyReads (IsPairRead (pair_of_front query.now)))
-        (bytes_behind handle.old) (rooms key_room.old key_len.old value_room.old value_len.old)
-        result (bytes_behind handle.new) (rooms key_room.new key_len.new value_room.new value_len.new) }
+        (byte_map_of handle.old) (rooms key_room.old key_len.old value_room.old value_len.old)
+        result (byte_map_of handle.new) (rooms key_room.new key_len.new value_room.new value_len.new) }
 {
     reading!(alloc, handle, Bytes not Words, |map| {
         give_pair(pair_of(map, Wanted::FrontOf(query)), key_room, key_len, value_room, value_len)
@@ -45,8 +45,8 @@ pub extern "C" fn bytes_first(
     value_len: &mut usize,
 ) -> u32
     ensures { Answers (OnlyReads (IsPairRead first_item))
-        (bytes_behind handle.old) (rooms key_room.old key_len.old value_room.old value_len.old)
-        result (bytes_behind handle.new) (rooms key_room.new key_len.new value_room.new value_len.new) }
+        (byte_map_of handle.old) (rooms key_room.old key_len.old value_room.old value_len.old)
+        result (byte_map_of handle.new) (rooms key_room.new key_len.new value_room.new value_len.new) }
 {
     reading!(alloc, handle, Bytes not Words, |map| {
         give_pair(pair_of(map, Wanted::First), key_room, key_len, value_room, value_len)
@@ -64,8 +64,8 @@ pub extern "C" fn bytes_last(
     value_len: &mut usize,
 ) -> u32
     ensures { Answers (OnlyReads (IsPairRead last_item))
-        (bytes_behind handle.old) (rooms key_room.old key_len.old value_room.old value_len.old)
-        result (bytes_behind handle.new) (rooms key_room.new key_len.new value_room.new value_len.new) }
+        (byte_map_of handle.old) (rooms key_room.old key_len.old value_room.old value_len.old)
+        result (byte_map_of handle.new) (rooms key_room.new key_len.new value_room.new value_len.new) }
 {
     reading!(alloc, handle, Bytes not Words, |map| {
         give_pair(pair_of(map, Wanted::Last), key_room, key_len, value_room, value_len)
@@ -84,8 +84,8 @@ pub extern "C" fn bytes_first_with_prefix(
     value_len: &mut usize,
 ) -> u32
     ensures { Answers (OnlyReads (IsPairRead (first_with_prefix prefix.now)))
-        (bytes_behind handle.old) (rooms key_room.old key_len.old value_room.old value_len.old)
-        result (bytes_behind handle.new) (rooms key_room.new key_len.new value_room.new value_len.new) }
+        (byte_map_of handle.old) (rooms key_room.old key_len.old value_room.old value_len.old)
+        result (byte_map_of handle.new) (rooms key_room.new key_len.new value_room.new value_len.new) }
 {
     reading!(alloc, handle, Bytes not Words, |map| {
         give_pair(pair_of(map, Wanted::FirstWithPrefix(prefix)), key_room, key_len, value_room, value_len)
@@ -104,8 +104,8 @@ pub extern "C" fn bytes_last_with_prefix(
     value_len: &mut usize,
 ) -> u32
     ensures { Answers (OnlyReads (IsPairRead (last_with_prefix prefix.now)))
-        (bytes_behind handle.old) (rooms key_room.old key_len.old value_room.old value_len.old)
-        result (bytes_behind handle.new) (rooms key_room.new key_len.new value_room.new value_len.new) }
+        (byte_map_of handle.old) (rooms key_room.old key_len.old value_room.old value_len.old)
+        result (byte_map_of handle.new) (rooms key_room.new key_len.new value_room.new value_len.new) }
 {
     reading!(alloc, handle, Bytes not Words, |map| {
         give_pair(pair_of(map, Wanted::LastWithPrefix(prefix)), key_room, key_len, value_room, value_len)
@@ -124,8 +124,8 @@ pub extern "C" fn bytes_next(
     value_len: &mut usize,
 ) -> u32
     ensures { Answers (OnlyReads (IsPairRead (pair_above key.now)))
-        (bytes_behind handle.old) (rooms key_room.old key_len.old value_room.old value_len.old)
-        result (bytes_behind handle.new) (rooms key_room.new key_len.new value_room.new value_len.new) }
+        (byte_map_of handle.old) (rooms key_room.old key_len.old value_room.old value_len.old)
+        result (byte_map_of handle.new) (rooms key_room.new key_len.new value_room.new value_len.new) }
 {
     reading!(alloc, handle, Bytes not Words, |map| {
         give_pair(pair_of(map, Wanted::Above(key)), key_room, key_len, value_room, value_len)
@@ -144,8 +144,8 @@ pub extern "C" fn bytes_previous(
     value_len: &mut usize,
 ) -> u32
     ensures { Answers (OnlyReads (IsPairRead (pair_below key.now)))
-        (bytes_behind handle.old) (rooms key_room.old key_len.old value_room.old value_len.old)
-        result (bytes_behind handle.new) (rooms key_room.new key_len.new value_room.new value_len.new) }
+        (byte_map_of handle.old) (rooms key_room.old key_len.old value_room.old value_len.old)
+        result (byte_map_of handle.new) (rooms key_room.new key_len.new value_room.new value_len.new) }
 {
     reading!(alloc, handle, Bytes not Words, |map| {
         give_pair(pair_of(map, Wanted::Below(key)), key_room, key_len, value_room, value_len)

@@ -3,7 +3,7 @@
 
 ghost use Rattle.art_c.specs.Answers.{Answers, Changes, OnlyReads};
 ghost use Rattle.art_c.specs.Calls.{whole};
-ghost use Rattle.art_c.specs.Handles.{bytes_behind};
+ghost use Rattle.art_c.specs.Handles.{byte_map_of};
 ghost use Rattle.art_c.specs.Layouts.{bytes_key_len, bytes_pair, bytes_text_len};
 ghost use Rattle.art_c.specs.Loads.{IsLoaded};
 ghost use Rattle.art_c.specs.Spans.{reach};
@@ -31,8 +31,8 @@ pub extern "C" fn bytes_walk(
     count: &mut usize,
 ) -> u32
     ensures { Answers (OnlyReads (IsWalked whole bytes_pair (reach back from from_key.now to to_key.now)))
-        (bytes_behind handle.old) (many_rooms room.old pairs.old count.old)
-        result (bytes_behind handle.new) (many_rooms room.new pairs.new count.new) }
+        (byte_map_of handle.old) (many_rooms room.old pairs.old count.old)
+        result (byte_map_of handle.new) (many_rooms room.new pairs.new count.new) }
 {
     let span = Span::new(back, from, from_key, to, to_key);
     reading!(alloc, handle, Bytes not Words, |map| walks::walk(map, span, room, pairs, count))
@@ -48,8 +48,8 @@ pub extern "C" fn bytes_load(
     taken: &mut usize,
 ) -> u32
     ensures { Answers (Changes (IsLoaded whole bytes_pair bytes_key_len bytes_text_len bytes.now pairs.now))
-        (bytes_behind handle.old) taken.old
-        result (bytes_behind handle.new) taken.new }
+        (byte_map_of handle.old) taken.old
+        result (byte_map_of handle.new) taken.new }
 {
     changing!(alloc, handle, Bytes not Words, |map| loads::load(map, alloc, bytes, pairs, taken))
 }

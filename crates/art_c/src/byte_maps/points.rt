@@ -4,7 +4,7 @@
 ghost use Rattle.std.specs.Prelude.{◌≡◌};
 ghost use Rattle.art_c.specs.Answers.{Answers, Changes, OnlyReads};
 ghost use Rattle.art_c.specs.Calls.{is_stored, IsBytesPut, IsRemoved, IsValueRead};
-ghost use Rattle.art_c.specs.Handles.{bytes_behind, pairs_or_none, store_behind};
+ghost use Rattle.art_c.specs.Handles.{byte_map_of, pairs_or_none, store_of};
 
 use crate::calls::changes;
 use crate::code::Code;
@@ -16,8 +16,8 @@ use std::alloc::Global;
 /// Puts a pair in.
 #[unsafe(no_mangle)]
 pub extern "C" fn bytes_put(alloc: Global, handle: &mut Handle, key: &[u8], value: &[u8]) -> u32
-    ensures { Answers (Changes (IsBytesPut key.now value.now)) (bytes_behind handle.old) tt
-        result (bytes_behind handle.new) tt }
+    ensures { Answers (Changes (IsBytesPut key.now value.now)) (byte_map_of handle.old) tt
+        result (byte_map_of handle.new) tt }
 {
     changing!(alloc, handle, Bytes not Words, |map| changes::put_bytes(map, alloc, key, value))
 }
@@ -31,8 +31,8 @@ pub extern "C" fn bytes_get(
     room: &mut [u8],
     value_len: &mut usize,
 ) -> u32
-    ensures { Answers (OnlyReads (IsValueRead key.now)) (bytes_behind handle.old) (room.old, value_len.old)
-        result (bytes_behind handle.new) (room.new, value_len.new) }
+    ensures { Answers (OnlyReads (IsValueRead key.now)) (byte_map_of handle.old) (room.old, value_len.old)
+        result (byte_map_of handle.new) (room.new, value_len.new) }
 {
     reading!(alloc, handle, Bytes not Words, |map| give_value(map.get(&SliceKey(key)), room, value_len))
 }
@@ -40,8 +40,8 @@ pub extern "C" fn bytes_get(
 /// Whether a pair has the key.
 #[unsafe(no_mangle)]
 pub extern "C" fn bytes_contains(alloc: Global, handle: &mut Handle, key: &[u8]) -> bool
-    ensures is { result ≡ is_stored key.now (pairs_or_none (bytes_behind handle.old)) }
-    ensures kept { store_behind handle.new ≡ store_behind handle.old }
+    ensures is { result ≡ is_stored key.now (pairs_or_none (byte_map_of handle.old)) }
+    ensures kept { store_of handle.new ≡ store_of handle.old }
 {
     match handle.take(alloc) {
         Some(store) => match &*store {
@@ -62,8 +62,8 @@ pub extern "C" fn bytes_contains(alloc: Global, handle: &mut Handle, key: &[u8])
 /// Takes out the pair with a key.
 #[unsafe(no_mangle)]
 pub extern "C" fn bytes_remove(alloc: Global, handle: &mut Handle, key: &[u8]) -> u32
-    ensures { Answers (Changes (IsRemoved key.now)) (bytes_behind handle.old) tt
-        result (bytes_behind handle.new) tt }
+    ensures { Answers (Changes (IsRemoved key.now)) (byte_map_of handle.old) tt
+        result (byte_map_of handle.new) tt }
 {
     changing!(alloc, handle, Bytes not Words, |map| changes::remove_bytes(map, key))
 }

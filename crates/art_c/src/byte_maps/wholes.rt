@@ -5,10 +5,10 @@ ghost use Rattle.std.specs.Prelude.{◌≡◌, ◌*◌, length, None};
 ghost use Rattle.art_c.specs.Answers.{Answers, Changes, OnlyReads};
 ghost use Rattle.art_c.specs.Calls.{IsAudited, IsNew, IsPrefixRemoved};
 ghost use Rattle.art_c.specs.Codes.{code_number};
-ghost use Rattle.art_c.specs.Handles.{bytes_behind, is_frozen_map, pairs_or_none, store_behind};
+ghost use Rattle.art_c.specs.Handles.{byte_map_of, is_frozen_map, pairs_or_none, store_of};
 ghost use Rattle.art_c.specs.Joins.{IsAppended};
-ghost use Rattle.art_c.specs.Wholes.{IsCleared, GetsCopy, IsFrozen, IsReserved, IsShared, IsShrunk};
-ghost use Rattle.art_c.specs.Wholes.{HasRoomBehind, IsSplitOff, IsThawed, IsTrimmedBehind};
+ghost use Rattle.art_c.specs.Wholes.{IsCleared, IsCompacted, GetsCopy, IsFrozen, IsReserved, IsShared, IsShrunk};
+ghost use Rattle.art_c.specs.Wholes.{HasRoomInStore, IsSplitOff, IsThawed, IsTrimmedStore};
 ghost use Rattle.art_c.specs.declared.code.Code.TheVariants.{Done, NoMemory};
 
 use crate::calls::{changes, counts, joins, wholes};
@@ -20,7 +20,7 @@ use std::alloc::Global;
 /// Makes an empty map in a handle. A map that it had is freed.
 #[unsafe(no_mangle)]
 pub extern "C" fn bytes_new(alloc: Global, handle: &mut Handle) -> u32
-    ensures { IsNew (bytes_behind handle.old) result (bytes_behind handle.new) }
+    ensures { IsNew (byte_map_of handle.old) result (byte_map_of handle.new) }
 {
     wholes::give(alloc, handle, Store::Bytes(wholes::empty(alloc))).number()
 }
@@ -28,7 +28,7 @@ pub extern "C" fn bytes_new(alloc: Global, handle: &mut Handle) -> u32
 /// Frees the map of a handle, if one is made.
 #[unsafe(no_mangle)]
 pub extern "C" fn bytes_free(alloc: Global, handle: &mut Handle)
-    ensures { store_behind handle.new ≡ None }
+    ensures { store_of handle.new ≡ None }
 {
     let _map = handle.take(alloc);
 }
@@ -36,8 +36,8 @@ pub extern "C" fn bytes_free(alloc: Global, handle: &mut Handle)
 /// How many pairs there are.
 #[unsafe(no_mangle)]
 pub extern "C" fn bytes_len(alloc: Global, handle: &mut Handle) -> usize
-    ensures len { result ≡ length (pairs_or_none (bytes_behind handle.old)) }
-    ensures kept { store_behind handle.new ≡ store_behind handle.old }
+    ensures len { result ≡ length (pairs_or_none (byte_map_of handle.old)) }
+    ensures kept { store_of handle.new ≡ store_of handle.old }
 {
     match handle.take(alloc) {
         Some(store) => match &*store {
@@ -58,8 +58,8 @@ pub extern "C" fn bytes_len(alloc: Global, handle: &mut Handle) -> usize
 /// Whether the map is frozen.
 #[unsafe(no_mangle)]
 pub extern "C" fn bytes_is_frozen(alloc: Global, handle: &mut Handle) -> bool
-    ensures is { result ≡ is_frozen_map (bytes_behind handle.old) }
-    ensures kept { store_behind handle.new ≡ store_behind handle.old }
+    ensures is { result ≡ is_frozen_map (byte_map_of handle.old) }
+    ensures kept { store_of handle.new ≡ store_of handle.old }
 {
     match handle.take(alloc) {
         Some(store) => match &*store {
@@ -88,8 +88,8 @@ pub extern "C" fn bytes_remove_prefix(
     prefix: &[u8],
     count: &mut usize,
 ) -> u32
-    ensures { Answers (Changes (IsPrefixRemoved prefix.now)) (bytes_behind handle.old) count.old
-        result (bytes_behind handle.new) count.new }
+    ensures { Answers (Changes (IsPrefixRemoved prefix.now)) (byte_map_of handle.old) count.old
+        result (byte_map_of handle.new) count.new }
 {
     changing!(alloc, handle, Bytes not Words, |map| changes::remove_prefix(map, prefix, count))
 }
@@ -97,8 +97,8 @@ pub extern "C" fn bytes_remove_prefix(
 /// Puts a copy of the map into another handle.
 #[unsafe(no_mangle)]
 pub extern "C" fn bytes_clone(alloc: Global, handle: &mut Handle, to: &mut Handle) -> u32
-    ensures { Answers (OnlyReads GetsCopy) (bytes_behind handle.old) (bytes_behind to.old)
-        result (bytes_behind handle.new) (bytes_behind to.new) }
+    ensures { Answers (OnlyReads GetsCopy) (byte_map_of handle.old) (byte_map_of to.old)
+        result (byte_map_of handle.new) (byte_map_of to.new) }
 {
     reading!(alloc, handle, Bytes not Words, |map| wholes::clone_bytes(alloc, map, to))
 }
@@ -111,8 +111,8 @@ pub extern "C" fn bytes_split_off(
     key: &[u8],
     to: &mut Handle,
 ) -> u32
-    ensures { Answers (Changes (IsSplitOff key.now)) (bytes_behind handle.old) (bytes_behind to.old)
-        result (bytes_behind handle.new) (bytes_behind to.new) }
+    ensures { Answers (Changes (IsSplitOff key.now)) (byte_map_of handle.old) (byte_map_of to.old)
+        result (byte_map_of handle.new) (byte_map_of to.new) }
 {
     changing!(alloc, handle, Bytes not Words, |map| wholes::split_bytes(alloc, map, key, to))
 }
@@ -120,8 +120,8 @@ pub extern "C" fn bytes_split_off(
 /// Moves all pairs of another handle's map into this one, up to the first that is refused.
 #[unsafe(no_mangle)]
 pub extern "C" fn bytes_append(alloc: Global, handle: &mut Handle, other: &mut Handle) -> u32
-    ensures { Answers (Changes IsAppended) (bytes_behind handle.old) (bytes_behind other.old)
-        result (bytes_behind handle.new) (bytes_behind other.new) }
+    ensures { Answers (Changes IsAppended) (byte_map_of handle.old) (byte_map_of other.old)
+        result (byte_map_of handle.new) (byte_map_of other.new) }
 {
     changing!(alloc, handle, Bytes not Words, |map| joins::append_bytes(alloc, map, other))
 }
@@ -129,10 +129,10 @@ pub extern "C" fn bytes_append(alloc: Global, handle: &mut Handle, other: &mut H
 /// Allocates the nodes of so many more insertions.
 #[unsafe(no_mangle)]
 pub extern "C" fn bytes_reserve(alloc: Global, handle: &mut Handle, additional: usize) -> u32
-    ensures pairs { Answers (Changes IsReserved) (bytes_behind handle.old) tt result (bytes_behind handle.new) tt }
-    ensures room { result ≡ code_number Done → HasRoomBehind (2 * additional) (store_behind handle.new) }
+    ensures pairs { Answers (Changes IsReserved) (byte_map_of handle.old) tt result (byte_map_of handle.new) tt }
+    ensures room { result ≡ code_number Done → HasRoomInStore (2 * additional) (store_of handle.new) }
     ensures succeeds { result ≡ code_number NoMemory
-        → HasRoomBehind (2 * additional) (store_behind handle.old) → ⊥ }
+        → HasRoomInStore (2 * additional) (store_of handle.old) → ⊥ }
 {
     changing!(alloc, handle, Bytes not Words, |map| wholes::reserve(map, additional))
 }
@@ -140,16 +140,25 @@ pub extern "C" fn bytes_reserve(alloc: Global, handle: &mut Handle, additional: 
 /// Gives memory back that the nodes don't need.
 #[unsafe(no_mangle)]
 pub extern "C" fn bytes_shrink(alloc: Global, handle: &mut Handle) -> u32
-    ensures pairs { Answers (Changes IsShrunk) (bytes_behind handle.old) tt result (bytes_behind handle.new) tt }
-    ensures trimmed { result ≡ code_number Done → IsTrimmedBehind (store_behind handle.new) }
+    ensures pairs { Answers (Changes IsShrunk) (byte_map_of handle.old) tt result (byte_map_of handle.new) tt }
+    ensures trimmed { result ≡ code_number Done → IsTrimmedStore (store_of handle.new) }
 {
     changing!(alloc, handle, Bytes not Words, |map| wholes::shrink(map))
+}
+
+/// Makes all nodes anew in the order of the keys, and gives memory back that they don't need.
+#[unsafe(no_mangle)]
+pub extern "C" fn bytes_compact(alloc: Global, handle: &mut Handle) -> u32
+    ensures pairs { Answers (Changes IsCompacted) (byte_map_of handle.old) tt result (byte_map_of handle.new) tt }
+    ensures trimmed { result ≡ code_number Done → IsTrimmedStore (store_of handle.new) }
+{
+    changing!(alloc, handle, Bytes not Words, |map| wholes::compact(map))
 }
 
 /// Takes all pairs out, and frees their memory.
 #[unsafe(no_mangle)]
 pub extern "C" fn bytes_clear(alloc: Global, handle: &mut Handle) -> u32
-    ensures { Answers (Changes IsCleared) (bytes_behind handle.old) tt result (bytes_behind handle.new) tt }
+    ensures { Answers (Changes IsCleared) (byte_map_of handle.old) tt result (byte_map_of handle.new) tt }
 {
     changing!(alloc, handle, Bytes not Words, |map| wholes::clear(alloc, map))
 }
@@ -157,7 +166,7 @@ pub extern "C" fn bytes_clear(alloc: Global, handle: &mut Handle) -> u32
 /// Freezes the map: no call changes it from then on.
 #[unsafe(no_mangle)]
 pub extern "C" fn bytes_freeze(alloc: Global, handle: &mut Handle) -> u32
-    ensures { Answers (IsFrozen) (bytes_behind handle.old) tt result (bytes_behind handle.new) tt }
+    ensures { Answers (IsFrozen) (byte_map_of handle.old) tt result (byte_map_of handle.new) tt }
 {
     keeping!(alloc, handle, Bytes not Words, |kept| wholes::freeze(alloc, kept))
 }
@@ -165,7 +174,7 @@ pub extern "C" fn bytes_freeze(alloc: Global, handle: &mut Handle) -> u32
 /// Makes a frozen map one that can be changed, where no other handle has it.
 #[unsafe(no_mangle)]
 pub extern "C" fn bytes_thaw(alloc: Global, handle: &mut Handle) -> u32
-    ensures { Answers (IsThawed) (bytes_behind handle.old) tt result (bytes_behind handle.new) tt }
+    ensures { Answers (IsThawed) (byte_map_of handle.old) tt result (byte_map_of handle.new) tt }
 {
     keeping!(alloc, handle, Bytes not Words, |kept| wholes::thaw(alloc, kept))
 }
@@ -173,17 +182,21 @@ pub extern "C" fn bytes_thaw(alloc: Global, handle: &mut Handle) -> u32
 /// Makes another handle on a frozen map.
 #[unsafe(no_mangle)]
 pub extern "C" fn bytes_share(alloc: Global, handle: &mut Handle, to: &mut Handle) -> u32
-    ensures { Answers (IsShared) (bytes_behind handle.old) (bytes_behind to.old)
-        result (bytes_behind handle.new) (bytes_behind to.new) }
+    ensures { Answers (IsShared) (byte_map_of handle.old) (byte_map_of to.old)
+        result (byte_map_of handle.new) (byte_map_of to.new) }
 {
     keeping!(alloc, handle, Bytes not Words, |kept| wholes::share_bytes(alloc, kept, to))
 }
 
 /// Counts the nodes of the tree.
 #[unsafe(no_mangle)]
-pub extern "C" fn bytes_audit(alloc: Global, handle: &mut Handle, told: &mut NodeCounts) -> u32
-    ensures { Answers (OnlyReads IsAudited) (bytes_behind handle.old) told.old
-        result (bytes_behind handle.new) told.new }
+pub extern "C" fn bytes_audit(
+    alloc: Global,
+    handle: &mut Handle,
+    node_counts: &mut NodeCounts,
+) -> u32
+    ensures { Answers (OnlyReads IsAudited) (byte_map_of handle.old) node_counts.old
+        result (byte_map_of handle.new) node_counts.new }
 {
-    reading!(alloc, handle, Bytes not Words, |map| counts::audit(map, told))
+    reading!(alloc, handle, Bytes not Words, |map| counts::audit(map, node_counts))
 }

@@ -24,7 +24,7 @@ pub(super) fn put<V: Value>(
         (λ was. GoesIn key.now (V.value_of item text.now) map.old.pairs was map.new.pairs)
         (λ code. IsPutRefused key.now map.old.pairs code map.new.pairs) }
 {
-    let Ok(place) = map.place(&SliceKey(key)) else {
+    let Ok(place) = map.find_place(&SliceKey(key)) else {
         return Err(Code::Conflict);
     };
     let Ok(key) = Bytes::copied(alloc, key) else {
@@ -33,7 +33,7 @@ pub(super) fn put<V: Value>(
     let Ok(value) = V::made(alloc, item, text) else {
         return Err(Code::NoMemory);
     };
-    match map.put_at(place, key, value) {
+    match map.insert_at(place, key, value) {
         Ok(was) => Ok(was),
         Err(_) => Err(Code::NoMemory),
     }

@@ -1,14 +1,14 @@
 //! The nodes of a map are counted.
 ghost use Rattle.std.specs.Prelude.{◌≡◌};
-ghost use Rattle.art_c.specs.Calls.{as_told, IsAudited};
+ghost use Rattle.art_c.specs.Calls.{as_node_counts, IsAudited};
 
 use crate::code::Code;
 use crate::handle::Map;
 use crate::nodes::NodeCounts;
 use art_walks::WellFormedTreeStats;
 
-fn told_of(stats: WellFormedTreeStats) -> NodeCounts
-    ensures { result ≡ as_told stats }
+fn counts_of(stats: WellFormedTreeStats) -> NodeCounts
+    ensures { result ≡ as_node_counts stats }
 {
     NodeCounts {
         nodes4: stats.num_node4,
@@ -20,12 +20,12 @@ fn told_of(stats: WellFormedTreeStats) -> NodeCounts
     }
 }
 
-pub(crate) fn audit<V>(map: &Map<V>, told: &mut NodeCounts) -> Code
-    ensures { IsAudited map.now.pairs told.old result told.new }
+pub(crate) fn audit<V>(map: &Map<V>, node_counts: &mut NodeCounts) -> Code
+    ensures { IsAudited map.now.pairs node_counts.old result node_counts.new }
 {
     match map.audit() {
         Ok(stats) => {
-            *told = told_of(stats);
+            *node_counts = counts_of(stats);
             Code::Done
         }
         Err(_) => Code::NoMemory,

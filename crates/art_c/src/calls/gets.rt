@@ -28,19 +28,19 @@ pub(crate) fn get_many(
     keys: &[u8],
     pairs: &mut [WordsPair],
     found: &mut [u8],
-    told: &mut usize,
+    looked_up: &mut usize,
 ) -> Code
-    ensures { IsManyGot keys.now map.now.pairs ((pairs.old, found.old), told.old)
-        result ((pairs.new, found.new), told.new) }
+    ensures { IsManyGot keys.now map.now.pairs ((pairs.old, found.old), looked_up.old)
+        result ((pairs.new, found.new), looked_up.new) }
 {
     let mut rest = keys;
     for at in 0..pairs.len() {
-        *told = at;
+        *looked_up = at;
         if at == found.len() {
             return Code::NoRoom;
         }
         let pair = pairs[at];
-        let Some((key, behind)) = rest.split_at_checked(pair.key_len) else {
+        let Some((key, following)) = rest.split_at_checked(pair.key_len) else {
             return Code::CutOff;
         };
         let (word, flag) = word_or(map, key, pair.word);
@@ -49,8 +49,8 @@ pub(crate) fn get_many(
             word,
         };
         found[at] = flag;
-        rest = behind;
+        rest = following;
     }
-    *told = pairs.len();
+    *looked_up = pairs.len();
     Code::Done
 }

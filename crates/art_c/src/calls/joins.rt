@@ -1,6 +1,6 @@
 //! All pairs of a map move into another.
 ghost use Rattle.std.specs.Prelude.{◌≡◌, MatchOption};
-ghost use Rattle.art_c.specs.Handles.{bytes_behind, words_behind};
+ghost use Rattle.art_c.specs.Handles.{byte_map_of, word_map_of};
 ghost use Rattle.art_c.specs.Joins.{ArePairsMoved, IsAppended, MoveEnds, MovesFirst};
 
 use crate::bytes::Bytes;
@@ -19,7 +19,7 @@ fn move_first<V: Drop>(map: &mut Map<V>, other: &mut Map<V>) -> Option<Code>
     let Some((key, _value)) = other.first_key_value() else {
         return Some(Code::Done);
     };
-    let Ok(_) = map.place(key) else {
+    let Ok(_) = map.find_place(key) else {
         return Some(Code::Conflict);
     };
     let Ok(()) = map.reserve(1) else {
@@ -54,7 +54,7 @@ fn append<V: Drop>(map: &mut Map<V>, other: &mut Map<V>) -> Code
 
 #[tactic(auto, using(crate::proofs::Answered::none_of_words))]
 pub(crate) fn append_words(alloc: Global, map: &mut Map<u64>, other: &mut Handle) -> Code
-    ensures { IsAppended map.old.pairs (words_behind other.old) result map.new.pairs (words_behind other.new) }
+    ensures { IsAppended map.old.pairs (word_map_of other.old) result map.new.pairs (word_map_of other.new) }
 {
     match other.take(alloc) {
         Some(mut store) => match &mut *store {
@@ -78,7 +78,7 @@ pub(crate) fn append_words(alloc: Global, map: &mut Map<u64>, other: &mut Handle
 
 #[tactic(auto, using(crate::proofs::Answered::none_of_bytes))]
 pub(crate) fn append_bytes(alloc: Global, map: &mut Map<Bytes>, other: &mut Handle) -> Code
-    ensures { IsAppended map.old.pairs (bytes_behind other.old) result map.new.pairs (bytes_behind other.new) }
+    ensures { IsAppended map.old.pairs (byte_map_of other.old) result map.new.pairs (byte_map_of other.new) }
 {
     match other.take(alloc) {
         Some(mut store) => match &mut *store {

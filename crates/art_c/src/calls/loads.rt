@@ -28,9 +28,9 @@ fn is_above(before: Option<&[u8]>, key: &[u8]) -> bool
 /// A map in the making.
 type Builder<V> = TreeMapBuilder<Bytes, V, 16>;
 
-/// Puts a pair in, behind the others where its key is above theirs. It tells whether it did. It did not where a stored
+/// Puts a pair in, after the others where its key is above theirs. It tells whether it did. It did not where a stored
 /// key blocks the key, or there is no memory.
-fn put_behind<V: Value>(
+fn put_after<V: Value>(
     builder: &mut Builder<V>,
     alloc: Global,
     key: &[u8],
@@ -70,16 +70,16 @@ fn put_rising<'a, V: Value>(
     let (mut rest, mut before) = (bytes, None);
     for (at, item) in items.iter().enumerate() {
         *taken = at;
-        let Some((key, text, behind)) = V::parts(*item, rest) else {
+        let Some((key, text, following)) = V::parts(*item, rest) else {
             return Ok(Code::CutOff);
         };
         if !is_above(before, key) {
             return Ok(Code::NotAbove);
         }
-        if !put_behind(builder, alloc, key, *item, text) {
+        if !put_after(builder, alloc, key, *item, text) {
             return Err(key);
         }
-        (rest, before) = (behind, Some(key));
+        (rest, before) = (following, Some(key));
     }
     *taken = items.len();
     Ok(Code::Done)
@@ -89,13 +89,13 @@ fn put_rising<'a, V: Value>(
 fn refusal<V: Drop>(map: &Map<V>, key: &[u8]) -> Code
     ensures { IsPutRefused key.now map.now.pairs result map.now.pairs }
 {
-    match map.place(&SliceKey(key)) {
+    match map.find_place(&SliceKey(key)) {
         Ok(_) => Code::NoMemory,
         Err(_) => Code::Conflict,
     }
 }
 
-/// Builds along the last leaf, so as long as keys go behind those of the map no place is looked for.
+/// Builds along the last leaf, so as long as keys go after those of the map no place is looked for.
 pub(crate) fn load<V: Value>(
     map: &mut Map<V>,
     alloc: Global,

@@ -4,9 +4,9 @@
 ghost use Rattle.std.specs.Prelude.{◌≡◌, ◌⊎◌, ◌*◌, [], MatchResult, true};
 ghost use Rattle.art_arena.specs.arena.Arena.{HasRoom, IsTrimmed};
 ghost use Rattle.art_c.specs.Codes.{code_number};
-ghost use Rattle.art_c.specs.Handles.{bytes_behind, is_shut, own, state_of, store_behind, words_behind};
-ghost use Rattle.art_c.specs.Wholes.{IsCleared, GetsCopy, IsFrozen, IsGiven, IsGivenStore, IsReserved, IsShared};
-ghost use Rattle.art_c.specs.Wholes.{IsSharedOf, IsShrunk, IsSplitOff, IsThawed};
+ghost use Rattle.art_c.specs.Handles.{byte_map_of, is_shut, own, state_of, store_of, word_map_of};
+ghost use Rattle.art_c.specs.Wholes.{IsCleared, IsCompacted, GetsCopy, IsFrozen, IsGiven, IsGivenStore, IsReserved};
+ghost use Rattle.art_c.specs.Wholes.{IsShared, IsSharedOf, IsShrunk, IsSplitOff, IsThawed};
 ghost use Rattle.art_c.specs.declared.code.Code.TheVariants.{Done, NoMemory};
 
 use crate::bytes::Bytes;
@@ -20,7 +20,7 @@ use std::sync::Arc;
 
 /// Gives a handle this map, in the place of the one that it has.
 pub(crate) fn give(alloc: Global, to: &mut Handle, store: Store) -> Code
-    ensures { IsGivenStore store (store_behind to.old) result (store_behind to.new) }
+    ensures { IsGivenStore store (store_of to.old) result (store_of to.new) }
 {
     match Box::new(alloc, store) {
         Ok(store) => {
@@ -42,7 +42,7 @@ pub(crate) fn empty<V: Drop>(alloc: Global) -> Kept<V>
 }
 
 pub(crate) fn clone_words(alloc: Global, map: &Map<u64>, to: &mut Handle) -> Code
-    ensures { GetsCopy map.now.pairs (words_behind to.old) result (words_behind to.new) }
+    ensures { GetsCopy map.now.pairs (word_map_of to.old) result (word_map_of to.new) }
 {
     match map.clone() {
         Ok(map) => give(alloc, to, Store::Words(Kept::Own(Owned { map }))),
@@ -51,7 +51,7 @@ pub(crate) fn clone_words(alloc: Global, map: &Map<u64>, to: &mut Handle) -> Cod
 }
 
 pub(crate) fn clone_bytes(alloc: Global, map: &Map<Bytes>, to: &mut Handle) -> Code
-    ensures { GetsCopy map.now.pairs (bytes_behind to.old) result (bytes_behind to.new) }
+    ensures { GetsCopy map.now.pairs (byte_map_of to.old) result (byte_map_of to.new) }
 {
     match map.clone() {
         Ok(map) => give(alloc, to, Store::Bytes(Kept::Own(Owned { map }))),
@@ -61,7 +61,7 @@ pub(crate) fn clone_bytes(alloc: Global, map: &Map<Bytes>, to: &mut Handle) -> C
 
 /// Moves the pairs from a key on into a map of their own. The box that takes them is allocated first.
 pub(crate) fn split_words(alloc: Global, map: &mut Map<u64>, key: &[u8], to: &mut Handle) -> Code
-    ensures { IsSplitOff key.now map.old.pairs (words_behind to.old) result map.new.pairs (words_behind to.new) }
+    ensures { IsSplitOff key.now map.old.pairs (word_map_of to.old) result map.new.pairs (word_map_of to.new) }
 {
     let Ok(mut store) = Box::new(alloc, Store::Words(empty(alloc))) else {
         return Code::NoMemory;
@@ -78,7 +78,7 @@ pub(crate) fn split_words(alloc: Global, map: &mut Map<u64>, key: &[u8], to: &mu
 }
 
 pub(crate) fn split_bytes(alloc: Global, map: &mut Map<Bytes>, key: &[u8], to: &mut Handle) -> Code
-    ensures { IsSplitOff key.now map.old.pairs (bytes_behind to.old) result map.new.pairs (bytes_behind to.new) }
+    ensures { IsSplitOff key.now map.old.pairs (byte_map_of to.old) result map.new.pairs (byte_map_of to.new) }
 {
     let Ok(mut store) = Box::new(alloc, Store::Bytes(empty(alloc))) else {
         return Code::NoMemory;
@@ -113,6 +113,17 @@ pub(crate) fn shrink<V: Drop>(map: &mut Map<V>) -> Code
     Code::Done
 }
 
+pub(crate) fn compact<V: Drop>(map: &mut Map<V>) -> Code
+    ensures pairs { IsCompacted map.old.pairs tt result map.new.pairs tt }
+    ensures trimmed { result ≡ Done → IsTrimmed map.new.nodes }
+    ensures kept { result ≡ NoMemory → map.new ≡ map.old }
+{
+    match map.compact() {
+        Ok(()) => Code::Done,
+        Err(_) => Code::NoMemory,
+    }
+}
+
 pub(crate) fn clear<V: Drop>(alloc: Global, map: &mut Map<V>) -> Code
     ensures { IsCleared map.old.pairs tt result map.new.pairs tt }
 {
@@ -120,11 +131,20 @@ pub(crate) fn clear<V: Drop>(alloc: Global, map: &mut Map<V>) -> Code
     Code::Done
 }
 
+/// The map with its nodes in the order of the keys, where there is memory for that, else as it is.
+fn compacted<V: Drop>(owned: Owned<V>) -> Owned<V>
+    ensures { result.map.pairs ≡ owned.map.pairs }
+{
+    let mut owned = owned;
+    let _code = compact(&mut owned.map);
+    owned
+}
+
 pub(crate) fn freeze<V: Drop>(alloc: Global, kept: &mut Kept<V>) -> Code
     ensures { IsFrozen (state_of kept.old) tt result (state_of kept.new) tt }
 {
     match mem::replace(kept, empty(alloc)) {
-        Kept::Own(owned) => match Arc::new(alloc, owned) {
+        Kept::Own(owned) => match Arc::new(alloc, compacted(owned)) {
             Ok(shared) => {
                 *kept = Kept::Frozen(shared);
                 Code::Done
@@ -177,7 +197,7 @@ fn shared_of<V: Drop>(kept: &Kept<V>) -> Result<Kept<V>, Code>
 }
 
 pub(crate) fn share_words(alloc: Global, kept: &Kept<u64>, to: &mut Handle) -> Code
-    ensures { IsShared (state_of kept.now) (words_behind to.old) result (state_of kept.now) (words_behind to.new) }
+    ensures { IsShared (state_of kept.now) (word_map_of to.old) result (state_of kept.now) (word_map_of to.new) }
 {
     match shared_of(kept) {
         Ok(other) => give(alloc, to, Store::Words(other)),
@@ -186,7 +206,7 @@ pub(crate) fn share_words(alloc: Global, kept: &Kept<u64>, to: &mut Handle) -> C
 }
 
 pub(crate) fn share_bytes(alloc: Global, kept: &Kept<Bytes>, to: &mut Handle) -> Code
-    ensures { IsShared (state_of kept.now) (bytes_behind to.old) result (state_of kept.now) (bytes_behind to.new) }
+    ensures { IsShared (state_of kept.now) (byte_map_of to.old) result (state_of kept.now) (byte_map_of to.new) }
 {
     match shared_of(kept) {
         Ok(other) => give(alloc, to, Store::Bytes(other)),

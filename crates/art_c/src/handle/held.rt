@@ -8,7 +8,7 @@ use std::alloc::Global;
 use std::marker::{Model, Send};
 use std::ptr::null_mut;
 
-/// A map's box behind a pointer, or nothing.
+/// A map's box under a pointer, or nothing.
 #[repr(C)]
 #[derive(Drop)]
 pub struct Held {
@@ -20,7 +20,7 @@ impl Model for Held {
     ghost also_owns = { λ h. held_owns store_row h.at h.store };
 }
 
-// What lies behind the pointer is the handle's own, or is never changed: it may go to another thread with it.
+// What the pointer leads to is the handle's own, or is never changed: it may go to another thread with it.
 unsafe impl Send for Held {}
 
 impl Held {

@@ -1,6 +1,6 @@
 //! How a handle is made and opened.
 ghost use Rattle.std.specs.Prelude.{◌≡◌, Some, None, option_map};
-ghost use Rattle.art_c.specs.Handles.{store_behind};
+ghost use Rattle.art_c.specs.Handles.{store_of};
 
 use super::held::Held;
 use super::loose::Loose;
@@ -10,7 +10,7 @@ use std::alloc::Global;
 impl Handle {
     // A handle with no map.
     pub(crate) fn empty() -> Handle
-        ensures { store_behind result ≡ None }
+        ensures { store_of result ≡ None }
     {
         Handle {
             held: Held::none(),
@@ -20,7 +20,7 @@ impl Handle {
 
     // A handle of this map.
     pub(crate) fn of(store: Box<Store>) -> Handle
-        ensures { store_behind result ≡ Some store.value }
+        ensures { store_of result ≡ Some store.value }
     {
         Handle {
             held: Held::of(Loose::of(store)),
@@ -30,7 +30,7 @@ impl Handle {
 
     // The map, if one is made.
     fn into_store(self, alloc: Global) -> Option<Box<Store>>
-        ensures { store_behind self ≡ option_map (λ store. store.value) result }
+        ensures { store_of self ≡ option_map (λ store. store.value) result }
     {
         if self.is_made {
             Some(self.held.into_loose(alloc).into_box())
@@ -41,8 +41,8 @@ impl Handle {
 
     // Takes the map out, if one is made. The handle has none then.
     pub(crate) fn take(&mut self, alloc: Global) -> Option<Box<Store>>
-        ensures map { store_behind self.old ≡ option_map (λ store. store.value) result }
-        ensures left { store_behind self.new ≡ None }
+        ensures map { store_of self.old ≡ option_map (λ store. store.value) result }
+        ensures left { store_of self.new ≡ None }
     {
         std::mem::replace(self, Handle::empty()).into_store(alloc)
     }

@@ -1,4 +1,4 @@
-//! What lies behind a handle.
+//! What a handle has.
 use super::kept::Kept;
 use crate::bytes::Bytes;
 

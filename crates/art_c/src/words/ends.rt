@@ -3,14 +3,14 @@
 
 ghost use Rattle.art_map.specs.Contents.{first_item, last_item};
 ghost use Rattle.art_c.specs.Answers.{Answers, OnlyReads};
-ghost use Rattle.art_c.specs.Calls.{first_with_prefix, IsFrontRead, IsPairsWordRead, IsWordPairRead};
+ghost use Rattle.art_c.specs.Calls.{first_with_prefix, IsLenWordRead, IsPairsWordRead, IsWordPairRead};
 ghost use Rattle.art_c.specs.Calls.{last_with_prefix, pair_above, pair_below, pair_of_front};
 ghost use Rattle.art_c.specs.Copies.{key_room};
-ghost use Rattle.art_c.specs.Handles.{words_behind};
+ghost use Rattle.art_c.specs.Handles.{word_map_of};
 
 use crate::calls::reads::{Wanted, pair_of};
 use crate::code::Code;
-use crate::copies::{give_front, give_pairs_word, give_word_pair};
+use crate::copies::{give_len_word, give_pairs_word, give_word_pair};
 use crate::handle::{Handle, Store, reading};
 use std::alloc::Global;
 
@@ -23,12 +23,12 @@ pub extern "C" fn words_find(
     key_len: &mut usize,
     word: &mut u64,
 ) -> u32
-    ensures { Answers (OnlyReads (IsFrontRead (pair_of_front query.now)))
-        (words_behind handle.old) (key_len.old, word.old)
-        result (words_behind handle.new) (key_len.new, word.new) }
+    ensures { Answers (OnlyReads (IsLenWordRead (pair_of_front query.now)))
+        (word_map_of handle.old) (key_len.old, word.old)
+        result (word_map_of handle.new) (key_len.new, word.new) }
 {
     reading!(alloc, handle, Words not Bytes, |map| {
-        give_front(pair_of(map, Wanted::FrontOf(query)), key_len, word)
+        give_len_word(pair_of(map, Wanted::FrontOf(query)), key_len, word)
     })
 }
 
@@ -42,8 +42,8 @@ pub extern "C" fn words_first(
     word: &mut u64,
 ) -> u32
     ensures { Answers (OnlyReads (IsWordPairRead first_item))
-        (words_behind handle.old) (key_room room.old key_len.old word.old)
-        result (words_behind handle.new) (key_room room.new key_len.new word.new) }
+        (word_map_of handle.old) (key_room room.old key_len.old word.old)
+        result (word_map_of handle.new) (key_room room.new key_len.new word.new) }
 {
     reading!(alloc, handle, Words not Bytes, |map| {
         give_word_pair(pair_of(map, Wanted::First), room, key_len, word)
@@ -60,8 +60,8 @@ pub extern "C" fn words_last(
     word: &mut u64,
 ) -> u32
     ensures { Answers (OnlyReads (IsWordPairRead last_item))
-        (words_behind handle.old) (key_room room.old key_len.old word.old)
-        result (words_behind handle.new) (key_room room.new key_len.new word.new) }
+        (word_map_of handle.old) (key_room room.old key_len.old word.old)
+        result (word_map_of handle.new) (key_room room.new key_len.new word.new) }
 {
     reading!(alloc, handle, Words not Bytes, |map| {
         give_word_pair(pair_of(map, Wanted::Last), room, key_len, word)
@@ -79,8 +79,8 @@ pub extern "C" fn words_first_with_prefix(
     word: &mut u64,
 ) -> u32
     ensures { Answers (OnlyReads (IsWordPairRead (first_with_prefix prefix.now)))
-        (words_behind handle.old) (key_room room.old key_len.old word.old)
-        result (words_behind handle.new) (key_room room.new key_len.new word.new) }
+        (word_map_of handle.old) (key_room room.old key_len.old word.old)
+        result (word_map_of handle.new) (key_room room.new key_len.new word.new) }
 {
     reading!(alloc, handle, Words not Bytes, |map| {
         give_word_pair(pair_of(map, Wanted::FirstWithPrefix(prefix)), room, key_len, word)
@@ -98,8 +98,8 @@ pub extern "C" fn words_last_with_prefix(
     word: &mut u64,
 ) -> u32
     ensures { Answers (OnlyReads (IsWordPairRead (last_with_prefix prefix.now)))
-        (words_behind handle.old) (key_room room.old key_len.old word.old)
-        result (words_behind handle.new) (key_room room.new key_len.new word.new) }
+        (word_map_of handle.old) (key_room room.old key_len.old word.old)
+        result (word_map_of handle.new) (key_room room.new key_len.new word.new) }
 {
     reading!(alloc, handle, Words not Bytes, |map| {
         give_word_pair(pair_of(map, Wanted::LastWithPrefix(prefix)), room, key_len, word)
@@ -117,8 +117,8 @@ pub extern "C" fn words_next(
     word: &mut u64,
 ) -> u32
     ensures { Answers (OnlyReads (IsWordPairRead (pair_above key.now)))
-        (words_behind handle.old) (key_room room.old key_len.old word.old)
-        result (words_behind handle.new) (key_room room.new key_len.new word.new) }
+        (word_map_of handle.old) (key_room room.old key_len.old word.old)
+        result (word_map_of handle.new) (key_room room.new key_len.new word.new) }
 {
     reading!(alloc, handle, Words not Bytes, |map| {
         give_word_pair(pair_of(map, Wanted::Above(key)), room, key_len, word)
@@ -136,8 +136,8 @@ pub extern "C" fn words_previous(
     word: &mut u64,
 ) -> u32
     ensures { Answers (OnlyReads (IsWordPairRead (pair_below key.now)))
-        (words_behind handle.old) (key_room room.old key_len.old word.old)
-        result (words_behind handle.new) (key_room room.new key_len.new word.new) }
+        (word_map_of handle.old) (key_room room.old key_len.old word.old)
+        result (word_map_of handle.new) (key_room room.new key_len.new word.new) }
 {
     reading!(alloc, handle, Words not Bytes, |map| {
         give_word_pair(pair_of(map, Wanted::Below(key)), room, key_len, word)
@@ -147,8 +147,8 @@ pub extern "C" fn words_previous(
 /// Tells the word of the pair with the least key.
 #[unsafe(no_mangle)]
 pub extern "C" fn words_first_word(alloc: Global, handle: &mut Handle, word: &mut u64) -> u32
-    ensures { Answers (OnlyReads (IsPairsWordRead first_item)) (words_behind handle.old) word.old
-        result (words_behind handle.new) word.new }
+    ensures { Answers (OnlyReads (IsPairsWordRead first_item)) (word_map_of handle.old) word.old
+        result (word_map_of handle.new) word.new }
 {
     reading!(alloc, handle, Words not Bytes, |map| give_pairs_word(pair_of(map, Wanted::First), word))
 }
@@ -156,8 +156,8 @@ pub extern "C" fn words_first_word(alloc: Global, handle: &mut Handle, word: &mu
 /// Tells the word of the pair with the greatest key.
 #[unsafe(no_mangle)]
 pub extern "C" fn words_last_word(alloc: Global, handle: &mut Handle, word: &mut u64) -> u32
-    ensures { Answers (OnlyReads (IsPairsWordRead last_item)) (words_behind handle.old) word.old
-        result (words_behind handle.new) word.new }
+    ensures { Answers (OnlyReads (IsPairsWordRead last_item)) (word_map_of handle.old) word.old
+        result (word_map_of handle.new) word.new }
 {
     reading!(alloc, handle, Words not Bytes, |map| give_pairs_word(pair_of(map, Wanted::Last), word))
 }
@@ -170,8 +170,8 @@ pub extern "C" fn words_first_word_with_prefix(
     prefix: &[u8],
     word: &mut u64,
 ) -> u32
-    ensures { Answers (OnlyReads (IsPairsWordRead (first_with_prefix prefix.now))) (words_behind handle.old) word.old
-        result (words_behind handle.new) word.new }
+    ensures { Answers (OnlyReads (IsPairsWordRead (first_with_prefix prefix.now))) (word_map_of handle.old) word.old
+        result (word_map_of handle.new) word.new }
 {
     reading!(alloc, handle, Words not Bytes, |map| {
         give_pairs_word(pair_of(map, Wanted::FirstWithPrefix(prefix)), word)
@@ -186,8 +186,8 @@ pub extern "C" fn words_last_word_with_prefix(
     prefix: &[u8],
     word: &mut u64,
 ) -> u32
-    ensures { Answers (OnlyReads (IsPairsWordRead (last_with_prefix prefix.now))) (words_behind handle.old) word.old
-        result (words_behind handle.new) word.new }
+    ensures { Answers (OnlyReads (IsPairsWordRead (last_with_prefix prefix.now))) (word_map_of handle.old) word.old
+        result (word_map_of handle.new) word.new }
 {
     reading!(alloc, handle, Words not Bytes, |map| {
         give_pairs_word(pair_of(map, Wanted::LastWithPrefix(prefix)), word)
@@ -202,8 +202,8 @@ pub extern "C" fn words_next_word(
     key: &[u8],
     word: &mut u64,
 ) -> u32
-    ensures { Answers (OnlyReads (IsPairsWordRead (pair_above key.now))) (words_behind handle.old) word.old
-        result (words_behind handle.new) word.new }
+    ensures { Answers (OnlyReads (IsPairsWordRead (pair_above key.now))) (word_map_of handle.old) word.old
+        result (word_map_of handle.new) word.new }
 {
     reading!(alloc, handle, Words not Bytes, |map| give_pairs_word(pair_of(map, Wanted::Above(key)), word))
 }
@@ -216,8 +216,8 @@ pub extern "C" fn words_previous_word(
     key: &[u8],
     word: &mut u64,
 ) -> u32
-    ensures { Answers (OnlyReads (IsPairsWordRead (pair_below key.now))) (words_behind handle.old) word.old
-        result (words_behind handle.new) word.new }
+    ensures { Answers (OnlyReads (IsPairsWordRead (pair_below key.now))) (word_map_of handle.old) word.old
+        result (word_map_of handle.new) word.new }
 {
     reading!(alloc, handle, Words not Bytes, |map| give_pairs_word(pair_of(map, Wanted::Below(key)), word))
 }

@@ -3,7 +3,7 @@
 
 ghost use Rattle.art_c.specs.Answers.{Answers, Changes, OnlyReads};
 ghost use Rattle.art_c.specs.Gets.{IsManyGot};
-ghost use Rattle.art_c.specs.Handles.{words_behind};
+ghost use Rattle.art_c.specs.Handles.{word_map_of};
 ghost use Rattle.art_c.specs.Layouts.{no_text, word_key_len, word_text_len, words_pair};
 ghost use Rattle.art_c.specs.Loads.{IsLoaded};
 ghost use Rattle.art_c.specs.Prefixes.{IsPrefixTaken};
@@ -32,8 +32,8 @@ pub extern "C" fn words_walk(
     count: &mut usize,
 ) -> u32
     ensures { Answers (OnlyReads (IsWalked no_text words_pair (reach back from from_key.now to to_key.now)))
-        (words_behind handle.old) (many_rooms room.old pairs.old count.old)
-        result (words_behind handle.new) (many_rooms room.new pairs.new count.new) }
+        (word_map_of handle.old) (many_rooms room.old pairs.old count.old)
+        result (word_map_of handle.new) (many_rooms room.new pairs.new count.new) }
 {
     let span = Span::new(back, from, from_key, to, to_key);
     reading!(alloc, handle, Words not Bytes, |map| walks::walk(map, span, room, pairs, count))
@@ -53,8 +53,8 @@ pub extern "C" fn words_walk_words(
     count: &mut usize,
 ) -> u32
     ensures { Answers (OnlyReads (IsWordsWalked (reach back from from_key.now to to_key.now)))
-        (words_behind handle.old) (words.old, count.old)
-        result (words_behind handle.new) (words.new, count.new) }
+        (word_map_of handle.old) (words.old, count.old)
+        result (word_map_of handle.new) (words.new, count.new) }
 {
     let span = Span::new(back, from, from_key, to, to_key);
     reading!(alloc, handle, Words not Bytes, |map| walks::walk_words(map, span, words, count))
@@ -70,8 +70,8 @@ pub extern "C" fn words_load(
     taken: &mut usize,
 ) -> u32
     ensures { Answers (Changes (IsLoaded no_text words_pair word_key_len word_text_len keys.now pairs.now))
-        (words_behind handle.old) taken.old
-        result (words_behind handle.new) taken.new }
+        (word_map_of handle.old) taken.old
+        result (word_map_of handle.new) taken.new }
 {
     changing!(alloc, handle, Words not Bytes, |map| loads::load(map, alloc, keys, pairs, taken))
 }
@@ -84,13 +84,13 @@ pub extern "C" fn words_get_many(
     keys: &[u8],
     pairs: &mut [WordsPair],
     found: &mut [u8],
-    told: &mut usize,
+    looked_up: &mut usize,
 ) -> u32
     ensures { Answers (OnlyReads (IsManyGot keys.now))
-        (words_behind handle.old) ((pairs.old, found.old), told.old)
-        result (words_behind handle.new) ((pairs.new, found.new), told.new) }
+        (word_map_of handle.old) ((pairs.old, found.old), looked_up.old)
+        result (word_map_of handle.new) ((pairs.new, found.new), looked_up.new) }
 {
-    reading!(alloc, handle, Words not Bytes, |map| gets::get_many(map, keys, pairs, found, told))
+    reading!(alloc, handle, Words not Bytes, |map| gets::get_many(map, keys, pairs, found, looked_up))
 }
 
 /// Takes out the first pairs whose keys begin with a prefix, and tells their words.
@@ -102,8 +102,8 @@ pub extern "C" fn words_take_prefix(
     words: &mut [u64],
     count: &mut usize,
 ) -> u32
-    ensures { Answers (Changes (IsPrefixTaken prefix.now)) (words_behind handle.old) (words.old, count.old)
-        result (words_behind handle.new) (words.new, count.new) }
+    ensures { Answers (Changes (IsPrefixTaken prefix.now)) (word_map_of handle.old) (words.old, count.old)
+        result (word_map_of handle.new) (words.new, count.new) }
 {
     changing!(alloc, handle, Words not Bytes, |map| prefixes::take_prefix(map, prefix, words, count))
 }

@@ -4,7 +4,7 @@
 ghost use Rattle.std.specs.Prelude.{◌≡◌};
 ghost use Rattle.art_c.specs.Answers.{Answers, Changes, OnlyReads};
 ghost use Rattle.art_c.specs.Calls.{is_stored, IsWordPut, IsWordRead, IsWordRemoved};
-ghost use Rattle.art_c.specs.Handles.{pairs_or_none, store_behind, words_behind};
+ghost use Rattle.art_c.specs.Handles.{pairs_or_none, store_of, word_map_of};
 
 use crate::calls::changes;
 use crate::code::Code;
@@ -22,8 +22,8 @@ pub extern "C" fn words_put(
     word: u64,
     old: &mut u64,
 ) -> u32
-    ensures { Answers (Changes (IsWordPut key.now word)) (words_behind handle.old) old.old
-        result (words_behind handle.new) old.new }
+    ensures { Answers (Changes (IsWordPut key.now word)) (word_map_of handle.old) old.old
+        result (word_map_of handle.new) old.new }
 {
     changing!(alloc, handle, Words not Bytes, |map| changes::put_word(map, alloc, key, word, old))
 }
@@ -31,8 +31,8 @@ pub extern "C" fn words_put(
 /// Tells the word of a key.
 #[unsafe(no_mangle)]
 pub extern "C" fn words_get(alloc: Global, handle: &mut Handle, key: &[u8], word: &mut u64) -> u32
-    ensures { Answers (OnlyReads (IsWordRead key.now)) (words_behind handle.old) word.old
-        result (words_behind handle.new) word.new }
+    ensures { Answers (OnlyReads (IsWordRead key.now)) (word_map_of handle.old) word.old
+        result (word_map_of handle.new) word.new }
 {
     reading!(alloc, handle, Words not Bytes, |map| give_word(map.get(&SliceKey(key)), word))
 }
@@ -40,8 +40,8 @@ pub extern "C" fn words_get(alloc: Global, handle: &mut Handle, key: &[u8], word
 /// Whether a pair has the key.
 #[unsafe(no_mangle)]
 pub extern "C" fn words_contains(alloc: Global, handle: &mut Handle, key: &[u8]) -> bool
-    ensures is { result ≡ is_stored key.now (pairs_or_none (words_behind handle.old)) }
-    ensures kept { store_behind handle.new ≡ store_behind handle.old }
+    ensures is { result ≡ is_stored key.now (pairs_or_none (word_map_of handle.old)) }
+    ensures kept { store_of handle.new ≡ store_of handle.old }
 {
     match handle.take(alloc) {
         Some(store) => match &*store {
@@ -67,8 +67,8 @@ pub extern "C" fn words_remove(
     key: &[u8],
     word: &mut u64,
 ) -> u32
-    ensures { Answers (Changes (IsWordRemoved key.now)) (words_behind handle.old) word.old
-        result (words_behind handle.new) word.new }
+    ensures { Answers (Changes (IsWordRemoved key.now)) (word_map_of handle.old) word.old
+        result (word_map_of handle.new) word.new }
 {
     changing!(alloc, handle, Words not Bytes, |map| changes::remove_word(map, key, word))
 }

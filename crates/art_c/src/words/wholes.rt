@@ -5,10 +5,10 @@ ghost use Rattle.std.specs.Prelude.{◌≡◌, ◌*◌, length, None};
 ghost use Rattle.art_c.specs.Answers.{Answers, Changes, OnlyReads};
 ghost use Rattle.art_c.specs.Calls.{IsAudited, IsNew, IsPrefixRemoved};
 ghost use Rattle.art_c.specs.Codes.{code_number};
-ghost use Rattle.art_c.specs.Handles.{is_frozen_map, pairs_or_none, store_behind, words_behind};
+ghost use Rattle.art_c.specs.Handles.{is_frozen_map, pairs_or_none, store_of, word_map_of};
 ghost use Rattle.art_c.specs.Joins.{IsAppended};
-ghost use Rattle.art_c.specs.Wholes.{IsCleared, GetsCopy, IsFrozen, IsReserved, IsShared, IsShrunk};
-ghost use Rattle.art_c.specs.Wholes.{HasRoomBehind, IsSplitOff, IsThawed, IsTrimmedBehind};
+ghost use Rattle.art_c.specs.Wholes.{IsCleared, IsCompacted, GetsCopy, IsFrozen, IsReserved, IsShared, IsShrunk};
+ghost use Rattle.art_c.specs.Wholes.{HasRoomInStore, IsSplitOff, IsThawed, IsTrimmedStore};
 ghost use Rattle.art_c.specs.declared.code.Code.TheVariants.{Done, NoMemory};
 
 use crate::calls::{changes, counts, joins, wholes};
@@ -20,7 +20,7 @@ use std::alloc::Global;
 /// Makes an empty map in a handle. A map that it had is freed.
 #[unsafe(no_mangle)]
 pub extern "C" fn words_new(alloc: Global, handle: &mut Handle) -> u32
-    ensures { IsNew (words_behind handle.old) result (words_behind handle.new) }
+    ensures { IsNew (word_map_of handle.old) result (word_map_of handle.new) }
 {
     wholes::give(alloc, handle, Store::Words(wholes::empty(alloc))).number()
 }
@@ -28,7 +28,7 @@ pub extern "C" fn words_new(alloc: Global, handle: &mut Handle) -> u32
 /// Frees the map of a handle, if one is made.
 #[unsafe(no_mangle)]
 pub extern "C" fn words_free(alloc: Global, handle: &mut Handle)
-    ensures { store_behind handle.new ≡ None }
+    ensures { store_of handle.new ≡ None }
 {
     let _map = handle.take(alloc);
 }
@@ -36,8 +36,8 @@ pub extern "C" fn words_free(alloc: Global, handle: &mut Handle)
 /// How many pairs there are.
 #[unsafe(no_mangle)]
 pub extern "C" fn words_len(alloc: Global, handle: &mut Handle) -> usize
-    ensures len { result ≡ length (pairs_or_none (words_behind handle.old)) }
-    ensures kept { store_behind handle.new ≡ store_behind handle.old }
+    ensures len { result ≡ length (pairs_or_none (word_map_of handle.old)) }
+    ensures kept { store_of handle.new ≡ store_of handle.old }
 {
     match handle.take(alloc) {
         Some(store) => match &*store {
@@ -58,8 +58,8 @@ pub extern "C" fn words_len(alloc: Global, handle: &mut Handle) -> usize
 /// Whether the map is frozen.
 #[unsafe(no_mangle)]
 pub extern "C" fn words_is_frozen(alloc: Global, handle: &mut Handle) -> bool
-    ensures is { result ≡ is_frozen_map (words_behind handle.old) }
-    ensures kept { store_behind handle.new ≡ store_behind handle.old }
+    ensures is { result ≡ is_frozen_map (word_map_of handle.old) }
+    ensures kept { store_of handle.new ≡ store_of handle.old }
 {
     match handle.take(alloc) {
         Some(store) => match &*store {
@@ -88,8 +88,8 @@ pub extern "C" fn words_remove_prefix(
     prefix: &[u8],
     count: &mut usize,
 ) -> u32
-    ensures { Answers (Changes (IsPrefixRemoved prefix.now)) (words_behind handle.old) count.old
-        result (words_behind handle.new) count.new }
+    ensures { Answers (Changes (IsPrefixRemoved prefix.now)) (word_map_of handle.old) count.old
+        result (word_map_of handle.new) count.new }
 {
     changing!(alloc, handle, Words not Bytes, |map| changes::remove_prefix(map, prefix, count))
 }
@@ -97,8 +97,8 @@ pub extern "C" fn words_remove_prefix(
 /// Puts a copy of the map into another handle.
 #[unsafe(no_mangle)]
 pub extern "C" fn words_clone(alloc: Global, handle: &mut Handle, to: &mut Handle) -> u32
-    ensures { Answers (OnlyReads GetsCopy) (words_behind handle.old) (words_behind to.old)
-        result (words_behind handle.new) (words_behind to.new) }
+    ensures { Answers (OnlyReads GetsCopy) (word_map_of handle.old) (word_map_of to.old)
+        result (word_map_of handle.new) (word_map_of to.new) }
 {
     reading!(alloc, handle, Words not Bytes, |map| wholes::clone_words(alloc, map, to))
 }
@@ -111,8 +111,8 @@ pub extern "C" fn words_split_off(
     key: &[u8],
     to: &mut Handle,
 ) -> u32
-    ensures { Answers (Changes (IsSplitOff key.now)) (words_behind handle.old) (words_behind to.old)
-        result (words_behind handle.new) (words_behind to.new) }
+    ensures { Answers (Changes (IsSplitOff key.now)) (word_map_of handle.old) (word_map_of to.old)
+        result (word_map_of handle.new) (word_map_of to.new) }
 {
     changing!(alloc, handle, Words not Bytes, |map| wholes::split_words(alloc, map, key, to))
 }
@@ -120,8 +120,8 @@ pub extern "C" fn words_split_off(
 /// Moves all pairs of another handle's map into this one, up to the first that is refused.
 #[unsafe(no_mangle)]
 pub extern "C" fn words_append(alloc: Global, handle: &mut Handle, other: &mut Handle) -> u32
-    ensures { Answers (Changes IsAppended) (words_behind handle.old) (words_behind other.old)
-        result (words_behind handle.new) (words_behind other.new) }
+    ensures { Answers (Changes IsAppended) (word_map_of handle.old) (word_map_of other.old)
+        result (word_map_of handle.new) (word_map_of other.new) }
 {
     changing!(alloc, handle, Words not Bytes, |map| joins::append_words(alloc, map, other))
 }
@@ -129,10 +129,10 @@ pub extern "C" fn words_append(alloc: Global, handle: &mut Handle, other: &mut H
 /// Allocates the nodes of so many more insertions.
 #[unsafe(no_mangle)]
 pub extern "C" fn words_reserve(alloc: Global, handle: &mut Handle, additional: usize) -> u32
-    ensures pairs { Answers (Changes IsReserved) (words_behind handle.old) tt result (words_behind handle.new) tt }
-    ensures room { result ≡ code_number Done → HasRoomBehind (2 * additional) (store_behind handle.new) }
+    ensures pairs { Answers (Changes IsReserved) (word_map_of handle.old) tt result (word_map_of handle.new) tt }
+    ensures room { result ≡ code_number Done → HasRoomInStore (2 * additional) (store_of handle.new) }
     ensures succeeds { result ≡ code_number NoMemory
-        → HasRoomBehind (2 * additional) (store_behind handle.old) → ⊥ }
+        → HasRoomInStore (2 * additional) (store_of handle.old) → ⊥ }
 {
     changing!(alloc, handle, Words not Bytes, |map| wholes::reserve(map, additional))
 }
@@ -140,16 +140,25 @@ pub extern "C" fn words_reserve(alloc: Global, handle: &mut Handle, additional: 
 /// Gives memory back that the nodes don't need.
 #[unsafe(no_mangle)]
 pub extern "C" fn words_shrink(alloc: Global, handle: &mut Handle) -> u32
-    ensures pairs { Answers (Changes IsShrunk) (words_behind handle.old) tt result (words_behind handle.new) tt }
-    ensures trimmed { result ≡ code_number Done → IsTrimmedBehind (store_behind handle.new) }
+    ensures pairs { Answers (Changes IsShrunk) (word_map_of handle.old) tt result (word_map_of handle.new) tt }
+    ensures trimmed { result ≡ code_number Done → IsTrimmedStore (store_of handle.new) }
 {
     changing!(alloc, handle, Words not Bytes, |map| wholes::shrink(map))
+}
+
+/// Makes all nodes anew in the order of the keys, and gives memory back that they don't need.
+#[unsafe(no_mangle)]
+pub extern "C" fn words_compact(alloc: Global, handle: &mut Handle) -> u32
+    ensures pairs { Answers (Changes IsCompacted) (word_map_of handle.old) tt result (word_map_of handle.new) tt }
+    ensures trimmed { result ≡ code_number Done → IsTrimmedStore (store_of handle.new) }
+{
+    changing!(alloc, handle, Words not Bytes, |map| wholes::compact(map))
 }
 
 /// Takes all pairs out, and frees their memory.
 #[unsafe(no_mangle)]
 pub extern "C" fn words_clear(alloc: Global, handle: &mut Handle) -> u32
-    ensures { Answers (Changes IsCleared) (words_behind handle.old) tt result (words_behind handle.new) tt }
+    ensures { Answers (Changes IsCleared) (word_map_of handle.old) tt result (word_map_of handle.new) tt }
 {
     changing!(alloc, handle, Words not Bytes, |map| wholes::clear(alloc, map))
 }
@@ -157,7 +166,7 @@ pub extern "C" fn words_clear(alloc: Global, handle: &mut Handle) -> u32
 /// Freezes the map: no call changes it from then on.
 #[unsafe(no_mangle)]
 pub extern "C" fn words_freeze(alloc: Global, handle: &mut Handle) -> u32
-    ensures { Answers (IsFrozen) (words_behind handle.old) tt result (words_behind handle.new) tt }
+    ensures { Answers (IsFrozen) (word_map_of handle.old) tt result (word_map_of handle.new) tt }
 {
     keeping!(alloc, handle, Words not Bytes, |kept| wholes::freeze(alloc, kept))
 }
@@ -165,7 +174,7 @@ pub extern "C" fn words_freeze(alloc: Global, handle: &mut Handle) -> u32
 /// Makes a frozen map one that can be changed, where no other handle has it.
 #[unsafe(no_mangle)]
 pub extern "C" fn words_thaw(alloc: Global, handle: &mut Handle) -> u32
-    ensures { Answers (IsThawed) (words_behind handle.old) tt result (words_behind handle.new) tt }
+    ensures { Answers (IsThawed) (word_map_of handle.old) tt result (word_map_of handle.new) tt }
 {
     keeping!(alloc, handle, Words not Bytes, |kept| wholes::thaw(alloc, kept))
 }
@@ -173,17 +182,21 @@ pub extern "C" fn words_thaw(alloc: Global, handle: &mut Handle) -> u32
 /// Makes another handle on a frozen map.
 #[unsafe(no_mangle)]
 pub extern "C" fn words_share(alloc: Global, handle: &mut Handle, to: &mut Handle) -> u32
-    ensures { Answers (IsShared) (words_behind handle.old) (words_behind to.old)
-        result (words_behind handle.new) (words_behind to.new) }
+    ensures { Answers (IsShared) (word_map_of handle.old) (word_map_of to.old)
+        result (word_map_of handle.new) (word_map_of to.new) }
 {
     keeping!(alloc, handle, Words not Bytes, |kept| wholes::share_words(alloc, kept, to))
 }
 
 /// Counts the nodes of the tree.
 #[unsafe(no_mangle)]
-pub extern "C" fn words_audit(alloc: Global, handle: &mut Handle, told: &mut NodeCounts) -> u32
-    ensures { Answers (OnlyReads IsAudited) (words_behind handle.old) told.old
-        result (words_behind handle.new) told.new }
+pub extern "C" fn words_audit(
+    alloc: Global,
+    handle: &mut Handle,
+    node_counts: &mut NodeCounts,
+) -> u32
+    ensures { Answers (OnlyReads IsAudited) (word_map_of handle.old) node_counts.old
+        result (word_map_of handle.new) node_counts.new }
 {
-    reading!(alloc, handle, Words not Bytes, |map| counts::audit(map, told))
+    reading!(alloc, handle, Words not Bytes, |map| counts::audit(map, node_counts))
 }

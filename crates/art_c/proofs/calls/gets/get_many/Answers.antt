@@ -9,7 +9,7 @@ loop-at-preserved c =
     let items = c.args.pairs.now in let flags = c.args.found.now in let at = c.loop-at.at in
     let it = c.loop-at.invariant in
     let cut = c.in-Some.ensures.cases in
-    one-got c.args.keys.now c.args.map.now.pairs items flags it c.in-Some.key.now c.in-Some.behind.now
+    one-got c.args.keys.now c.args.map.now.pairs items flags it c.in-Some.key.now c.in-Some.following.now
     (get_or c.loop-at.pairs at none) (drop (at + 1) items) c.word_or-word.result.0 c.word_or-word.result.1
     cut.1 cut.2 cut.3 (next-item c.args.keys.now c.args.map.now.pairs items flags it none refl c.loop-at-test.true)
     c.loop-at-test.true (omega (arith, c.if-at-found.false, c.loop-at.auto.found, it.count_is, it.fit))

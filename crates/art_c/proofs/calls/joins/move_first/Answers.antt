@@ -7,10 +7,10 @@ use Rattle.art_c.specs.declared.code.Code.TheVariants.{Conflict, NoMemory}
 use Rattle.art_c.proofs.Joins.{first-leaves, first-stays}
 use Rattle.art_c.proofs.calls.joins.move_first.Goals as goal
 
-pub returns-in_default-place : goal.returns-in_default-place
-returns-in_default-place g c = (
+pub returns-in_default-find_place : goal.returns-in_default-find_place
+returns-in_default-find_place g c = (
   first-stays c.args.other.now.pairs c.args.map.now.pairs (c.in-Some.key.now, c.in-Some._value.now) Conflict c.in-Some.ensures
-      (c.in_default-place.ensures.placed, refl),
+      (c.in_default-find_place.ensures.placed, refl),
   refl,
   refl,
 )

@@ -44,11 +44,11 @@ returns-then-not-is_above g c = λ pairs had.
       s.1,
       load-ends text item bytes items pairs long text_long s.2 was NotAbove s.0 refl
           (subst (λ l. LoadEnds text item long text_long before c.loop-at.rest.now l s.0 NotAbove) (sym next)
-          (inr (key, c.in-Some.behind.now, value, c.in-Some.ensures, sym c.is_above.ensures ∙ c.if-not-is_above.true))),
+          (inr (key, c.in-Some.following.now, value, c.in-Some.ensures, sym c.is_above.ensures ∙ c.if-not-is_above.true))),
     )
 
-pub returns-then-not-put_behind : goal.returns-then-not-put_behind
-returns-then-not-put_behind g c = λ pairs had.
+pub returns-then-not-put_after : goal.returns-then-not-put_after
+returns-then-not-put_after g c = λ pairs had.
     let text = g.V.Value.text_of in let item = g.V.Value.item_of in let long = g.V.Value.key_len_of in let text_long = g.V.Value.text_len_of in
     let bytes = c.args.bytes.now in let items = c.args.items.now in let at = c.loop-at.at in
     let before = option_map (λ b. b.now) c.loop-at.before in let was = c.args.taken.now in
@@ -58,15 +58,15 @@ returns-then-not-put_behind g c = λ pairs had.
     (drop-cons items at x c.loop-at-test.true ∙ ap (λ z. z ∷ drop (suc at) items) (sym c.index-items-at.is)) in
     let key = c.in-Some.key.now in let value = g.V.Value.value_of x c.in-Some.text.now in
     let s = c.loop-at.invariant pairs had in
-    let has = subst (λ b. HasGathered whole AreBytes c.put_behind.new.builder (if b then with_pair_put whole key value s.0 else s.0))
-    c.if-not-put_behind.true (c.put_behind.ensures s.0 s.1) in (
+    let has = subst (λ b. HasGathered whole AreBytes c.put_after.new.builder (if b then with_pair_put whole key value s.0 else s.0))
+    c.if-not-put_after.true (c.put_after.ensures s.0 s.1) in (
       s.0,
       has,
       λ code no. load-ends text item bytes items pairs long text_long s.2 was code s.0 refl
           (subst (λ l. LoadEnds text item long text_long before c.loop-at.rest.now l s.0 code) (sym next)
           (inr (
             key,
-            c.in-Some.behind.now,
+            c.in-Some.following.now,
             value,
             c.in-Some.ensures,
             not_in before key s.0 code (sym c.is_above.ensures ∙ c.if-not-is_above.false) no,
@@ -84,12 +84,12 @@ loop-at-preserved g c = λ old had.
     (drop-cons items at x c.loop-at-test.true ∙ ap (λ z. z ∷ drop (suc at) items) (sym c.index-items-at.is)) in
     let key = c.in-Some.key.now in let value = g.V.Value.value_of x c.in-Some.text.now in
     let s = c.loop-at.invariant old had in
-    let has = subst (λ b. HasGathered whole AreBytes c.put_behind.new.builder (if b then with_pair_put whole key value s.0 else s.0))
-    c.if-not-put_behind.false (c.put_behind.ensures s.0 s.1) in (
+    let has = subst (λ b. HasGathered whole AreBytes c.put_after.new.builder (if b then with_pair_put whole key value s.0 else s.0))
+    c.if-not-put_after.false (c.put_after.ensures s.0 s.1) in (
       with_pair_put whole key value s.0,
       has,
       one-more text item bytes items old s.2 x (drop (at + 1) items) key value
-          c.in-Some.behind.now (with_pair_put whole key value s.0) next c.in-Some.ensures.0 c.in-Some.ensures.1
+          c.in-Some.following.now (with_pair_put whole key value s.0) next c.in-Some.ensures.0 c.in-Some.ensures.1
           (sym c.is_above.ensures ∙ c.if-not-is_above.false) refl,
     )
 

@@ -2,7 +2,7 @@ use Rattle.art_bytes.specs.Keys.{AreBytes}
 use Rattle.art_map.specs.Builders.{HasGathered}
 use Rattle.art_c.specs.Calls.{whole}
 use Rattle.art_c.proofs.Loads.{put_told}
-use Rattle.art_c.proofs.calls.loads.put_behind.Goals as goal
+use Rattle.art_c.proofs.calls.loads.put_after.Goals as goal
 
 pub returns : goal.returns
 returns g c =

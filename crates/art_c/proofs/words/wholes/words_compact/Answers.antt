@@ -1,0 +1,12 @@
+use Rattle.art_c.proofs.Answered.{bytes_back, words_shut}
+use Rattle.art_c.proofs.words.wholes.words_compact.Goals as goal
+
+pub returns-in-Words-Frozen-clause-pairs : goal.returns-in-Words-Frozen-clause-pairs
+returns-in-Words-Frozen-clause-pairs c =
+    words_shut _ _ _ _ _ _ _ _ _ c.number-in-Words-Frozen.ensures c.in-Words-Frozen.field-0-is c.in-Some.ensures.map
+    c.of-in-Words-Frozen.ensures c.in-Words-Frozen.is c.deref_mut.ensures.value
+
+pub returns-in-Bytes-clause-pairs : goal.returns-in-Bytes-clause-pairs
+returns-in-Bytes-clause-pairs c =
+    bytes_back _ _ _ _ _ c.number-in-Bytes.ensures _ _ _ c.in-Some.ensures.map c.of-in-Bytes.ensures c.in-Bytes.is
+    c.deref_mut.ensures.value
