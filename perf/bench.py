@@ -7,7 +7,7 @@ It proves and builds the libraries where they are not built, and needs nothing b
 nothing was made for, too: hosts, dna, hashes, series, shared (perf/drive.c). Keys are looked up in another order than
 they go in; misses are told by their kind. --sizes 10000000 goes as far as 10^7. --walks SIZE times walks
 over so many pairs, from the front and from both ends, the check of a tree, its clone and its free. --ranges SIZE times
-ranges of 100 pairs and of one, and walks of the pairs behind a prefix, in maps of so many pairs. --entries SIZE times
+ranges of 100 pairs and of one, and walks of the pairs with a prefix, in maps of so many pairs. --entries SIZE times
 `entry(..).and_modify(..).or_insert(..)` of so many keys, new ones and then stored ones, beside an insertion, and beside
 a look-up for writing with an insertion where it finds none. --instr counts instructions and cache misses by callgrind
 (no noise, whatever else runs), at --instr-size keys (10000), of walks and entries too where these are asked. --perf
@@ -166,7 +166,7 @@ def counted(folder, path, key_set, size, steps):
 
 
 def more_than(folder, path, key_set, size, before, step, number):
-    """What a step counts behind the insertions, which count `before`, for each of so many."""
+    """What a step counts after the insertions, which count `before`, for each of so many."""
     both = counted(folder, path, key_set, size, f"1,{step}")
     return [(more - less) / number for more, less in zip(both, before)]
 
@@ -185,7 +185,7 @@ def instructions(folder, made, key_set, size):
 
 
 def stepped(folder, made, key_set, size, repeats):
-    """Nanoseconds of each step behind the insertions, by map: the least of the repeats, the maps in turn."""
+    """Nanoseconds of each step after the insertions, by map: the least of the repeats, the maps in turn."""
     steps, least = {}, {}
     for name in made:
         asked = [*WALKS.values(), *NODES.values()] if name == "map" else [*WALKS.values()]
@@ -200,7 +200,7 @@ def stepped(folder, made, key_set, size, repeats):
 
 
 def answer(folder, path, key_set, size, step):
-    """What a call with this step behind the insertions answers."""
+    """What a call with this step after the insertions answers."""
     return int(called([f"{folder}/drive", path, key_set, str(size), "1", f"1,{step}"]).split()[-1])
 
 
@@ -232,7 +232,7 @@ def walks(folder, made, asked):
 
 def ranged(folder, made, key_set, size, repeats):
     """By map, nanoseconds of each kind of range, the least of the repeats, the maps in turn; and how many pairs stand
-    behind a prefix."""
+    with a prefix."""
     least, behind = {name: [float("inf")] * len(RANGES) for name in made}, 0
     for at, (step, span, is_of_pair) in enumerate(RANGES.values()):
         sums = set()
@@ -249,7 +249,7 @@ def ranged(folder, made, key_set, size, repeats):
 
 
 def ranges(folder, made, asked):
-    """Nanoseconds of ranges and of walks behind a prefix, and the ratios of the map here to its peers."""
+    """Nanoseconds of ranges and of walks with a prefix, and the ratios of the map here to its peers."""
     size, made = asked.ranges, {name: path for name, path in made.items() if name not in NO_RANGES}
     print(f"\nRanges among {size} pairs, nanoseconds:\n")
     print(f"| Keys | Pairs behind a prefix | Map | {' | '.join(RANGES)} |")
@@ -441,7 +441,7 @@ def walk_instructions(folder, made, asked):
 
 
 def yardsticks(folder, given):
-    """Builds the yardsticks in a copy, and answers those among them that stand behind the same call, by map."""
+    """Builds the yardsticks in a copy, and answers those among them that stand under the same call, by map."""
     top = f"{folder}/perf"
     called(["cp", "-r", given, top])
     called(["chmod", "-R", "u+w", top])

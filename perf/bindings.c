@@ -1,6 +1,7 @@
-/* The map of words for C behind the calls that the yardsticks time (perf/bindings.py): art_bench.h, form A.
+/* The map of words for C after the calls that perf/peer/src/bin/through_c.rs times: art_bench.h, form A, and three
+ * more.
  *
- * A walk copies keys and words out, many pairs in a call; by artmap_words_next, a pair in each call, where STEPS is defined.
+ * A walk copies keys and words out, many pairs in a call; those `by_next` have a pair in each call (artmap_words_next).
  */
 #include "artmap.h"
 #include "art_bench.h"
@@ -20,7 +21,6 @@ typedef struct met {
     uint64_t sum;
 } met;
 
-#ifdef STEPS
 static bool goes_on(const artmap_span *span, const uint8_t *key, size_t len) {
     size_t least = len < span->to_len ? len : span->to_len;
     int order = span->to == ARTMAP_TO_END ? 0 : memcmp(key, span->to_key, least);
@@ -28,16 +28,18 @@ static bool goes_on(const artmap_span *span, const uint8_t *key, size_t len) {
     return span->to == ARTMAP_TO_END || order < 0 || (order == 0 && len < span->to_len);
 }
 
-static met walk(artmap_words *map, artmap_span span, size_t places) {
+static met walk_by_next(artmap_words *map, artmap_span span) {
     static uint8_t key[2][KEY];
     met it = {0, 0};
     size_t len = span.from_len, found;
     uint64_t word;
     int now = 0;
-    (void)places;
     if (len) memcpy(key[0], span.from_key, len);
     artmap_code code = artmap_words_get(map, key[0], len, &word);
-    if (code == ARTMAP_NOT_FOUND) code = artmap_words_next(map, key[0], len, key[1], KEY, &found, &word), now = 1, len = found;
+    if (code == ARTMAP_NOT_FOUND) {
+        code = artmap_words_next(map, key[0], len, key[1], KEY, &found, &word);
+        now = 1, len = found;
+    }
     for (; code == ARTMAP_DONE && goes_on(&span, key[now], len); now = !now, len = found) {
         it.count++;
         it.sum += word + len;
@@ -45,7 +47,7 @@ static met walk(artmap_words *map, artmap_span span, size_t places) {
     }
     return it;
 }
-#else
+
 static met walk(artmap_words *map, artmap_span span, size_t places) {
     static uint8_t room[BYTES], last[KEY];
     artmap_words_pair pairs[PLACES];
@@ -65,7 +67,6 @@ static met walk(artmap_words *map, artmap_span span, size_t places) {
         places = PLACES;
     }
 }
-#endif
 
 static artmap_words *of(const art_bench *m) { return (artmap_words *)&m->map; }
 
@@ -90,16 +91,30 @@ size_t art_bench_len(const art_bench *m) { return artmap_words_len(of(m)); }
 
 uint64_t art_bench_sum(const art_bench *m) { return walk(of(m), (artmap_span){0}, PLACES).sum; }
 
+uint64_t art_bench_sum_by_next(const art_bench *m) { return walk_by_next(of(m), (artmap_span){0}).sum; }
+
+static artmap_span behind(const uint8_t *front, size_t len) {
+    return (artmap_span){.from = ARTMAP_FROM_KEY, .from_key = front, .from_len = len,
+                         .to = ARTMAP_WITH_PREFIX, .to_key = front, .to_len = len};
+}
+
 size_t art_bench_prefix(const art_bench *m, const uint8_t *front, size_t len) {
-    artmap_span span = {.from = ARTMAP_FROM_KEY, .from_key = front, .from_len = len,
-                        .to = ARTMAP_WITH_PREFIX, .to_key = front, .to_len = len};
-    return walk(of(m), span, 128).count;
+    return walk(of(m), behind(front, len), 128).count;
+}
+
+size_t art_bench_prefix_by_next(const art_bench *m, const uint8_t *front, size_t len) {
+    return walk_by_next(of(m), behind(front, len)).count;
 }
 
 size_t art_bench_range(const art_bench *m, const uint8_t *lo, size_t lo_len, const uint8_t *hi, size_t hi_len) {
     artmap_span span = {.from = ARTMAP_FROM_KEY, .from_key = lo, .from_len = lo_len,
                         .to = ARTMAP_BEFORE_KEY, .to_key = hi, .to_len = hi_len};
-    return walk(of(m), span, 128).count;
+    return walk(of(m), span, 16).count;
+}
+
+bool art_bench_load(art_bench *m, const uint8_t *keys, size_t len, const artmap_words_pair *pairs, size_t count) {
+    size_t taken;
+    return artmap_words_load(&m->map, keys, len, pairs, count, &taken) == ARTMAP_DONE;
 }
 
 bool art_bench_clone(const art_bench *m, art_bench **out) {

@@ -1,4 +1,4 @@
-/* drive LIB.so SET COUNT REPEATS [STEPS [SPAN]]: times the map behind LIB.so's one call over COUNT keys of a set
+/* drive LIB.so SET COUNT REPEATS [STEPS [SPAN]]: times the map under LIB.so's one call over COUNT keys of a set
  * (dense, rand8, rand16, url; hosts, names from the last part on; dna, 64 bases in two bits each; hashes, 43 digits of
  * base64; series, a name of four bytes and a time of eight, few times for each; shared, eight beginnings of 72 bytes),
  * and prints the least of the repeats, in nanoseconds of processor time: an insertion, a look-up that hits, a miss that
@@ -6,12 +6,12 @@
  * order than they go in. With STEPS, numbers parted by commas, it prints instead
  * for each of these, carried out in turn in one call, the least nanoseconds in all, and at last what the call answered.
  * With SPAN the queries are one for each hundred keys: for step 6 bounds, lower and upper in turn, with so many pairs
- * between them, and else fronts with about so many pairs behind them; how many pairs those are in all is printed last.
+ * between them, and else fronts with about so many pairs after them; how many pairs those are in all is printed last.
  * For callgrind: with REPEATS 0 it carries the steps out once and prints nothing; what the clock doesn't count isn't
  * collected either, given --collect-atstart=no.
  *
  * The call: strings end to end and where each ends, for keys and for queries; the value of key i is i. Steps: 1 inserts
- * all keys, 2 looks all queries up, 3 removes them, 4 walks from the front, 5 walks the pairs behind each query, 6
+ * all keys, 2 looks all queries up, 3 removes them, 4 walks from the front, 5 walks the pairs with each query, 6
  * those from each query to below the next, two queries a walk, 7 clones, 8 walks from both ends in turn, 9
  * checks the tree, 10 frees the tree of a clone, 11 lets the map go, 12 inserts all queries, 13 asks for the entry of
  * each, whose value is counted once more where it is stored and which is put in else, 14 does the same by a look-up

@@ -3,7 +3,7 @@
 
 It loads the records of others and of one tenant, in a mixed order, and times three ways to let that tenant go: one
 line `drop`, a `del` line for each of its records, and Rust's B-tree of full keys (`split_off` twice, `append` of what
-stands behind, and the drop of the part). Times are processor time a record of the tenant's, the least of the repeats,
+stands after, and the drop of the part). Times are processor time a record of the tenant's, the least of the repeats,
 one after another in each; the program's are taken by `meas` of the yardsticks, which are built where they are not.
 """
 import argparse
@@ -29,7 +29,7 @@ def keys_of(given):
 
 
 def by_program(given, room, ops):
-    """Processor time that the program takes for these lines behind the load, in nanoseconds."""
+    """Processor time that the program takes for these lines after the load, in nanoseconds."""
     meas = os.path.expanduser("~/.cache/art-perf/bin/meas")
     words = [meas, f"{room}/load", ops, "/dev/null", given.program]
     said = subprocess.run(words, capture_output=True, text=True, check=True).stdout.split()

@@ -3,7 +3,7 @@
 
 Each key set has all keys of four bytes from an alphabet of so many, of one tenant, in a mixed order, so that each inner
 node below the tenant's front has just that number of children. Printed are, of both programs, bytes of peak memory a
-record, and nanoseconds of processor time a record of its `put`, and of a `get`, a `del` and a listing behind that; the
+record, and nanoseconds of processor time a record of its `put`, and of a `get`, a `del` and a listing after that; the
 least of the repeats, the programs in turn, and the second's part of the first.
 """
 import argparse
@@ -29,7 +29,7 @@ def used(program, path):
 
 
 def scripts(room, children):
-    """Files of lines: the load alone, and the load with more behind it; and how many keys there are."""
+    """Files of lines: the load alone, and the load with more after it; and how many keys there are."""
     of = random.Random(children)
     alphabet = sorted(of.sample(range(256), children))
     keys = [bytes(it).hex().encode() for it in itertools.product(alphabet, repeat=4)]

@@ -191,7 +191,7 @@ def written(lines):
 
 
 def measured(bin_, load, lines, program, to="/dev/null"):
-    """Processor seconds of the lines alone, behind the load."""
+    """Processor seconds of the lines alone, after the load."""
     words = [f"{bin_}/meas", load.name, lines.name, to, program]
     told = subprocess.run(words, capture_output=True, text=True, check=True).stdout.split()
     return float(told[2])

@@ -5,7 +5,7 @@ It loads records under keys and numbers, and then sends lines of every kind (but
 keys and numbers, so that what is held stays about as much. After each tenth of the lines it tells the program's memory
 and the lines a second. With --beside the same lines go to another program of the language, whose output must be the
 same byte by byte, `audit` lines aside where it has none (--no-audit). Status 1: the outputs differ, or memory grew by
-more than a twentieth behind the first tenth.
+more than a twentieth after the first tenth.
 """
 import argparse
 import hashlib

@@ -1,4 +1,4 @@
-//! Needs a folder of yardsticks (../Cargo.toml), for ./bench --perf alone: unproved maps behind the call that perf/drive.c makes. The tree
+//! Needs a folder of yardsticks (../Cargo.toml), for ./bench --perf alone: unproved maps under the call that perf/drive.c makes. The tree
 //! with a `Vec` for each key (`art-vec`), with linked leaves too (`art-list`, feature `list`), or Rust's own `BTreeMap`
 //! (`btree`, feature `btree`). Only the latter two can be walked from both ends.
 use std::slice::from_raw_parts;
@@ -215,7 +215,7 @@ fn walk_ranges(map: &Map, queries: &[u8], ends: &[u64]) -> u64 {
     (0..ends.len() / 2).fold(0, |sum: u64, i| sum.wrapping_add(one(i)))
 }
 
-/// The pairs behind each query.
+/// The pairs with each query.
 #[inline(never)]
 fn walk_fronts(map: &Map, queries: &[u8], ends: &[u64]) -> u64 {
     (0..ends.len()).fold(0, |sum: u64, i| sum.wrapping_add(map.walk_behind(string(queries, ends, i))))
@@ -237,7 +237,7 @@ fn put_all(map: &mut Map, step: u8, queries: &[u8], ends: &[u64]) -> u64 {
     map.len() as u64
 }
 
-/// What a step answers, and how long it took. A clone is dropped behind the last reading of the clock.
+/// What a step answers, and how long it took. A clone is dropped after the last reading of the clock.
 fn time(map: &mut Map, step: u8, keys: (&[u8], &[u64]), queries: (&[u8], &[u64])) -> (u64, u64) {
     let ends = if step == 8 { map.ends() } else { (0, 0) };
     let old = if step == 11 { std::mem::take(map) } else { Map::default() };
