@@ -14,10 +14,10 @@ in the headline of all, with the clauses and main.rt; in laws, of those that no 
 The headline reads `command_of` as `Spells`: the law `reading_is_spelling` says that the one answers what the other
 means.
 A claim of README.md rests on the clauses that it names, on what their calls require, on the ghost members of the types
-in their heads, and on all definitions that these reach. They are told in reading order, each behind those that it names,
+in their heads, and on all definitions that these reach. They are told in reading order, each after those that it names,
 down to the words of the kit. What all claims rest on together, with what the program adds (PROGRAM_ADDS: its ends and
 main.rt), is one number. It has to stand in README.md and in docs/PROOFS.md as 'N lines to believe'. The files that can
-touch a map are told behind it; tests/holders.py checks that no other does.
+touch a map are told after it; tests/holders.py checks that no other does.
 Budgets stand in docs/PROOFS.md, under the heading 'Budget of lines to believe', in a table | row | lines | .. |.
 """
 import os
@@ -118,7 +118,7 @@ def carried(sources, calls):
 
 
 def in_order(reached):
-    """Definitions, each behind those that it names; and the words of the kit that they name."""
+    """Definitions, each after those that it names; and the words of the kit that they name."""
     order, kit, seen = [], set(), set()
 
     def add(key):

@@ -2,8 +2,8 @@
 """The library for C, as ./lib makes it: examples, scripts at random against a model, threads, names, and want of memory.
 
     tests/bindings_c.py [--of FOLDER]   FOLDER: where libartmap.a, libartmap.so and artmap.h stand; else ./lib makes them
-The examples are compiled with -Wall -Wextra -Werror, and run alone, under valgrind and with the address sanitizer. The
-last line is 'N passed, M failed'.
+The examples are compiled with -Wall -Wextra -Werror, and run alone, under valgrind and with the address sanitizer. A line
+for each case that fails; the last is 'N passed, M failed'.
 """
 import ctypes
 import mmap
@@ -11,27 +11,40 @@ import os
 import re
 import resource
 import subprocess
-import sys
-import tempfile
 
-sys.path.insert(0, os.path.dirname(os.path.abspath(__file__)))
 import bindings_c_model as model
+import cases
+import quick
 from bindings_c_model import CONFLICT, CUT_OFF, DONE, NO_MEMORY, NOT_FOUND
 
-TOP = os.path.dirname(os.path.dirname(os.path.abspath(__file__)))
+TOP = cases.TOP
 WARNINGS = ["-Wall", "-Wextra", "-Werror", "-g"]
 EXAMPLES = ("films", "routes")
 STEPS, SCRIPTS = 400, 40
-CALLS = 35  # of tests/bindings_refused.c
+CALLS = 37  # of tests/bindings_refused.c
 TAKE_NO_MEMORY = {2, 14, 24, 25, 26, 27, 28, 29, 30, 34}
 COPY_A_KEY_IN_CONFLICT = {21, 23}  # where memory for it is refused, the conflict is told all the same
-TALLY = {True: 0, False: 0}
+LAY_OUT = {10, 18, 35, 36}  # a map is frozen out of order, and keeps room, where memory for the rest is refused
+# A library that is no part of this repository. It asks for memory, and gives it back.
+SECOND = """//! A second static library of the toolchain.
+#![tactic(auto)]
+
+use std::alloc::Global;
+
+/// The length of a copy of some bytes; 0 where there is no memory.
+#[unsafe(no_mangle)]
+pub extern "C" fn second_len(alloc: Global, bytes: &[u8]) -> u64 {
+    match Vec::from_slice(alloc, bytes) {
+        Ok(copy) => copy.len() as u64,
+        Err(_) => 0,
+    }
+}
+"""
+TALLY = cases.Tally()
 
 
 def told(name, is_right, why=""):
-    TALLY[bool(is_right)] += 1
-    if not is_right:
-        print(f"failed: {name}: {why}", flush=True)
+    TALLY.holds(name, is_right, why, is_shown=False)
 
 
 def lengths(lib):
@@ -122,20 +135,25 @@ def names(of, room):
     soname = re.findall(r"SONAME.*\[(.*)\]", run(["readelf", "-d", f"{of}/libartmap.so"]).stdout)
     told("the name in the shared library", soname == ["libartmap.so.0"], soname)
     passes("beside functions of the toolchain's names", "bindings_names", of, room)
-    # (a second static library of the toolchain: the same objects, under names of its own)
-    second = f"{room}/second.a"
-    with open(f"{room}/renamed", "w", encoding="utf-8") as file:
-        file.writelines(f"{it} second_{it}\n" for it in wanted)
-    run(["objcopy", f"--redefine-syms={room}/renamed", f"{of}/libartmap.a", second])
-    passes("beside a second library of the toolchain", "bindings_names", of, room, "-Wl,--whole-archive", second,
-           "-Wl,--no-whole-archive")
+    beside = [second(f"{room}/second"), f"{quick.kit()}/c/liblibc_c.a"]
+    passes("beside a second library of the toolchain", "bindings_names", of, room, "-DSECOND", *beside)
+
+
+def second(top):
+    """Makes a repository of one crate, has the toolchain prove it, and answers the library that it makes of it."""
+    os.makedirs(f"{top}/crates/second/src")
+    for path, text in (("crates.txt", "second staticlib:\n"), ("crates/second/src/lib.rt", SECOND)):
+        with open(f"{top}/{path}", "w", encoding="utf-8") as file:
+            file.write(text)
+    ran = run(["rt", "lib"], cwd=f"{top}/crates/second")
+    told("a second library of the toolchain", ran.returncode == 0, (ran.stdout + ran.stderr)[-2000:])
+    return f"{top}/crates/second/out/libsecond.a"
 
 
 def refused(of, room):
     """Memory is refused at each request of each call: the map is as it was, and the call does its work once more."""
-    shim = run(["cc", "-O2", "-shared", "-fPIC", f"{TOP}/tests/refuse.c", "-o", f"{room}/refuse.so"])
-    if shim.returncode != 0 or not compiled(f"{TOP}/tests/bindings_refused.c", f"{room}/refused", of):
-        told("the shim", False, shim.stderr[:2000])
+    shim = cases.shim("refuse.c")
+    if not compiled(f"{TOP}/tests/bindings_refused.c", f"{room}/refused", of):
         return
     for call in range(CALLS):
         free = run([f"{room}/refused", str(call)]).stdout.strip()
@@ -145,7 +163,7 @@ def refused(of, room):
                 number += 1
                 traced = f"{room}/trace"
                 with open(traced, "w+b") as trace:
-                    env = {**os.environ, "LD_PRELOAD": f"{room}/refuse.so", "REFUSE": f"{number}{rest}",
+                    env = {**os.environ, "LD_PRELOAD": shim, "REFUSE": f"{number}{rest}",
                            "REFUSE_TRACE": str(trace.fileno())}
                     ran = run([f"{room}/refused", str(call)], env=env, pass_fds=[trace.fileno()])
                     trace.seek(0)
@@ -154,7 +172,7 @@ def refused(of, room):
                     is_right = ran.stdout.strip() == free
                     why = f"free of refusal: {ran.stdout}"
                     break
-                wanted = [f"{NO_MEMORY} kept {free}"] + ([free] if call in COPY_A_KEY_IN_CONFLICT else [])
+                wanted = [f"{NO_MEMORY} kept {free}"] + ([free] if call in COPY_A_KEY_IN_CONFLICT | LAY_OUT else [])
                 is_right = ran.returncode == 0 and ran.stdout.strip() in wanted
                 why = f"request {number}{rest}: {ran.stdout} {ran.stderr}"
             is_right = is_right and (number == 1) == (call in TAKE_NO_MEMORY)
@@ -162,12 +180,8 @@ def refused(of, room):
 
 
 def main():
-    of = f"{TOP}/out"
-    if sys.argv[1:2] == ["--of"]:
-        of = sys.argv[2]
-    elif subprocess.run([f"{TOP}/lib"], stdout=subprocess.DEVNULL, check=False).returncode != 0:
-        sys.exit("tests/bindings_c.py: ./lib failed")
-    with tempfile.TemporaryDirectory() as room:
+    of = cases.library(cases.given(__doc__, "--of=FOLDER", words=0))
+    with cases.folder() as room:
         for name in EXAMPLES:
             example(name, of, room)
         passes("NULL with a length of 0", "bindings_null", of, room, "-fsanitize=address,undefined")
@@ -179,8 +193,7 @@ def main():
     texts(lib, of)
     model.scripts(lib, told, SCRIPTS, STEPS)
     lengths(lib)
-    print(f"{TALLY[True]} passed, {TALLY[False]} failed")
-    sys.exit(TALLY[False] != 0)
+    TALLY.end()
 
 
 if __name__ == "__main__":

@@ -76,7 +76,7 @@ def out(room, part, is_copied):
 
 
 def text(value):
-    """What of a value stands behind its key in a buffer, and what tells it there."""
+    """What of a value stands after its key in a buffer, and what tells it there."""
     return value if isinstance(value, bytes) else b""
 
 
@@ -336,7 +336,7 @@ class Beside:
 
     def room(self):
         """Memory is asked for, or given back, or all pairs go."""
-        name, refused = self.rng.choice(["reserve", "shrink", "shrink", "clear"]), self.code(True)
+        name, refused = self.rng.choice(["reserve", "shrink", "compact", "clear"]), self.code(True)
         code = self.call(name, *([ctypes.c_size_t(2)] if name == "reserve" else []))
         if refused is None and name == "clear":
             self.model.pairs.clear()

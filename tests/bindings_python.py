@@ -18,43 +18,24 @@ import sysconfig
 import tempfile
 import zipfile
 
-TOP = os.path.dirname(os.path.dirname(os.path.abspath(__file__)))
+import cases
+from cases import TOP, read
+
 PYTHON = f"{TOP}/bindings/python"
-sys.path.insert(0, f"{TOP}/tools")
 sys.dont_write_bytecode = True
-import quick
-
 SCRIPTS, STEPS = 20, 400
-TALLY = {True: 0, False: 0}
-
-
-def told(name, is_right, why=""):
-    TALLY[bool(is_right)] += 1
-    print(f"ok: {name}" if is_right else f"FAILED: {name}: {why}"[:2000], flush=True)
+TALLY = cases.Tally()
+told = TALLY.holds
 
 
 # What is tried.
-
-
-def library(of):
-    """The folder of the library. ./lib makes it where it is not there, or a source is newer."""
-    if of:
-        return os.path.abspath(of)
-    made = f"{TOP}/out/libartmap.a"
-    read_of = [f"{TOP}/{it}" for it in quick.sources(TOP, quick.PROVED_OF)]
-    is_made = os.path.exists(made) and all(os.path.getmtime(it) <= os.path.getmtime(made) for it in read_of)
-    if not is_made and subprocess.run([f"{TOP}/lib"], stdout=subprocess.DEVNULL, check=False).returncode != 0:
-        sys.exit("tests/bindings_python.py: ./lib failed")
-    return f"{TOP}/out"
 
 
 def end_without_headers():
     """Ends the part where Python's headers are not there, and says how to get them."""
     include = sysconfig.get_paths()["include"]
     if not os.path.exists(f"{include}/Python.h"):
-        print(f"FAILED: there is no {include}/Python.h, so the package can't be built: apt-get install python3-dev")
-        print("0 passed, 1 failed")
-        sys.exit(1)
+        cases.cannot(f"there is no {include}/Python.h, so the package can't be built: apt-get install python3-dev")
 
 
 def installed(of, room):
@@ -68,7 +49,7 @@ def installed(of, room):
     told(f"the package is built by {'pip' if has_pip else 'its backend, since there is no pip'}", ran.returncode == 0,
          ran.stdout + ran.stderr)
     if ran.returncode != 0:
-        end()
+        TALLY.end()
     sys.path.insert(0, room)
     os.environ["PYTHONPATH"] = room
 
@@ -175,9 +156,10 @@ WORDS = {
     "setdefault": "kv", "pop": "kv", "popitem": "", "longest_prefix": "q", "first": "", "last": "", "next": "ki",
     "previous": "ki", "range": "kkcr", "irange": "kkcr", "prefix": "pr", "remove_prefix": "p", "clear": "", "copy": "",
     "update": "u", "walked": "wr", "__eq__": "m", "load": "s", "peekitem": "a", "popitem at": "a",
+    "compact": "",
 }  # fmt: skip
 NAMED = {"i": "inclusive", "c": "inclusive", "r": "reverse"}
-OFTEN = {"__setitem__": 12, "clear": 0.1, "remove_prefix": 0.5, "update": 0.5}
+OFTEN = {"__setitem__": 12, "clear": 0.1, "compact": 0.5, "remove_prefix": 0.5, "update": 0.5}
 
 
 class Words:
@@ -288,8 +270,7 @@ def refused(room):
     """Each request of malloc in each call is refused, alone and with all later ones."""
     from bindings_python_calls import CALLS, TAKE_MEMORY
 
-    shim = f"{room}/refuse.so"
-    subprocess.run(["cc", "-O2", "-shared", "-fPIC", f"{TOP}/tests/refuse.c", "-o", shim], check=True)
+    shim = cases.shim("refuse.c")
     for name in CALLS:
         free, most, why = windows_of(name, "0", shim)[1], 0, ""
         for rest in ("", "+"):
@@ -314,44 +295,33 @@ def elsewhere(room, script, **env):
     out, err, status = run_of(room, "-X", "dev", f"{TOP}/tests/{script}", **env)
     lines = out.splitlines()
     for line in lines[:-1]:
-        if line.startswith(("ok: ", "FAILED: ")):
-            told(line.partition(": ")[2][:300], line.startswith("ok"), out[-1500:])
+        name, _, ended = line.partition(": ")
+        if ended.startswith(("ok", "FAILED: ")):
+            told(f"{name[:300]}", ended.startswith("ok"), out[-1500:])
     is_ended = status == 0 and lines and re.fullmatch(r"\d+ passed, 0 failed", lines[-1])
     told(f"{script} ends", is_ended, f"status {status}: {out[-500:]} {err[-1500:]}")
 
 
-def read(path):
-    with open(path, encoding="utf-8") as file:
-        return file.read()
-
-
-def end():
-    print(f"{TALLY[True]} passed, {TALLY[False]} failed")
-    sys.exit(TALLY[False] != 0)
-
-
 def main():
-    words = sys.argv[1:]
-    of = words[1] if words[:1] == ["--of"] else ""
-    word = (words[2:] if of else words)[-1:] or [""]
+    given = cases.given(__doc__, "--of=FOLDER")
     end_without_headers()
     os.chdir(TOP)
-    with tempfile.TemporaryDirectory() as room:
-        installed(library(of), room)
-        from bindings_python_cases import cases
+    with cases.folder() as room:
+        installed(cases.library(given), room)
+        from bindings_python_cases import cases as of_calls
         from bindings_python_maps import of_maps
 
         parts = {
             "examples": lambda: examples(room), "wheel": lambda: wheel(room), "stubs": lambda: stubs(room),
-            "cases": lambda: cases(told), "scripts": scripts, "maps": lambda: of_maps(told), "refused": lambda: refused(room),
+            "cases": lambda: of_calls(told), "scripts": scripts, "maps": lambda: of_maps(told), "refused": lambda: refused(room),
             "cpython": lambda: elsewhere(room, "bindings_python_cpython.py"),
             "hold": lambda: elsewhere(room, "bindings_python_hold.py", PYTHONMALLOC="debug"),
             "memory": lambda: elsewhere(room, "bindings_python_memory.py"),
         }  # fmt: skip
         for name, part in parts.items():
-            if word[0] in name:
+            if given.word in name:
                 part()
-    end()
+    TALLY.end()
 
 
 if __name__ == "__main__":

@@ -46,6 +46,7 @@ CALLS = {
     "update by one": lambda it: it.update({b"aa": b"other"}),
     "remove_prefix": lambda it: it.remove_prefix(b"ac"),
     "clear": lambda it: it.clear(),
+    "compact": lambda it: it.compact(),
     "copy": lambda it: it.copy(),
     "equality": lambda it: it == PAIRS,
     "merge": lambda it: it | {b"f": 1},
@@ -60,7 +61,7 @@ CALLS = {
 # (These ask malloc for memory in any case, so that the runs refuse something.)
 TAKE_MEMORY = {"Art(pairs)", "Art of a map", "put a new pair", "put a long key", "put a buffer", "setdefault", "last",
                "items",
-               "irange to a long key", "load one", "copy", "merge", "texts", "numbers", "a set", "popitem"}  # fmt: skip
+               "irange to a long key", "load one", "compact", "copy", "merge", "texts", "numbers", "a set", "popitem"}  # fmt: skip
 
 
 def outcome(call, *words):

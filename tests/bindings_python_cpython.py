@@ -7,7 +7,6 @@ Left out is what asks for keys of other types or of several in one map, for an o
 where a map changes during a walk. It prints a line for each test, and the last is 'N passed, M failed'.
 """
 import ast
-import importlib
 import inspect
 import re
 import sys
@@ -16,9 +15,10 @@ import unittest
 try:
     from test import mapping_tests, test_dict, test_dictviews, test_set
 except ImportError as missing:
-    print(f"ok: CPython's tests are not tried, since its package test is not there ({missing})\n1 passed, 0 failed")
+    print(f"CPython's tests: ok, not tried, since its package test is not there ({missing})\n1 passed, 0 failed")
     sys.exit()
 
+import cases
 from artmap import Art, ArtSet
 
 
@@ -141,17 +141,15 @@ PLACES = [
 
 
 def main():
-    passed = failed = 0
+    told = cases.Tally()
     for place, names in PLACES:
         has = unittest.TestLoader().getTestCaseNames(place)
         for name in has if names is None else [f"test_{it}" for it in names if f"test_{it}" in has]:
             found = unittest.TestResult()
             place(name).run(found)
             why = "".join(text for _, text in found.errors + found.failures)
-            passed, failed = passed + (not why), failed + bool(why)
-            print(f"FAILED: {place.__name__}.{name}: {why}" if why else f"ok: {place.__name__}.{name}", flush=True)
-    print(f"{passed} passed, {failed} failed")
-    sys.exit(failed > 0)
+            told.count(f"{place.__name__}.{name}", why)
+    told.end()
 
 
 if __name__ == "__main__":

@@ -1,6 +1,6 @@
 #!/usr/bin/env python3
 """Maps of artmap that are touched at any moment: by finalizers, comparisons, conversions, the collector, threads,
-signals, and behind a fork.
+signals, and after a fork.
 
     PYTHONMALLOC=debug tests/bindings_python_hold.py [WORD]   artmap is on PYTHONPATH
 It prints a line for each case, and the last is 'N passed, M failed'.
@@ -17,6 +17,7 @@ import time
 import traceback
 import weakref
 
+import cases
 from artmap import Art, ArtSet
 
 
@@ -58,6 +59,7 @@ def touches(it):
     yield lambda: it and it.popitem()
     yield lambda: it.remove_prefix(b"00")
     yield lambda: [*it.items()]
+    yield lambda: it.compact()
     yield lambda: it and it.__delitem__(it.first()[0])
     yield lambda: Art(it)
 
@@ -505,24 +507,19 @@ CASES = [finalizers, weak_references, comparisons, conversions, codecs, sequence
          others_run, fork, signals]  # fmt: skip
 
 
-def run(cases):
-    """Runs cases, those with the word in their names, tells each, and ends."""
-    passed = failed = 0
-    for case in cases:
-        if sys.argv[1:] and sys.argv[1] not in case.__name__:
-            continue
+def run(calls, text):
+    """Runs cases, those with the word in their names, tells each, and ends. (They may raise anything.)"""
+    told = cases.Tally(cases.given(text).word)
+    for call in filter(lambda it: told.wants(it.__name__), calls):
         try:
-            told = case()
+            said = call()
         except Exception:
-            failed += 1
-            print(f"FAILED: {case.__name__}: {traceback.format_exc()[-1500:]}", flush=True)
+            told.count(call.__name__, traceback.format_exc()[-1500:])
         else:
-            passed += 1
-            print(f"ok: {case.__name__}{f': {told}' if told else ''}", flush=True)
-    print(f"{passed} passed, {failed} failed")
-    sys.exit(failed > 0)
+            told.count(call.__name__, told=f"ok, {said}" if said else "ok")
+    told.end()
 
 
 if __name__ == "__main__":
     faulthandler.dump_traceback_later(240, exit=True)
-    run(CASES)
+    run(CASES, __doc__)

@@ -92,6 +92,10 @@ class Player:
         self.map.clear()
         return "done"
 
+    def call_compact(self, *_):
+        self.map.compact()
+        return "done"
+
     def call_remove_prefix(self, word, *_):
         return f"{self.map.remove_prefix(bytes_in(word))} true"
 

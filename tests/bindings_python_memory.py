@@ -1,5 +1,5 @@
 #!/usr/bin/env python3
-"""What the maps of artmap leave behind, whether their memory comes back, and each allocation of Python's refused.
+"""What the maps of artmap leave, whether their memory comes back, and each allocation of Python's refused.
 
     tests/bindings_python_memory.py [WORD]   artmap is on PYTHONPATH
 It prints a line for each case, and the last is 'N passed, M failed'.
@@ -13,7 +13,7 @@ from bindings_python_hold import run
 
 
 def leaks():
-    """What many calls leave behind: no objects, and no blocks of memory."""
+    """What many calls leave: no objects, and no blocks of memory."""
     marker = object()
     pairs = {key: marker for key in PAIRS}
 
@@ -110,4 +110,4 @@ def interpreters():
 
 
 if __name__ == "__main__":
-    run([leaks, memory_goes, refused, interpreters])
+    run([leaks, memory_goes, refused, interpreters], __doc__)

@@ -77,6 +77,9 @@ class Model(dict):
     def remove_prefix(self, prefix):
         return len([self.popped(key) for key, _ in self.prefix(prefix)])
 
+    def compact(self):
+        """No pair changes."""
+
     def walked(self, name, is_reversed):
         found = {"keys": lambda it: it[0], "values": lambda it: it[1], "items": lambda it: it}[name]
         return [found(it) for it in self.range(reverse=is_reversed)]

@@ -135,6 +135,8 @@ static artmap_code call(struct maps *maps, int which, size_t *taken) {
     case 34:
         pairs[0] = pairs[1] = (artmap_words_pair){2, 0};
         return artmap_words_get_many(words, "aaab", 4, pairs, (uint8_t *)room, 2, &count);
+    case 35: return artmap_words_compact(words);
+    case 36: return artmap_bytes_compact(bytes);
     default: exit(3);
     }
 }

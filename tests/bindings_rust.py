@@ -10,17 +10,14 @@ import os
 import re
 import shutil
 import subprocess
-import sys
-import tempfile
 from glob import glob
 
-TOP = os.path.dirname(os.path.dirname(os.path.abspath(__file__)))
-sys.path.insert(0, f"{TOP}/tools")
-import quick
+import cases
+from cases import TOP, read
 
 CRATE = f"{TOP}/bindings/rust"
 EXAMPLES = ("films", "paths", "sizes")
-CALLS = 30  # of examples/refused.rs
+CALLS = 31  # of examples/refused.rs
 TAKE_NO_MEMORY = {5, 9, 20, 21}
 NEVER_FAIL = {1, 19}  # (a stored key's value is set in its place; a walk goes on in the room that it has)
 SANITIZED = ("--lib", "--test", "differential", "--test", "panics", "--test", "map", "--test", "keys")
@@ -32,17 +29,8 @@ SERDE = ("serde", "serde_derive", "serde_json")
 REGISTRY = "/usr/share/cargo/registry"  # of Debian's librust-serde-dev and librust-serde-json-dev
 ANSWERS = {"artmap_code": "u32", "size_t": "usize", "void": "", "bool": "bool"}
 STRUCTS = {"artmap_words": "Handle", "artmap_span": "RawSpan", "artmap_words_pair": "Pair"}
-TALLY = {True: 0, False: 0}
-
-
-def told(name, is_right, why=""):
-    TALLY[bool(is_right)] += 1
-    print(f"{name}: ok" if is_right else f"FAILED {name}: {why}", flush=True)
-
-
-def read(path):
-    with open(path, encoding="utf-8") as file:
-        return file.read()
+TALLY = cases.Tally()
+told = TALLY.holds
 
 
 def run(words, env, **how):
@@ -93,7 +81,7 @@ def declared(of):
     for it in said:
         it = re.sub(r"\s*//\s*", " ", it)
         calls = re.findall(r"`artmap_(\w+)`", it)
-        names = re.findall(r"\b((?:Is|Gets)[A-Z]\w+|len|kept|store_behind)\b", it)
+        names = re.findall(r"\b((?:Is|Gets)[A-Z]\w+|len|kept|store_of)\b", it)
         is_there = calls and all(re.search(rf"fn {call}\(", clauses) for call in calls)
         is_there = is_there and all(re.search(rf"\b{name}\b", clauses) for name in names)
         told(f"the clause of {', '.join(calls)}", is_there and names and "ule" in it, it)
@@ -105,10 +93,10 @@ def declared(of):
 def tests(env):
     """Cargo's tests, and the examples of doc comments: a case each."""
     ran = run(["cargo", "test", "--offline", "--locked", "--no-fail-fast"], env)
-    cases = re.findall(r"(?m)^test (.+?)(?: - should panic| - compile fail)? \.\.\. (\w+)", ran.stdout)
-    for name, ended in cases:
+    found = re.findall(r"(?m)^test (.+?)(?: - should panic| - compile fail)? \.\.\. (\w+)", ran.stdout)
+    for name, ended in found:
         told(name, ended == "ok", ended)
-    told("cargo test", ran.returncode == 0 and len(cases) > 300, (ran.stdout + ran.stderr)[-6000:])
+    told("cargo test", ran.returncode == 0 and len(found) > 300, (ran.stdout + ran.stderr)[-6000:])
 
 
 def tidy(env):
@@ -144,8 +132,8 @@ def sanitized(env):
            "RUSTFLAGS": "-Zsanitizer=address", "ASAN_OPTIONS": "detect_leaks=1"}
     words = ["cargo", f"+{nightly}", "test", "--offline", "--locked", "--target", "x86_64-unknown-linux-gnu", *SANITIZED]
     ran = run(words, env)
-    cases = re.findall(r"(?m)^test (.+?) \.\.\. (\w+)", ran.stdout)
-    told(f"under the address sanitizer, {len(cases)} tests", ran.returncode == 0 and len(cases) > 40,
+    found = re.findall(r"(?m)^test (.+?) \.\.\. (\w+)", ran.stdout)
+    told(f"under the address sanitizer, {len(found)} tests", ran.returncode == 0 and len(found) > 40,
          (ran.stdout + ran.stderr)[-6000:])
 
 
@@ -163,8 +151,7 @@ def examples(env, made):
 
 def refused(env, made, room):
     """Memory is refused at each request of each call: the map is as it was, and the call does its work once more."""
-    shim = run(["cc", "-O2", "-shared", "-fPIC", f"{TOP}/tests/refuse.c", "-o", f"{room}/refuse.so"], env)
-    told("the shim", shim.returncode == 0, shim.stderr[:2000])
+    shim = cases.shim("refuse.c")
     for call in range(CALLS):
         free = run([f"{made}/refused", str(call)], env).stdout.strip()
         told(f"call {call}, nothing refused", free.startswith("Ok("), free)
@@ -173,8 +160,7 @@ def refused(env, made, room):
             while is_right:
                 number += 1
                 with open(f"{room}/trace", "w+b") as trace:
-                    more = {"LD_PRELOAD": f"{room}/refuse.so", "REFUSE": f"{number}{rest}",
-                            "REFUSE_TRACE": str(trace.fileno())}
+                    more = {"LD_PRELOAD": shim, "REFUSE": f"{number}{rest}", "REFUSE_TRACE": str(trace.fileno())}
                     ran = run([f"{made}/refused", str(call)], {**env, **more}, pass_fds=[trace.fileno()])
                     trace.seek(0)
                     marks = trace.read().decode()
@@ -220,10 +206,10 @@ def with_serde(env, room):
               f'source.debian.directory="{REGISTRY}"', "--manifest-path"]
     mine, user = f"{at}/Cargo.toml", f"{at}/with_serde/Cargo.toml"
     ran = run(["cargo", "test", *source, user], env)
-    cases = re.findall(r"(?m)^test (.+?) \.\.\. (\w+)", ran.stdout)
-    for name, ended in cases:
+    found = re.findall(r"(?m)^test (.+?) \.\.\. (\w+)", ran.stdout)
+    for name, ended in found:
         told(name, ended == "ok", ended)
-    told("with_serde: cargo test", ran.returncode == 0 and len(cases) >= 5, (ran.stdout + ran.stderr)[-4000:])
+    told("with_serde: cargo test", ran.returncode == 0 and len(found) >= 5, (ran.stdout + ran.stderr)[-4000:])
     ran = run(["cargo", "run", "-q", *source, user], env)
     is_right = (ran.returncode, ran.stdout) == (0, read(f"{CRATE}/with_serde/main.out"))
     told("with_serde: its program", is_right, ran.stdout + ran.stderr)
@@ -243,36 +229,21 @@ def without_library(env, room):
     told("without the library", ran.returncode != 0 and said, ran.stderr[-2000:])
 
 
-def is_made(library):
-    """Whether the library is there, and no source is newer."""
-    if not os.path.exists(library):
-        return False
-    read_by = [f"{TOP}/{it}" for it in quick.sources(TOP, quick.PROVED_OF)]
-    return all(os.path.getmtime(it) <= os.path.getmtime(library) for it in read_by)
-
-
 def main():
-    words = sys.argv[1:]
-    of = f"{TOP}/out"
-    if words[:1] == ["--of"]:
-        of, words = os.path.abspath(words[1]), words[2:]
+    given = cases.given(__doc__, "--of=FOLDER", words=1 << 20)
     if not shutil.which("cargo"):
-        told("cargo", False, "it is not on the PATH: install Rust's toolchain")
-    elif of == f"{TOP}/out" and not is_made(f"{of}/libartmap.a") and subprocess.run([f"{TOP}/lib"], check=False).returncode:
-        told("the library", False, "./lib failed")
-    else:
-        target = f"{TOP}/out/cargo"
-        env = {**os.environ, "ARTMAP_LIB_DIR": of, "CARGO_TARGET_DIR": target, "CARGO_TERM_COLOR": "never"}
-        with tempfile.TemporaryDirectory() as room:
-            parts = {"declared": lambda: declared(of), "tests": lambda: tests(env), "tidy": lambda: tidy(env),
-                     "examples": lambda: examples(env, f"{target}/debug/examples"),
-                     "refused": lambda: refused(env, f"{target}/debug/examples", room),
-                     "sanitized": lambda: sanitized(env), "alone": lambda: alone(env, room),
-                     "with_serde": lambda: with_serde(env, room), "without_library": lambda: without_library(env, room)}
-            for it in words or parts:
-                parts[it]()
-    print(f"{TALLY[True]} passed, {TALLY[False]} failed")
-    sys.exit(TALLY[False] != 0)
+        cases.cannot("cargo is not on the PATH: install Rust's toolchain")
+    of, target = cases.library(given), f"{TOP}/out/cargo"
+    env = {**os.environ, "ARTMAP_LIB_DIR": of, "CARGO_TARGET_DIR": target, "CARGO_TERM_COLOR": "never"}
+    with cases.folder() as room:
+        parts = {"declared": lambda: declared(of), "tests": lambda: tests(env), "tidy": lambda: tidy(env),
+                 "examples": lambda: examples(env, f"{target}/debug/examples"),
+                 "refused": lambda: refused(env, f"{target}/debug/examples", room),
+                 "sanitized": lambda: sanitized(env), "alone": lambda: alone(env, room),
+                 "with_serde": lambda: with_serde(env, room), "without_library": lambda: without_library(env, room)}
+        for it in given.words or parts:
+            parts[it]()
+    TALLY.end()
 
 
 if __name__ == "__main__":

@@ -2,15 +2,15 @@
 """Looks that what the README of each library shows in Rust is a caller that is proved.
 
     tests/calling.py      at the top of the repository
-Each Rust block of crates/art_NAME/README.md is a part of crates/callers/src/NAME.rt, letter for letter (for art_lines of
-engine.rt), and each library that has such callers shows one. uses/README.md has a section for each program crates/use_NAME: its Rust block is a part
-of src/main.rt, letter for letter, and its text blocks are stdin and stdout.
+Each Rust block of crates/art_NAME/README.md is a part of crates/callers/src/NAME.rt, letter for letter (for art_lines
+of engine.rt), and each library that has such callers shows one. uses/README.md has a section for each program
+crates/use_NAME: its Rust block is a part of src/main.rt, letter for letter, and its text blocks are stdin and stdout.
 """
 import os
 import re
-import sys
 from glob import glob
 
+import cases
 
 CALLERS = "crates/callers/src"
 # Libraries whose callers stand among those of another one.
@@ -57,14 +57,17 @@ def use_fault(name, page):
     return None
 
 
-files = [os.path.basename(it).removesuffix(".rt") for it in glob(f"{CALLERS}/*.rt")]
-names = {f"art_{it}" for it in files if os.path.isdir(f"crates/art_{it}")} | {*CALLED_IN}
-faults = {name: fault(name) for name in sorted(names)}
-uses = sorted(it.split("/")[1] for it in glob("crates/use_*/src/main.rt"))
-faults.update({name: use_fault(name, read("uses/README.md") or "") for name in uses})
-for name, why in faults.items():
-    if why:
-        print(f"{name}: FAILED: {why}")
-failed = sum(1 for why in faults.values() if why)
-print(f"{len(faults) - failed} passed, {failed} failed")
-sys.exit(bool(failed) or not faults)
+def main():
+    told = cases.Tally(cases.given(__doc__).word)
+    files = [os.path.basename(it).removesuffix(".rt") for it in glob(f"{CALLERS}/*.rt")]
+    names = {f"art_{it}" for it in files if os.path.isdir(f"crates/art_{it}")} | {*CALLED_IN}
+    faults = {name: fault(name) for name in sorted(names)}
+    uses = sorted(it.split("/")[1] for it in glob("crates/use_*/src/main.rt"))
+    faults.update({name: use_fault(name, read("uses/README.md") or "") for name in uses})
+    for name, why in faults.items():
+        if told.wants(name):
+            told.count(name, why)
+    told.end()
+
+
+main()

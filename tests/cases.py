@@ -1,4 +1,4 @@
-"""What the scripts of tests/ do alike: they take their words, choose cases by one, run them, tell each at once, and count.
+"""What the scripts of tests/ do alike: they take words, choose cases by one, run them, tell each at once, and count.
 
 A script is its cases:
 
@@ -8,9 +8,9 @@ A script is its cases:
         told.case(name, call)
     told.end()
 
-Its last line is 'N passed, M failed', by which ./test counts. It begins with a comment that says what it shows and how it
-is called; `given` prints that where the words are others. Below are also what they have in common beside: which program
-is tried, limits of time, small libraries that are loaded before a program, and copies of the repository.
+Its last line is 'N passed, M failed', by which ./test counts. It begins with a comment that says what it shows and how
+it is called; `given` prints that where the words are others. Below are also what they have in common beside: which
+program is tried, limits of time, small libraries that are loaded before a program, and copies of the repository.
 """
 import contextlib
 import fcntl
@@ -31,7 +31,9 @@ LIMIT = 60
 # Why a case fails; any other exception ends its script.
 FAILURES = (AssertionError, OSError, ValueError, LookupError, StopIteration, subprocess.SubprocessError, quick.NotToBeHad)
 # How much is printed of why a case failed.
-SHOWN = 800
+SHOWN = 4000
+# What the library for C is made of, beside the crates (tools/library.py).
+LIBRARY_OF = ("bindings/c/artmap.h", "bindings/c/artmap.c", "tools/library.py", "tools/quick.py")
 
 
 class Given:
@@ -48,8 +50,9 @@ class Given:
 
 
 def given(told, *flags, words=1):
-    """Reads the words that a script is called with: these flags, those of the form '--flag=NAME' with a word behind them,
-    and at most so many words. Where they are others it prints what the script says of itself, and ends with status 2."""
+    """Reads the words that a script is called with: these flags, those of the form '--flag=NAME' with a word after
+    them, and at most so many words. Where they are others it prints what the script says of itself, and ends with
+    status 2."""
     valued, found, left, rest = {it.partition("=")[0] for it in flags if "=" in it}, {}, [], sys.argv[1:]
     while rest:
         it = rest.pop(0)
@@ -81,6 +84,10 @@ class Tally:
             print(f"{name}: FAILED: {str(why)[:SHOWN]}" if why else f"{name}: {told}", flush=True)
         return not why
 
+    def holds(self, name, is_right, why="", is_shown=True):
+        """Counts one case, by whether it is right."""
+        return self.count(name, None if is_right else why or "it is not so", is_shown=is_shown)
+
     def case(self, name, call, *words, **named):
         """Runs a case, if it is one of those that are chosen. What it returns is told, and why it raised."""
         if not self.wants(name):
@@ -105,6 +112,12 @@ def wants(found, wanted, told=""):
     assert found == wanted, f"{told}{': ' if told else ''}{found} and not {wanted}"
 
 
+def cannot(why):
+    """Ends a script that can't try its cases."""
+    print(f"FAILED: {why}\n0 passed, 1 failed", flush=True)
+    sys.exit(1)
+
+
 def end_group(ran):
     """Ends a program that has not ended, and what it started, so that nothing holds a pipe which is waited for."""
     with contextlib.suppress(OSError):
@@ -124,8 +137,8 @@ def ended(words, input=None, seconds=LIMIT, **how):
 
 
 def programs(given, name=quick.PROGRAM):
-    """The files of the program that is tried: that at `--program PATH`; with `--quick` a build without proofs; else both
-    that rt ci has built, as LLVM and as Rattle's own compiler make it."""
+    """The files of the program that is tried: that at `--program PATH`; with `--quick` a build without proofs; else
+    both that rt ci has built, as LLVM and as Rattle's own compiler make it."""
     if "--program" in given:
         return [os.path.abspath(given["--program"])]
     if "--quick" in given:
@@ -134,15 +147,42 @@ def programs(given, name=quick.PROGRAM):
     return [made, f"{made}.by-rattle"]
 
 
-def kept(name=quick.PROGRAM):
-    """The path, below the top, of the program as it is built without proofs. (The second that asks waits for the first.)"""
+def title(program):
+    """What a program is called in the names of cases."""
+    name = os.path.basename(program)
+    return name if name.startswith(quick.PROGRAM) else f"{quick.PROGRAM}, unproved,"
+
+
+@contextlib.contextmanager
+def one_builds(name):
+    """What several scripts need is built by the one that asks first. The second waits for it."""
     os.makedirs(f"{TOP}/out", exist_ok=True)
     with open(f"{TOP}/out/{name}.lock", "w", encoding="utf-8") as lock:
         fcntl.flock(lock, fcntl.LOCK_EX)
+        yield
+
+
+def kept(name=quick.PROGRAM):
+    """The path, below the top, of the program as it is built without proofs."""
+    with one_builds(name):
         try:
             return quick.kept(TOP)
         except quick.NotToBeHad as why:
-            sys.exit(f"{name} can't be built: {why}\n0 passed, 1 failed")
+            cannot(f"{name} can't be built: {why}")
+
+
+def library(given=()):
+    """The folder of the library for C: that at `--of FOLDER`, or out, where ./lib makes it if it is not that of the
+    sources as they stand."""
+    if "--of" in given:
+        return os.path.abspath(given["--of"])
+    with one_builds("libartmap"):
+        made, proved = f"{TOP}/out/libartmap.a", "crates/art_c/out/libart_c.a"
+        read_of = [*quick.sources(TOP, quick.PROVED_OF), *LIBRARY_OF, *[proved] * os.path.exists(f"{TOP}/{proved}")]
+        is_made = os.path.exists(made) and all(os.path.getmtime(f"{TOP}/{it}") <= os.path.getmtime(made) for it in read_of)
+        if not is_made and subprocess.run([f"{TOP}/lib"], stdout=subprocess.DEVNULL, check=False).returncode:
+            cannot("./lib made no library")
+    return f"{TOP}/out"
 
 
 def shim(source):

@@ -1,22 +1,22 @@
 #!/usr/bin/env python3
 """Plays each call of maps and sets over trees with a branch at each byte, by play_map, under a stack of 256 KiB.
 
-    tests/deep.py [WORD]      at the top of the repository; WORD: only runs that have it in their name
+    tests/deep.py [--quick] [WORD]      at the top of the repository; WORD: only runs that have it in their name; --quick: by
+                                        a player that is built soonest
 The keys are so many bytes 01 and then 00, for each number up to one below 100,000: an inner node at each byte of the
 longest, each below the one before. A call that goes down by calling itself would need more stack than there is. The
 keys share their bytes (`tails`), else they would take gigabytes. Each call of the tables of tests/maps.py is made with
-keys that are stored, absent, in conflict, and go on behind one, near the root, halfway and at the last branch, and its
-answer is held against the model's; behind a call that changes keys the checker counts the nodes of a map, of the
-deepest behind some. The player is built without checks at run time, as a proved build is (tests/players.py).
+keys that are stored, absent, in conflict, and go on after one, near the root, halfway and at the last branch, and its
+answer is held against the model's; after a call that changes keys the checker counts the nodes of a map, of the
+deepest after some. The player is built without checks at run time, as a proved build is (tests/players.py).
 """
 import functools
 import itertools
-import os
 import resource
 import subprocess
-import sys
 from bisect import bisect_left, bisect_right
 
+import cases
 import map_entries
 import map_model
 import map_words
@@ -26,9 +26,9 @@ import set_model
 from map_words import Pairs
 
 STACK = 256 << 10
-DEEP, SMALL = 99_999, 4_999
+DEEP, SMALL, LEAST = 99_999, 4_999, 999
 # How many bytes but one the longest key has, and how many bytes of a prefix a node stores.
-RUNS = (DEEP, 0), (DEEP, 4), (DEEP, 16), (SMALL, 4)
+RUNS = (DEEP, 0), (DEEP, 4), (DEEP, 16), (SMALL, 4), (LEAST, 4)
 # Where so many keys at most are gone or new they are put back one by one.
 FEW = 120
 ENDS, STEPS = "fbfb", "fbpq"
@@ -43,7 +43,7 @@ WITH_OTHER = ("append", "swap", "extend", "extend_from_refs")
 WITH_MORE = ("difference", "symmetric_difference", "xor", "minus", "compare", "is_subset", "is_superset", "is_disjoint")
 WITH_TWO = ("intersection", "and")
 OPERATORS = ("and", "or", "xor", "minus")
-# Calls behind which the checker counts the nodes of the deepest maps too.
+# Calls after which the checker counts the nodes of the deepest maps too.
 CHECKED = ("try_insert", "prefix_insert", "remove", "extraction", "remove_prefix", "split_off", "append", "from_vec")
 
 
@@ -244,7 +244,7 @@ def before(script, call, size):
 
 @functools.lru_cache(maxsize=1)
 def script_of(kind, size):
-    """Every call of a kind, with a tree of all keys before it, and the checker behind what first changes keys."""
+    """Every call of a kind, with a tree of all keys before it, and the checker after what first changes keys."""
     script = Script(kind, size)
     for call in tables(kind):
         checked = kind == "set" or size == DEEP and call not in CHECKED
@@ -266,7 +266,8 @@ def limit():
     resource.setrlimit(resource.RLIMIT_STACK, (STACK, STACK))
 
 
-def play(program, prefix_len, kind, lines, wanted):
+def play(program, kind, size, prefix_len):
+    lines, wanted = script_of(kind, size)
     text = "".join(f"{line}\n" for line in [f"map {prefix_len} {kind}", *lines])
     how = {"capture_output": True, "text": True, "timeout": 600, "preexec_fn": limit}
     ran = subprocess.run([program], input=text, **how)
@@ -275,27 +276,20 @@ def play(program, prefix_len, kind, lines, wanted):
         told, model = ran.stdout.split("\n"), wanted.split("\n")
         at = next((n for n, (a, b) in enumerate(zip(told, model)) if a != b), -1)
         raise AssertionError(f"row {at + 1}: {told[at][-200:]} and not {model[at][-200:]}")
+    return f"{len(lines)} lines"
 
 
 def main():
     for module in (map_model, map_entries, set_model):
         module.bytes_in, module.shown, module.common = Key.spelled, shown, common
     map_words.shown = shown
-    word, counts = sys.argv[1] if len(sys.argv) > 1 else "", {True: 0, False: 0}
+    given = cases.given(__doc__, "--quick")
+    told, program = cases.Tally(given.word), players.program(maps.PLAYER, "--quick" in given)
     resource.setrlimit(resource.RLIMIT_CORE, (0, 0))
     for kind, (size, prefix_len) in itertools.product(maps.KINDS, RUNS):
-        name, ended = f"{maps.PLAYER} {kind} keys of {size + 1} bytes, prefixes of {prefix_len}", "ok"
-        if word not in name:
-            continue
-        lines, wanted = script_of(kind, size)
-        try:
-            play(players.program(maps.PLAYER), prefix_len, kind, lines, wanted)
-        except (AssertionError, OSError, subprocess.TimeoutExpired) as why:
-            ended = f"FAILED: {str(why)[:500]}"
-        counts[ended == "ok"] += 1
-        print(f"{name}, {len(lines)} lines: {ended}", flush=True)
-    print(f"{counts[True]} passed, {counts[False]} failed")
-    sys.exit(bool(counts[False]) or not counts[True])
+        name = f"{maps.PLAYER} {kind} keys of {size + 1} bytes, prefixes of {prefix_len}"
+        told.case(name, play, program, kind, size, prefix_len)
+    told.end()
 
 
 if __name__ == "__main__":

@@ -7,7 +7,7 @@ It proves nothing, and takes a second. It looks at these:
 - The pages are those of PAGES, and one of each library and binding. No line of a page, source or definition is wider
   than 120 columns.
 - In a table of docs/PROOFS.md or README.md whose heads are 'Claim' and 'Carried by', each row names public calls of
-  the crates in the heading above (of a program also those below it; in README.md of any) and, behind a colon, clauses
+  the crates in the heading above (of a program also those below it; in README.md of any) and, after a colon, clauses
   that these calls have. The clauses in the glossary of docs/PROOFS.md are those of some call.
 - Each public call of a library has a sentence and stands in out/proved.md, which tools/pages.py writes here.
 - Each link leads to a file that is there, and to a heading that it has; each path and

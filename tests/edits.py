@@ -13,9 +13,9 @@ which no other edit of the crate has. A line that begins with # is for the reade
     new:         self.reserve_insertions(0)?;
 
 `gate` marks those that each ./test tries (tests/must_fail.py); ./test --long tries all. `in:` is the function that must
-be refused by an open goal of its own, by rattle's name behind the crate's. Then come pairs of lines: each old text
+be refused by an open goal of its own, by rattle's name after the crate's. Then come pairs of lines: each old text
 stands in the file exactly once, once the pairs before it are carried out. A line `file: src/c.rt` (or a file below
-specs/ or proofs/) among them says that the pairs behind it are of that file.
+specs/ or proofs/) among them says that the pairs after it are of that file.
 Edits of crates/NAME that are proved, or that no function's goal refuses, stand in tests/wrong/NAME.edits: a run of the
 gate fails by each (tests/wrong.py), so they need no `in:`. Few edits stand as files crates/NAME/must-fail/X.edit, which
 rt ci tries itself: lines `file:`, `old:` and `new:` alone.
@@ -149,7 +149,7 @@ def old_form(file):
 
 
 def part_of_name(kind, parameters):
-    """A type as rattle writes it in a function's name: capitals, and what is no parameter of the impl behind it."""
+    """A type as rattle writes it in a function's name: capitals, and what is no parameter of the impl after it."""
     kind = re.sub(r"^(?:dyn |\*(?:const|mut) )", "", kind.strip())
     if kind in parameters or kind.startswith("'") or not kind:
         return ""
@@ -201,7 +201,7 @@ def owner_at(text, at):
 
 def of_a_type(crate, path, kind, plain):
     """The module and the name that rattle gives the methods of a type: those of the type itself, or, where it has more
-    parameters than arguments, or others, those of the impl, with each argument behind a +."""
+    parameters than arguments, or others, those of the impl, with each argument after a +."""
     word = re.match(r"\w+", kind)[0]
     for file in glob(f"{crate}/src/**/*.rt", recursive=True):
         found = re.search(rf"\b(?:struct|enum) {word}\b(<[^{{;]*)?", open(file, encoding="utf-8").read())
@@ -214,7 +214,7 @@ def of_a_type(crate, path, kind, plain):
 
 
 def function_of(edit):
-    """The function that an edit stands in, as rattle most likely names it behind the crate's name."""
+    """The function that an edit stands in, as rattle most likely names it after the crate's name."""
     for path, name, at in edit.places()[::-1]:
         if path.startswith("src/"):
             owner, plain = owner_at(open(f"{edit.crate}/{path}", encoding="utf-8").read(), at)

@@ -10,7 +10,6 @@ fails once is not tried again, whatever it says, nor one that moves nothing.
 """
 import errno
 import itertools
-import os
 import subprocess
 
 import cases
@@ -111,7 +110,7 @@ def main():
     assert not missing, f"tests/faults.lines has no line of {missing}"
     for program in cases.programs(given):
         for call, cuts in itertools.product(CALLS, (0, 1, 7)):
-            name = f"{os.path.basename(program)} {call.__name__}, cut to {cuts or 'nothing'}"
+            name = f"{cases.title(program)} {call.__name__}, cut to {cuts or 'nothing'}"
             told.case(name, call, program, text, cuts)
     told.end()
 

@@ -7,7 +7,7 @@ seconds of processor time: of its proof, of its tests (their proof, and the runs
 must-fail edits (those of must-fail/ alone: tests/must_fail.py tries the others); and the memory held at most (PSS, in
 which shared memory counts once). Only this run's processes are looked at, twice a second, and each ten seconds for
 memory. The row 'all' is what the system counted of the whole run; what stands in no crate's row is rt itself, and what
-processes used behind the last look at them. Each library that was proved has a second name under out/rlibs, by which
+processes used after the last look at them. Each library that was proved has a second name under out/rlibs, by which
 tests/must_fail.py finds what this run proved, also where a session's own libraries are put back. Beside it stand the
 names of the functions that were proved.
 """
@@ -78,7 +78,7 @@ class State:
         """Takes which crates' edits are tried in which folders."""
         for room, crate in rooms.items():
             self.rooms.setdefault(crate, {})[room] = True
-        # (behind the edits of a crate, rt tries the crate itself in such a folder)
+        # (after the edits of a crate, rt tries the crate itself in such a folder)
         ended = {it: sum(at not in rooms for at in of) for it, of in self.rooms.items()}
         return {it: min(number, self.edits.get(it, 0)) for it, number in ended.items()}
 

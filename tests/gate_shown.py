@@ -3,9 +3,9 @@
 longer applies or is let through, a part that is gone or ends without its counts. Each must fail it, with a clear line.
 
     tests/gate_shown.py     at the top of the repository; the last line is 'N passed, M failed'
-A tiny repository has ./test with the parts that tell of records and edits, and three that only say that they passed; all
-others are left out. The gate must pass there, and fail once one thing is changed. The first failure of a part is told
-at once. A word that is no form of ./test is refused.
+A tiny repository has ./test with the parts that tell of records and edits, and three that only say that they passed;
+all others are left out. The gate must pass there, and fail once one thing is changed. The first failure of a part is
+told at once. A word that is no form of ./test is refused.
 """
 import os
 import re
@@ -32,7 +32,7 @@ TABLE = "| Wrong body | Edits | Tried by | Function |\n|---|---|---|---|\n| a la
 PASSES = "print('1 passed, 0 failed')\n"
 # It says what rt ci has proved, by which the wrong bodies are tried.
 CI = f"import must_fail\nmust_fail.mark_tree()\n{PASSES}"
-OWN = ("cases.py", "edits.py", "record.py", "must_fail.py", "processes.py", "proofs.py")
+OWN = ("cases.py", "edits.py", "record.py", "must_fail.py", "verdicts.py", "processes.py", "proofs.py")
 OTHERS = ("words.py", "believed.py", "gate.py")
 EDITS, PROVED, LIB = "crates/tiny/edits/lib.edits", "proved.txt", "crates/tiny/src/lib.rt"
 ROWS, RUNS = "tests/wrong/table.md", "tests/wrong/programs.lines"
@@ -86,8 +86,8 @@ def run(top, *words):
 
 
 def is_told(top, path, change, wanted):
-    """How ./test ends where the text of a file is changed: where a line is wanted it fails, has it, and tells the part's
-    first failure before the end."""
+    """How ./test ends where the text of a file is changed: where a line is wanted it fails, has it, and tells the
+    part's first failure before the end."""
     was = cases.read(f"{top}/{path}")
     text = change(was)
     if text is None:

@@ -5,12 +5,12 @@
                                                          in its name; --quick: over a build without proofs
 The address space is limited by the page, from the least at which the program answers to where all that is put has room.
 Under each limit some thousand puts are answered `new` or `memory`, and then a line is answered, of each kind in turn; a
-dump tells exactly what was answered `new`. And the stack is limited: 64 KiB are enough for any line, or 96 as Rattle's
-own compiler builds it.
+dump tells exactly what was answered `new`. Where no slab can double it grows by less. And the stack is limited: 64 KiB are
+enough for any line.
 """
+import collections
 import ctypes
 import functools
-import os
 import random
 import resource
 import signal
@@ -23,9 +23,10 @@ PAGE = resource.getpagesize()
 PUTS, SEED = 3000, 7
 # Pages beyond the least, at each of which a dump is asked for; for other lines, each so many of them.
 PAGES, STEP = 200, 9
-# KiB; and those that a program of Rattle's own compiler needs at least, which has a copy of what a function owns for
-# each way out of it.
-STACKS, OWN = (64, 96, 128), 96
+# KiB.
+STACKS = (64, 96, 128)
+# Puts; the leaves of a slab that has only doubled; and spaces in MiB in which such a slab can't double once more.
+MANY, DOUBLED, SPACES = 250_000, 1 << 17, (32, 33, 34)
 # (Linux's ADDR_NO_RANDOMIZE: what a program takes to begin with is then the same in each run)
 IN_PLACE = 0x0040000
 LIBC = ctypes.CDLL(None)
@@ -139,7 +140,7 @@ def is_answering(program, pages):
 
 
 def space_is_short(program, word):
-    """A line of this word is answered behind the puts at each limit, or at each so many. At first most puts find no
+    """A line of this word is answered after the puts at each limit, or at each so many. At first most puts find no
     memory, in the end none."""
     least, last = least_of(functools.partial(is_answering, program)), [LAST[word], b"dump"]
     pages = range(PAGES) if word == "dump" else range(list(LAST).index(word) % STEP, PAGES, STEP)
@@ -158,9 +159,25 @@ def stack_is_short(program, kib):
         assert found == told, f"{words} under {kib} KiB: {found}"
 
 
+def stored(program, text, mib):
+    """How many of some puts find memory in so many MiB: the others are answered `memory`, and nobody dies."""
+    said, told, status = run(program, text, space=mib << 20)
+    replies = collections.Counter(said.split(b"\n")[:-1])
+    assert (told, status, set(replies) | {b"memory"}) == (b"", 0, {b"new", b"memory"}), f"{mib} MiB: {told} {status} {replies}"
+    return replies[b"new"]
+
+
+def slab_grows_by_less(program, mib):
+    """Where there is no memory to double a slab, it grows by less: so it holds more than one that has only doubled."""
+    text = b"".join(b"put 1 %08x %08x\n" % (it, it) for it in random.Random(SEED).sample(range(MANY), MANY))
+    found = stored(program, text, mib)
+    assert DOUBLED + DOUBLED // 32 < found < MANY, f"{found} are stored of {MANY}"
+
+
 def tests():
     named = [(f"the stack has {it} KiB", stack_is_short, it) for it in STACKS]
-    return named + [(f"space is short for {it}", space_is_short, it) for it in LAST]
+    named += [(f"space is short for {it}", space_is_short, it) for it in LAST]
+    return named + [(f"a slab grows by less in {it} MiB", slab_grows_by_less, it) for it in SPACES]
 
 
 def main():
@@ -170,9 +187,7 @@ def main():
     assert not missing, f"no line of {missing}"
     for name, test, of in tests():
         for program in cases.programs(given) if told.wants(name) else ():
-            if test is stack_is_short and of < OWN and program.endswith(".by-rattle"):
-                continue
-            told.case(f"{os.path.basename(program)} {name}", test, program, of)
+            told.case(f"{cases.title(program)} {name}", test, program, of)
     told.end()
 
 

@@ -25,7 +25,7 @@ def bound_of(word):
 
 
 class Model(Entries):
-    """Pairs in the order of their keys' bytes. A method for each call, of the words behind its name. Where `refuse` is
+    """Pairs in the order of their keys' bytes. A method for each call, of the words after its name. Where `refuse` is
     a number, the removal by an extraction with this number, of those that make a node smaller, finds no memory, and so
     does the insertion with this number of a call that makes several, of those of new keys. For the first `room` pairs
     that the next line puts in there is room that was made, so that they are not counted."""
@@ -58,7 +58,7 @@ class Model(Entries):
         return next((query[:n] for n in range(len(query) + 1) if query[:n] in self.pairs), None)
 
     def overlapped(self, key):
-        """The keys that a key equals, begins or goes on behind, in order."""
+        """The keys that a key equals, begins or goes on after, in order."""
         keys = self.pairs.keys_in_order
         behind = itertools.takewhile(lambda it: it.startswith(key), keys[bisect_left(keys, key) :])
         return [key[:n] for n in range(len(key)) if key[:n] in self.pairs] + list(behind)
@@ -227,7 +227,11 @@ class Model(Entries):
     def call_reserve(self, *_):
         return "done"
 
-    call_shrink = call_reserve
+    call_shrink = call_compact = call_reserve
+
+    # It is asked of a map that was compacted.
+    def call_in_order(self, *_):
+        return "true"
 
     # How many bytes are held is counted by tests/held.c: so it answers what the line says.
     def call_held(self, name, *_):
@@ -294,7 +298,7 @@ class Model(Entries):
 
     def put_bag(self, pairs, room=0):
         """Puts the bag's pairs into these, one by one, and tells which found no memory if one did: one with a new key,
-        behind so many for which there is room."""
+        after so many for which there is room."""
         given, self.bag = self.bag, []
         for at, (key, value) in enumerate(given):
             may_ask = at >= room and key not in pairs
@@ -447,14 +451,14 @@ class Model(Entries):
                 keys = []
         return "\n".join(told + [f"end {calls}"])
 
-    # Removals of all keys behind a prefix.
+    # Removals of all keys with a prefix.
     def behind(self, word):
         front = bytes_in(word)
         keys = self.pairs.keys_in_order
         return list(itertools.takewhile(lambda it: it.startswith(front), keys[bisect_left(keys, front) :]))
 
     def cut_shrinks(self, word):
-        """Whether the loss of all keys behind a prefix leaves a node that gets a smaller one."""
+        """Whether the loss of all keys with a prefix leaves a node that gets a smaller one."""
         front, keys = bytes_in(word), self.pairs.keys_in_order
         beside = [common(front, it) for it in keys if not it.startswith(front)]
         if not beside or not self.behind(word):

@@ -102,7 +102,7 @@ class Pairs(dict):
 
 
 def room_behind(room, call, word):
-    """For how many pairs there is room behind a line: `reserve` makes it, an insertion of one uses it up, `clear` keeps
+    """For how many pairs there is room after a line: `reserve` makes it, an insertion of one uses it up, `clear` keeps
     it. Of any other call nothing is said."""
     if call == "reserve":
         return int(word)

@@ -2,8 +2,9 @@
 """Plays scripts of calls of maps and sets through play_map, and holds what it prints against a model (map_model.py,
 set_model.py) made from the contracts.
 
-    tests/maps.py [WORD]           at the top of the repository; WORD: only scripts that have it in a name
-    tests/maps.py --show FILE      prints what the model answers to a script
+    tests/maps.py [--quick] [WORD]    at the top of the repository; WORD: only scripts that have it in a name; --quick: by a
+                                      player that is built soonest
+    tests/maps.py --show FILE         prints what the model answers to a script
 The scripts of tests/maps/ are worked rows; others are made at random from fixed seeds, or go through all small maps.
 Each is played over three lengths of stored prefixes, or over the one in its name, by the player that tests/players.py
 builds. Under it tests/held.c counts the bytes that are held, for the lines that ask how many are.
@@ -12,7 +13,6 @@ import itertools
 import os
 import random
 import subprocess
-import sys
 from glob import glob
 
 import cases
@@ -37,7 +37,7 @@ SET_CALLS = {
     "retain": "", "extract_if": "bbe", "difference": "", "symmetric_difference": "", "intersection": "", "union": "",
     "is_disjoint": "", "is_subset": "", "is_superset": "", "compare": "", "swap": "", "append": "", "extend": "",
     "from_vec": "", "from_iter": "", "split_off": "s", "clone": "", "into_iter": "e", "and": "", "or": "", "xor": "",
-    "minus": "", "hash": "", "debug": "", "extend_from_refs": "",
+    "compact": "", "minus": "", "hash": "", "debug": "", "extend_from_refs": "",
 }  # fmt: skip
 CALLS = {
     "len": "", "is_empty": "", "first_key_value": "", "last_key_value": "", "check": "", "audit": "", "clear": "",
@@ -47,7 +47,7 @@ CALLS = {
     "remove_entry": "s", "iter": "e", "keys": "e", "values": "e", "range": "bbe", "prefix": "ke", "range_mut": "bbxn",
     "prefix_mut": "knx", "iter_mut": "xn", "values_mut": "en", "extraction": "bbx", "extract_if": "bben", "retain": "n",
     "remove_prefix": "p", "apply_prefix": "p", "prepare_prefix": "p", "read_get": "s", "read_prefix_get": "s",
-    "read_prefix": "p", "read_range": "s",
+    "read_prefix": "p", "read_range": "s", "compact": "",
 }  # fmt: skip
 FREE = {"try_entry": "kn", "prefix_entry": "k", "prefix_insert_entry": "kn", "prefix_keys": "k"}
 INNER = ("occupied_insert", "occupied_insert_entry", "inner_insert", "inner_insert_entry", "occupied_shown")
@@ -69,7 +69,7 @@ PUTTING = ("try_insert", "insert", "insert_entry", "replace")
 TAKING = ("remove", "remove_entry", "pop_last", "take", "entry_remove", "entry_remove_entry", "pop_first")
 SELDOM = ("clear", "retain", "extraction", "extract_if", "prefix_insert", "prefix_insert_entry", *PREFIX_FILLING)
 SELDOM += INNER[:4]
-SELDOM += ("remove_prefix", "apply_prefix", "remove_from_both")
+SELDOM += ("remove_prefix", "apply_prefix", "remove_from_both", "compact")
 SELDOM += ("split_off", "into_iter", "into_keys", "into_values", "append", "clone", *FROM_BAG)
 SELDOM += ("and", "or", "xor", "minus", "debug", "extend_from_refs")
 
@@ -79,7 +79,7 @@ def model_of(kind):
 
 
 def script(seed, kind, length):
-    """Lines at random, over keys that branch at a width drawn once, behind a front that is drawn once."""
+    """Lines at random, over keys that branch at a width drawn once, after a front that is drawn once."""
     of = random.Random(seed)
     front = of.choice(("", "", "aa.", "aa*3.", "aa*17.", "aa*40."))
     wide = of.choice((2, 4, 6, 17, 18, 33, 34, 49, 50, 120))
@@ -164,7 +164,7 @@ def mixtures(count, letters="fb"):
 
 def small_maps(kind):
     """Walks in every mixture of both ends over each map of at most four of nine keys; between bounds, of which some
-    pairs are drawn, and over what is taken out, in mixtures that are drawn. All keys behind each prefix are removed."""
+    pairs are drawn, and over what is taken out, in mixtures that are drawn. All keys with each prefix are removed."""
     of, put = random.Random(kind), "try_insert" if kind == "free" else "insert"
     for keys in itertools.chain(*(itertools.combinations(SMALL_KEYS, size) for size in range(5))):
         fill = ["clear"] + [f"{put} {key} {of.randrange(9)}" for key in keys]
@@ -219,26 +219,20 @@ def long_scripts(word):
 
 
 def main():
-    if sys.argv[1:2] == ["--show"]:
-        told = wanted(sys.argv[2].split(".")[-2], open(sys.argv[2]).read().splitlines())
-        print(told[sizes(os.path.basename(sys.argv[2]))[0]], end="")
+    given = cases.given(__doc__, "--quick", "--show=FILE")
+    if "--show" in given:
+        file = given["--show"]
+        print(wanted(file.split(".")[-2], cases.read(file).splitlines())[sizes(os.path.basename(file))[0]], end="")
         return
-    word, counts, played = sys.argv[1] if len(sys.argv) > 1 else "", {True: 0, False: 0}, 0
-    program = players.program(PLAYER)
-    for name, kind, lines in itertools.chain(scripts(word), long_scripts(word)):
+    told, played, program = cases.Tally(), 0, players.program(PLAYER, "--quick" in given)
+    for name, kind, lines in itertools.chain(scripts(given.word), long_scripts(given.word)):
         model = wanted(kind, lines)
-        for prefix_len in sizes(name):
-            ended = "ok"
-            try:
-                play(program, prefix_len, kind, lines, model[prefix_len])
-            except (AssertionError, OSError, subprocess.TimeoutExpired) as why:
-                ended = f"FAILED: {str(why)[:500]}"
-            counts[ended == "ok"] += 1
+        for size in sizes(name):
+            title = f"{PLAYER} {name}, {kind} keys, prefixes of {size}"
+            told.case(title, play, program, size, kind, lines, model[size])
             played += len(lines)
-            print(f"{PLAYER} {name}, {kind} keys, prefixes of {prefix_len}: {ended}")
     print(f"{played} lines played")
-    print(f"{counts[True]} passed, {counts[False]} failed")
-    sys.exit(bool(counts[False]) or not counts[True])
+    told.end()
 
 
 if __name__ == "__main__":

@@ -2,15 +2,15 @@
 """Tries wrong bodies: each must be refused by an open goal of the function that it stands in.
 
     tests/must_fail.py [--all] [WORD..]   those of the gate, or all; WORD: only those whose CRATE/NAME has it in it
-    tests/must_fail.py --beside-ci        those of the gate, over the libraries that rt ci proves (out/rlibs): those of a
-                                          crate once those below it are proved, in order, one crate at a time.
-                                          So ./test calls it; where no ci runs, and none has, it waits
+    tests/must_fail.py --beside-ci        those of the gate, over the libraries that rt ci proves (out/rlibs): those of
+                                          a crate once those below it are proved, in order, one crate at a time. So
+                                          ./test calls it; where no ci runs, and none has, it waits
     tests/must_fail.py --none-is-fine ..  where no edit is chosen, nothing fails
     tests/must_fail.py --anew ..          tries also what an earlier run saw refused (out/must_fail.json), of the same
                                           sources and by the same script
 The edits of a crate are carried out on one copy, and one `rattle check` judges their functions, each named by `--only`
-(tests/edits.py has their form; two of one function go in two checks). All other functions are taken as proved there, since
-ci proves them: a hole stands in the place of each proof. Three things are told apart:
+(tests/edits.py has their form; two of one function go in two checks). All other functions are taken as proved there,
+since ci proves them: a hole stands in the place of each proof. Three things are told apart:
 - a goal of the function is open, which has no written answer: the edit is refused;
 - a written answer no longer fits its goal: the function is judged again without that answer. Where `search` then leaves
   the goal open the edit is refused; where it proves it, the next such answer is left out; where it proves all, the edit
@@ -19,10 +19,10 @@ ci proves them: a hole stands in the place of each proof. Three things are told 
 It also fails where the function is proved with it (whatever else it calls), and where the text no longer applies or
 compiles.
 
-Where an edit leaves several goals open, one is enough: each that is searched for costs seconds. So tests/must_fail.goals
-has those that were open before, and the first alone is searched for; a hole stands for each other. Where it is open the
-edit is refused, as before. In any other case the edit is judged whole. So a line that is wrong or lacks costs time, and
-changes no verdict. Each run writes out/must_fail.goals, to take its place.
+Where an edit leaves several goals open, one is enough: each that is searched for costs seconds. So
+tests/must_fail.goals has those that were open before, and the first alone is searched for; a hole stands for each
+other. Where it is open the edit is refused, as before. In any other case the edit is judged whole. So a line that is
+wrong or lacks costs time, and changes no verdict. Each run writes out/must_fail.goals, to take its place.
 
 At the end stands what the checks of each crate took, and its dearest edits. What rattle says stands in
 out/must_fail-CRATE-CHECK.log; the last line is 'N passed, M failed'.
@@ -42,16 +42,14 @@ from glob import glob
 import cases
 import edits
 import quick
+import verdicts
+from verdicts import REFUSED, Answers, Said, passed_over, said_by
 
 TOP = os.getcwd()
 PARTS, RLIBS = ("src", "specs", "proofs"), "out/rlibs"
 TREE, ENDED = f"{RLIBS}/tree", f"{RLIBS}/ended"
-# What is written behind the answers of each function that is tried. It is refused, and where an answer is, rattle does not
-# try once more what it could offer for the open goals, which takes as long as the check itself.
-NO_OFFERS = "no_offers"
-REFUSED = f"\npub {NO_OFFERS} : no_such_goal\n{NO_OFFERS} = no_such_goal\n"
-# A function that no edit of a check stands in is taken as proved there: ci proves it. Its proof is then one hole, which all
-# share, of any statement.
+# A function that no edit of a check stands in is taken as proved there: ci proves it. Its proof is then one hole, which
+# all share, of any statement.
 TAKEN = "proofs/TakenAsProved.antt", "pub taken : {A : Type 2} → A\ntaken = ?\n"
 HOLE = """use Rattle.%s.proofs.%s.Statement as stated
 use Rattle.%s.proofs.TakenAsProved.{taken}
@@ -60,140 +58,6 @@ pub %s_spec : {M : Type 1} → stated.statement M
 %s_spec = taken
 """
 PROOFS = ("Answers.antt", "Invariants.antt", "Proof.antt")
-# What rattle says of an answer that names what is not there, or rests on what is not proved.
-GONE = re.compile(r"is not in scope|has no field|has no `|that can be named|was not admitted|is no name")
-
-
-class Said:
-    """What rattle said of a function: `proved`, or not; its goals that are open, and the errors in its proof."""
-
-    def __init__(self):
-        self.state, self.open, self.false, self.errors = None, [], [], []
-
-    def waits(self):
-        """Whether it was not judged, since another edit's function that it calls can't be stated, or is not proved: it is
-        tried again."""
-        if not self.state or self.open or self.errors:
-            return False
-        return bool(re.search(r"part in its proof is not made yet|it calls `.*, which (is|are) not proved", self.state))
-
-    def waits_for(self, crate):
-        """The functions of the crate that it is said to call and that are not proved."""
-        called = re.search(r"it calls (`.*), which (is|are) not proved", self.state)
-        return set(re.findall(rf"`{crate}::([^`]+)`", called[1])) if called else set()
-
-    def none(self):
-        """Why there is no verdict on the function, or None."""
-        words = "could not tell|no proof: expected `|.*the borrow checker does not cover|.*is not made yet"
-        if self.state is None or re.match(words, self.state):
-            return f"NOT JUDGED: rattle says of its function: {(self.state or 'nothing')[:300]}"
-        return None
-
-    def parted(self):
-        """The errors in written answers: those by a name that is gone, and the goals or helpers that no longer fit."""
-        gone = [it for it in self.errors if GONE.search(it)]
-        return gone, list(dict.fromkeys(goal_of(it) for it in self.errors if it not in gone))
-
-    def own(self, answers):
-        """The open goals that have no written answer of the right body's. They are of the wrong body: `search` proves them
-        of the right one, or it has no such goal. (Where a goal that has an answer is gone, a new one may be that goal by
-        another name: then only goals that go by the name of one that stays are.)"""
-        gone, _ = self.parted()
-        lost = [goal_of(it) for it in gone if goal_of(it) in answers.goals and re.search(r"\bgoal\.|Goals", it)]
-        ways = {re.sub(r"-clause-.*", "", it) for it in answers.goals if it not in lost}
-        fresh = [it for it in self.open if it not in answers.goals]
-        return [it for it in fresh if not lost or re.sub(r"-clause-.*", "", it) in ways]
-
-    def goals_open(self, answers):
-        """The open goals that no answer is written for, those first that are false at some values."""
-        found = [it for it in dict.fromkeys(self.open) if it not in answers.goals]
-        return sorted(found, key=lambda it: it not in self.false)
-
-    def verdict(self, answers, without=()):
-        """Whether the edit of the function is refused, and by what; None where it is to be judged again without the answers
-        that no longer fit. `answers`: those of the right body; `without`: those that were left out."""
-        why = self.none()
-        gone, fits = self.parted()
-        own = [it for it in self.open if it in without] + self.own(answers)
-        if why:
-            return False, why
-        if self.false:
-            told = " without its answer" if {*self.false} <= {*without} else ""
-            return True, f"open{told}, and false at some values: {', '.join(self.false)}"
-        if own:
-            told = " without its answer" if {*own} <= {*without} else ""
-            beside = " (its proof also names what the edit took away)" if gone else ""
-            return True, f"open{told}: {', '.join(dict.fromkeys(own))}{beside}"
-        if fits:
-            return None
-        if gone:
-            told = f"; open beside it: {', '.join(self.open)}" if self.open else ""
-            return False, f"REFUSED BY A NAME ALONE, which its proof has and the edit took away: {gone[0][:200]}{told}"
-        if self.open:
-            return True, f"open: {', '.join(self.open)}"
-        how = f", without the answers that no longer fit: {', '.join(without)}" if without else ""
-        return False, f"LET THROUGH: the function has no open goal with it{how} ({self.state[:160]})"
-
-
-class Answers:
-    """The written answers of a function: the text of their file, and what each of them is called."""
-
-    HEAD = re.compile(r"(?m)^(?:pub |abbrev |unfoldable )*(\S+) :(?=\s)")
-
-    def __init__(self, path):
-        self.text = open(path, encoding="utf-8").read() if os.path.isfile(path) else ""
-        self.names = [it[1] for it in self.HEAD.finditer(self.text)]
-        self.goals = {it for it in self.names if f" {it} : goal.{it}" in f" {self.text}"}
-
-    def parts(self):
-        """The text from one answer to the next, each with its name; None for what stands before the first."""
-        found, last = [[None, []]], None
-        for line in self.text.split("\n"):
-            made = self.HEAD.match(line)
-            if made:
-                last = made[1]
-                found.append([last, []])
-            found[-1][1].append(line)
-        return [(name, "\n".join(lines)) for name, lines in found]
-
-    def without(self, names):
-        """The text without these answers and those that name them, and all that were left out."""
-        left, more = {*names} & {*self.names}, True
-        while more:
-            uses = lambda text: any(re.search(rf"(?<![\w.-]){re.escape(it)}(?![\w-])", text) for it in left)
-            more = {name for name, text in self.parts() if name and name not in left and uses(text.partition(" =")[2])}
-            left |= more
-        return "\n".join(text for name, text in self.parts() if name not in left), left
-
-
-def goal_of(error):
-    """The goal of which an error in a function's proof is, or else what is said."""
-    named = re.match(r"`([^`]+)`", error) or re.search(r"in `([^`]+)`", error)
-    return named[1] if named else error[:120]
-
-
-def said_by(text, crate):
-    """What rattle printed, by function. The notes of a function's open goals stand before its line."""
-    found, waiting, errors = {}, [], []
-    for line in text.split("\n"):
-        note = re.match(r"note: \S+: (?:it is not proved that .*?|`search` found no proof )\(`([^`]+)`\)(.*)", line)
-        error = re.match(r"(?:\./)?proofs/(\S+)/\w+\.antt:\d+:\d+: error: (.*)", line)
-        made = re.match(rf"fn {crate}::(\S+): (.*)", line)
-        if note:
-            waiting.append((note[1], "at which this goal is false" in note[2]))
-        elif error and not re.match(rf"\d+ declarations? that depend|`{NO_OFFERS}`", error[2]):
-            errors.append((error[1].replace("/", "::"), error[2]))
-        elif made:
-            it = found.setdefault(made[1], Said())
-            it.state, it.open = made[2], [name for name, _ in waiting]
-            # (where search alone proves a function, its goals stand in its line)
-            for names in re.findall(r"`search` did not prove ((?:(?:, | and )?`[^`]+`)+)", made[2]):
-                it.open += [name for name in re.findall(r"`([^`]+)`", names) if name not in it.open]
-            it.false = [name for name, false in waiting if false]
-            waiting = []
-    for function, error in errors:
-        found.setdefault(function, Said()).errors.append(error)
-    return found
 
 
 def below(crates, name):
@@ -228,7 +92,7 @@ class Kept:
     def sum(self, crate, edit):
         if crate.name not in self.sums:
             names = [crate.name, *below(crate.libraries.crates, crate.name)]
-            self.sums[crate.name] = sum_of_tree(names, [__file__])
+            self.sums[crate.name] = sum_of_tree(names, [__file__, verdicts.__file__])
         return f"{self.sums[crate.name]} {edit.function} {edit.pairs}"
 
     def told(self, crate, edit):
@@ -244,8 +108,8 @@ class Kept:
 
 
 class Opened:
-    """The goals that a whole check of an edit found open, where there are several and no answer is written for them: the
-    first alone is searched for in the next run. `file` has a line for each such edit."""
+    """The goals that a whole check of an edit found open, where there are several and no answer is written for them:
+    the first alone is searched for in the next run. `file` has a line for each such edit."""
 
     file, made = "tests/must_fail.goals", "out/must_fail.goals"
 
@@ -281,7 +145,8 @@ def mark_tree():
 
 
 def note_proved(crate, functions):
-    """Says in out/rlibs that rt ci has proved a crate, and which functions, where it told (what it kept it does not)."""
+    """Says in out/rlibs that rt ci has proved a crate, and which functions, where it told (what it kept it does
+    not)."""
     cases.write(f"{RLIBS}/{crate}.proved.part", "".join(f"{it}\n" for it in functions))
     os.rename(f"{RLIBS}/{crate}.proved.part", f"{RLIBS}/{crate}.proved")
 
@@ -386,8 +251,9 @@ class Crate:
             shutil.copytree(kept, f"{self.room}/kept", copy_function=link)
 
     def proved(self):
-        """The functions that are taken as proved: those that rt ci proved, and those of the copy that have files of proofs,
-        but for those of a cycle, which have one proof together, and what rattle makes of other crates' types."""
+        """The functions that are taken as proved: those that rt ci proved, and those of the copy that have files of
+        proofs, but for those of a cycle, which have one proof together, and what rattle makes of other crates'
+        types."""
         top, found = f"{self.room}/proofs", {*self.libraries.proved(self.name)}
         for folder, _, files in os.walk(top):
             if {*PROOFS} & {*files}:
@@ -395,7 +261,8 @@ class Crate:
         return sorted(it for it in found if not re.search(r"(^|::)\+|\+\+|[{<]", it))
 
     def not_taken(self, text, tried):
-        """Whether rattle refused the hole of a function. It keeps its proof from then on, and the check is made anew."""
+        """Whether rattle refused the hole of a function. It keeps its proof from then on, and the check is made
+        anew."""
         errors = re.findall(r"(?m)^(?:\./)?proofs/(\S+)/Proof\.antt:\d+:\d+: error", text)
         found = {it.replace("/", "::") for it in errors} & {*self.holes} - tried
         self.holes = [it for it in self.holes if it not in found]
@@ -416,10 +283,10 @@ class Crate:
         return texts
 
     def try_all(self, todo):
-        """Tries edits, as many in each check as touch no function twice. Behind each check come those of it that it says
-        nothing of yet (another edit kept them from being judged, or an answer no longer fits), and those that had no place
-        in it. What an earlier run found open in an edit is looked at `first`: where it is open that is all, and else the
-        edit is judged as if nothing was known of it."""
+        """Tries edits, as many in each check as touch no function twice. After each check come those of it that it
+        says nothing of yet (another edit kept them from being judged, or an answer no longer fits), and those that had
+        no place in it. What an earlier run found open in an edit is looked at `first`: where it is open that is all,
+        and else the edit is judged as if nothing was known of it."""
         first = {it: self.opened.of(it) for it in todo if self.opened.of(it)}
         left, apart = {}, {}
         while todo:
@@ -473,8 +340,9 @@ class Crate:
         return again
 
     def check(self, chosen, left, first):
-        """What rattle says of a copy with these edits, and the edits that keep it from judging, each with why. Of those in
-        `left` some answers are left out; of those in `first` one of these goals is judged, and the others are not."""
+        """What rattle says of a copy with these edits, and the edits that keep it from judging, each with why. Of those
+        in `left` some answers are left out; of those in `first` one of these goals is judged, and the others are
+        not."""
         texts = {}
         for edit in chosen:
             texts = edit.carried_out(texts)
@@ -505,7 +373,8 @@ class Crate:
         return ran.stdout, [] if judged else blamed(ran, chosen, texts)
 
     def note_costs(self, chosen, began, spent):
-        """Notes what a check took, and by the times of the files that it kept near what of it each edited function took."""
+        """Notes what a check took, and by the times of the files that it kept near what of it each edited function
+        took."""
         files = [(os.stat(it).st_mtime, it) for it in glob(f"{self.room}/kept/*/Rattle-{self.name}-*.oantt")]
         share, last = spent / max(time.time() - began, 0.01), began
         self.checks.append(spent)
@@ -531,14 +400,6 @@ def run(words, how):
         _, status, used = os.wait4(ran.pid, 0)
         ran.returncode = os.waitstatus_to_exitcode(status)
     return subprocess.CompletedProcess(words, ran.returncode, said), used.ru_utime + used.ru_stime
-
-
-def passed_over(text, crate, function, goals):
-    """The text of a function's answers, in which these goals are passed over by a hole each."""
-    name = re.search(r"(?m)^use \S+\.Goals as (\S+)$", text)
-    if goals and not name:
-        text = f"use Rattle.{crate}.proofs.{function.replace('::', '.')}.Goals as goal\n{text}"
-    return text + "".join(f"\npub {it} : {name[1] if name else 'goal'}.{it}\n{it} = ?\n" for it in goals)
 
 
 def blamed(ran, chosen, texts):
@@ -587,8 +448,8 @@ def link(one, other):
 
 
 def fitting(todo, apart):
-    """The edits that one check can judge, those first that stand first: none touches a function that another does, or has
-    a text that another took, or is to be kept apart from another."""
+    """The edits that one check can judge, those first that stand first: none touches a function that another does, or
+    has a text that another took, or is to be kept apart from another."""
     chosen, touched, texts = [], set(), {}
     for edit in todo:
         own = {(path, at) for path, _, at in edit.places()} | {edit.function}

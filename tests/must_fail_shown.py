@@ -2,8 +2,8 @@
 """Shows what tests/must_fail.py says of edits of each kind, on a tiny crate of its own: those that are let through, no
 longer apply or compile, or are refused by a name alone must fail it, each with its line.
 
-Some are tried once more, with goals of an earlier run that are looked at first, most of them wrong: each must come out as in
-the first run.
+Some are tried once more, with goals of an earlier run that are looked at first, most of them wrong: each must come out
+as in the first run.
 
     tests/must_fail_shown.py     at the top of the repository; the last line is 'N passed, M failed'
 """
@@ -127,8 +127,8 @@ invariant-loop-it l = l.at ≡ l.it
 }
 # The text of a function, and what takes its place, so that an answer names what is gone.
 FIRST = ("let first = same(n);", "let one = same(n); let first = one;")
-# Goals that are looked at first. Of `new_way_out` both are so; of the others they are wrong: of edits that are let through,
-# a goal that is none, and one that has an answer.
+# Goals that are looked at first. Of `new_way_out` both are so; of the others they are wrong: of edits that are let
+# through, a goal that is none, and one that has an answer.
 FIRST_GOALS = """tiny/new_way_out: returns-then-n-eq7 returns
 tiny/equal_body: returns no_such_goal
 tiny/equal_caller: returns returns

@@ -3,8 +3,8 @@
 
     tests/newcomer.py      at the top of the repository; its last line is 'N passed, M failed'
 The one block of shell of uses/README.md is run in an empty folder beside a link named art; the one block of Rust of
-README.md that is of no example of bindings/rust becomes the program's source. The program is built without proofs (tools/quick.py), as `rt try`
-builds it. What it prints is looked at.
+README.md that is of no example of bindings/rust becomes the program's source. The program is built without proofs
+(tools/quick.py), as `rt try` builds it. What it prints is looked at.
 """
 import os
 import re

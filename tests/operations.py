@@ -2,8 +2,9 @@
 """Plays scripts of calls of the tree and its nodes through play_operations, and holds what it prints against a model
 (operations_model.py) made from the contracts.
 
-    tests/operations.py [WORD]           at the top of the repository; WORD: only scripts with it in a name
-    tests/operations.py --show N FILE    prints what the model answers to a script, where N bytes of a prefix are stored
+    tests/operations.py [--quick] [WORD]    at the top of the repository; WORD: only scripts with it in a name; --quick: by
+                                            a player that is built soonest
+    tests/operations.py --show N FILE       prints what the model answers to a script, where N bytes of a prefix are stored
 The scripts of tests/operations/ are worked rows; others are made at random from fixed seeds, and two have a tree as deep
 as its keys are long. Each is played over three lengths of stored prefixes, by the player that tests/players.py builds,
 under a stack of 256 KiB.
@@ -17,6 +18,7 @@ import sys
 from collections import Counter
 from glob import glob
 
+import cases
 import players
 from operations_model import bytes_in, hold_tree, Inner, Model, overlap, tree_of
 
@@ -40,7 +42,7 @@ OFTEN |= {"free": 0.05, "free_apart": 0.05, "run": 0.1, "forget": 0.3, "key": 0.
 
 
 class Writer:
-    """Lines at random, over keys that branch at a width drawn once, behind a front that is drawn once."""
+    """Lines at random, over keys that branch at a width drawn once, after a front that is drawn once."""
 
     def __init__(self, seed, prefix_len):
         self.of, self.model, self.lines = random.Random(seed), Model(prefix_len), []
@@ -69,7 +71,7 @@ class Writer:
         return call if call == "clone" else f"{call} {self.word('k')} {self.word('n')}"
 
     def count(self):
-        """Counts what look-ups read. What is drawn behind these lines is what would be drawn without them."""
+        """Counts what look-ups read. What is drawn after these lines is what would be drawn without them."""
         state = self.of.getstate()
         for _ in range(TOGETHER):
             call = self.of.choice(list(COUNTS))
@@ -91,7 +93,7 @@ class Writer:
             self.add(call, *words)
 
     def behind_last(self):
-        """A word for a key that goes behind the last one, or any, if there is none or it has no greater byte."""
+        """A word for a key that goes after the last one, or any, if there is none or it has no greater byte."""
         last = max(self.model.pairs, default=b"")
         places = [at for at, byte in enumerate(last) if byte < 255]
         if not places or self.of.random() < 0.2:
@@ -100,7 +102,7 @@ class Writer:
         return (last[:at] + bytes([self.of.randint(last[at] + 1, 255)]) + self.tail()).hex()
 
     def build_on(self):
-        """The tree is opened at its last leaf, takes pairs behind that, and is closed."""
+        """The tree is opened at its last leaf, takes pairs after that, and is closed."""
         if self.of.random() < 0.5:
             self.add("room", len(self.model.pairs) + self.of.randint(0, 3))
         self.add("reopen")
@@ -127,7 +129,7 @@ class Writer:
         self.add("check")
 
     def sites(self):
-        """What is drawn behind these lines is what would be drawn without them."""
+        """What is drawn after these lines is what would be drawn without them."""
         state = self.of.getstate()
         for call in (self.build_on, self.list_leaves, self.build_on, self.list_leaves):
             call()
@@ -357,28 +359,21 @@ def long_scripts(word):
 
 
 def main():
-    if sys.argv[1:2] == ["--show"]:
-        lines = open(sys.argv[3]).read().splitlines()
-        print("\n".join(" or ".join(sorted(it)) for it in wanted(int(sys.argv[2]), lines)))
+    given = cases.given(__doc__, "--quick", "--show=N")
+    if "--show" in given:
+        lines = cases.read(given.word).splitlines()
+        print("\n".join(" or ".join(sorted(it)) for it in wanted(int(given["--show"]), lines)))
         return
-    word, counts, told = sys.argv[1] if len(sys.argv) > 1 else "", Counter(), Counter()
     sys.setrecursionlimit(50_000)
-    program = players.program(PLAYER)
+    told, faults, program = cases.Tally(), Counter(), players.program(PLAYER, "--quick" in given)
     for prefix_len in PREFIX_LENS:
-        for name, lines in itertools.chain(scripts(prefix_len, word=word), long_scripts(word)):
+        for name, lines in itertools.chain(scripts(prefix_len, word=given.word), long_scripts(given.word)):
             allowed = wanted(prefix_len, lines)
             for line, those in zip(lines, allowed):
-                told.update(those if line.startswith("check") and not any("leaves" in it for it in those) else ())
-            ended = "ok"
-            try:
-                play(program, prefix_len, lines, allowed)
-            except (AssertionError, OSError, subprocess.TimeoutExpired) as why:
-                ended = f"FAILED: {str(why)[:500]}"
-            counts[ended == "ok"] += 1
-            print(f"{PLAYER} {name}, prefixes of {prefix_len}: {ended}")
-    print("faults that stood at a check: " + ", ".join(f"{it} {number}" for it, number in sorted(told.items())))
-    print(f"{counts[True]} passed, {counts[False]} failed")
-    sys.exit(bool(counts[False]) or not counts[True])
+                faults.update(those if line.startswith("check") and not any("leaves" in it for it in those) else ())
+            told.case(f"{PLAYER} {name}, prefixes of {prefix_len}", play, program, prefix_len, lines, allowed)
+    print("faults that stood at a check: " + ", ".join(f"{it} {number}" for it, number in sorted(faults.items())))
+    told.end()
 
 
 if __name__ == "__main__":

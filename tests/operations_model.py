@@ -1,5 +1,5 @@
 """What play_operations has to answer to a line, by a model made from the contracts. It keeps sorted pairs, and makes
-the tree that they should have from its definition; behind the line `by_hand` it keeps nodes as they were made by hand,
+the tree that they should have from its definition; after the line `by_hand` it keeps nodes as they were made by hand,
 damaged at random or not, and tells by the definition whether they are a tree, and which faults stand."""
 from collections import Counter
 
@@ -114,7 +114,7 @@ def verdict(nodes, root, prefix_len):
 
 
 class Model(Site):
-    """Pairs in the order of their keys' bytes, and behind `by_hand` nodes by hand. `answers` gives all that a line may
+    """Pairs in the order of their keys' bytes, and after `by_hand` nodes by hand. `answers` gives all that a line may
     answer. In a list of commands those whose numbers stand in `refused` find no memory."""
 
     def __init__(self, prefix_len):
@@ -206,7 +206,7 @@ class Model(Site):
         front = max((common(key, it) for it in self.pairs if it != key), key=len, default=None)
         return front is not None and len({it[len(front)] for it in self.pairs if it.startswith(front)}) in SHRINKING
 
-    # The part behind a prefix.
+    # The part with a prefix.
     def parted(self, front):
         """The pairs whose keys begin with these bytes, and the others, each in order."""
         pairs = sorted(self.pairs.items())
@@ -376,7 +376,7 @@ class Model(Site):
                 told.append(f"{shown(node.key)} {node.value} {links}")
         return "".join(f"{it}, " for it in told) + "end"
 
-    # (it stands once, right behind `by_hand`, and so names what the model has named)
+    # (it stands once, right after `by_hand`, and so names what the model has named)
     hand_names = hand_tell
 
     def named(self, node):

@@ -1,20 +1,21 @@
 #!/usr/bin/env python3
 """Refuses memory to each line of the scripts of the tree in turn: each request, alone and with all later ones.
 
-    tests/operations_refused.py [WORD]   at the top of the repository; WORD: only lines named by it
+    tests/operations_refused.py [--quick] [WORD]   at the top of the repository; WORD: only lines named by it; --quick: by
+                                                   a player that is built soonest
 Under tests/refuse.c, which says what a window is, play_operations plays each script of tests/operations but the long
-ones, and six that are made at random, once for each line of it. The line stands twice, and is refused the first time: it must answer a
-refusal that it may answer, the checker must find the tree as it was in between, and all else must be as if it stood
-once. Where no request is refused, the answers are the model's too; so what asks for no memory succeeds with every
-request refused. How many requests each call made at most, and in how many runs one was refused, goes to
+ones, and six that are made at random, once for each line of it. The line stands twice, and is refused the first time: it
+must answer a refusal that it may answer, the checker must find the tree as it was in between, and all else must be as if
+it stood once. Where a slab then asks for less, and has it, the answers must be the model's, as where nothing is refused.
+What asks for no memory succeeds with every request refused. How many requests each call made at most, and in how many
+runs one was refused, goes to
 out/operations_refused.md.
 """
 import itertools
 import os
 import resource
-import subprocess
-import sys
 
+import cases
 import operations
 import players
 import windows
@@ -23,7 +24,7 @@ from operations_model import Model, bytes_in, shown
 SHIM = os.path.abspath("out/refuse-operations.so")
 # For the names of nodes the player takes memory of its own.
 PLAYERS_OWN = ("by_hand",)
-# Calls that take out one leaf, and calls over the part behind a prefix.
+# Calls that take out one leaf, and calls over the part with a prefix.
 TAKING, PARTS = ("delete", "take_leaf", "delete_first", "delete_last"), ("cut", "leave")
 # Of each call: its lines, those of no request, the most requests of one, and the runs in which one was refused.
 seen_of = {}
@@ -125,7 +126,7 @@ def one_line(program, lines, at):
     model, refused = Model(4), 0
     for line in lines[:at]:
         model.answers(line)
-    # (behind a list of commands another tree stands, and nodes by hand need be none)
+    # (after a list of commands another tree stands, and nodes by hand need be none)
     looks = [] if model.is_by_hand or lines[at] == "run" else ["check"]
     once = [*lines[:at], *looks, *lines[at:]]
     twice = [*lines[: at + 1], *looks, *lines[at:]]
@@ -139,6 +140,9 @@ def one_line(program, lines, at):
                 assert agrees(of_twice, told), f"{label}: other answers than the model's"
                 break
             refused += 1
+            if "l" in seen:
+                less, granted = run(program, f"{number}-", at + 2, text)
+                assert agrees(of_twice, granted), f"{label}, and {less} where it has less: other answers than the model's"
             assert is_refused(model, lines[at], told[at]), f"{label}: it answers {told[at][:300]}"
             assert agrees(of_once, told[:at] + told[at + 1 :]), f"{label}: else as it stood once"
     has_room = [it.split(" ")[0] for it in lines[max(0, at - 2) : at]] == ["key", "reserve"]
@@ -148,31 +152,23 @@ def one_line(program, lines, at):
 
 
 def main():
-    word, counts = sys.argv[1] if len(sys.argv) > 1 else "", {True: 0, False: 0}
+    given = cases.given(__doc__, "--quick")
+    told = cases.Tally(given.word)
     resource.setrlimit(resource.RLIMIT_CORE, (0, 0))
     os.makedirs("out", exist_ok=True)
     windows.build(SHIM)
-    program = players.program(operations.PLAYER)
+    program = players.program(operations.PLAYER, "--quick" in given)
     for name, lines in operations.scripts(4, 6, 60, 1):
         if name.startswith("long_"):
             continue
         lines = lines[:180]
         for at, line in enumerate(lines):
-            told = f"{operations.PLAYER} {name}, line {at + 1}, {line[:40]}"
-            if word not in told or line in PLAYERS_OWN:
-                continue
-            ended = "ok"
-            try:
-                one_line(program, lines, at)
-            except (AssertionError, OSError, subprocess.TimeoutExpired) as why:
-                ended = f"FAILED: {str(why)[:500]}"
-            counts[ended == "ok"] += 1
-            print(f"{told}: {ended}")
+            if line not in PLAYERS_OWN:
+                told.case(f"{operations.PLAYER} {name}, line {at + 1}, {line[:40]}", one_line, program, lines, at)
     with open("out/operations_refused.md", "w", encoding="utf-8") as file:
-        for (call, told), numbers in sorted(seen_of.items()):
-            file.write(f"| `{call}` | {told} | {' | '.join(map(str, numbers))} |\n")
-    print(f"{counts[True]} passed, {counts[False]} failed")
-    sys.exit(bool(counts[False]) or not counts[True])
+        for (call, what), numbers in sorted(seen_of.items()):
+            file.write(f"| `{call}` | {what} | {' | '.join(map(str, numbers))} |\n")
+    told.end()
 
 
 main()

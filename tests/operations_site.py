@@ -42,7 +42,7 @@ class Site:
     def call_push(self, word, number, *_):
         key = self.bytes_in(word)
         if not self.goes_behind(key):
-            return f"not behind {shown(key)} {int(number or 0)}"
+            return f"not after {shown(key)} {int(number or 0)}"
         self.pushes = max(0, self.pushes - bool(self.pairs))
         self.store(key, number)
         return "taken"
@@ -95,7 +95,7 @@ class Site:
         return f"was {shown(key)} {self.pairs.pop(key)}"
 
     def call_list_move(self, count, *_):
-        """The cursor stands behind the last leaf."""
+        """The cursor stands after the last leaf."""
         if int(count) > len(self.pairs):
             return "no"
         moved = sorted(self.pairs)[len(self.pairs) - int(count) :]

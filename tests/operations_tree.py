@@ -26,7 +26,7 @@ class Inner:
 
 
 def tree_of(pairs, depth=0):
-    """The canonical tree of ascending pairs none of whose keys is a front of another, behind so many bytes."""
+    """The canonical tree of ascending pairs none of whose keys is a front of another, after so many bytes."""
     if len(pairs) == 1:
         return Leaf(*pairs[0])
     front = len(common(pairs[0][0], pairs[-1][0]))
@@ -84,7 +84,7 @@ def place(tree, key, stored):
 
 
 def beside(node, rest):
-    """How many nodes are read from the place of a key, behind which so much is left of it, to a leaf beside it."""
+    """How many nodes are read from the place of a key, after which so much is left of it, to a leaf beside it."""
     if isinstance(node, Leaf):
         return 1
     if node.prefix.startswith(rest):

@@ -3,18 +3,16 @@
 Each is a crate below tests/players, whose files end in .rt.in, since the gate takes no .rt file that it doesn't prove.
 tests/players/crates.lines says what each stands on. A player is built once, without proofs and without checks at run
 time (tools/quick.py), so that it plays what a proved build would: all scripts share the build, which out/players keeps
-until a source changes.
+until a source changes. For ./test --quick nothing is optimized, which takes half as long.
 """
-import fcntl
 import functools
 import hashlib
 import os
 import shutil
-import sys
 import tempfile
 from glob import glob
 
-sys.path.insert(0, os.path.join(os.path.dirname(os.path.dirname(os.path.abspath(__file__))), "tools"))
+import cases
 import quick
 
 FOLDER, KEPT = "tests/players", "out/players"
@@ -44,27 +42,27 @@ def copied(top, to, name):
     return to
 
 
-def path_of(taken, name):
+def path_of(taken, name, compiler=quick.UNCHECKED):
     """Where, below the top, the build of a player is kept whose sources these are."""
-    made = f"{quick.digest(taken, quick.BUILT_OF)} {quick.UNCHECKED}"
-    return f"{KEPT}/{name}-{hashlib.sha256(made.encode()).hexdigest()[:16]}"
+    made, kind = f"{quick.digest(taken, quick.BUILT_OF)} {compiler}", "quick-" * (compiler is not quick.UNCHECKED)
+    return f"{KEPT}/{kind}{name}-{hashlib.sha256(made.encode()).hexdigest()[:16]}"
 
 
 @functools.cache
-def program(name, top=quick.TOP):
-    """The path of a player, as it is built from the sources as they stand. Ends the script if it can't be built."""
+def program(name, is_quick=False, top=quick.TOP):
+    """The path of a player, as it is built from the sources as they stand; with nothing optimized, if it is to be there
+    soon. Ends the script if it can't be built."""
+    compiler = quick.SOONEST if is_quick else quick.UNCHECKED
     with tempfile.TemporaryDirectory() as room:
         taken = copied(top, f"{room}/taken", name)
-        path = f"{top}/{path_of(taken, name)}"
+        path = f"{top}/{path_of(taken, name, compiler)}"
         os.makedirs(f"{top}/{KEPT}", exist_ok=True)
-        with open(f"{top}/{KEPT}/{name}.lock", "w", encoding="utf-8") as lock:
-            # (two scripts may ask at once: the second waits for what the first builds)
-            fcntl.flock(lock, fcntl.LOCK_EX)
+        with cases.one_builds(name):
             if not os.access(path, os.X_OK):
-                said = quick.build(taken, name, f"{room}/{name}", quick.UNCHECKED)
+                said = quick.build(taken, name, f"{room}/{name}", compiler)
                 if said:
-                    sys.exit(f"{name} can't be built: {said}")
-                for old in glob(f"{top}/{KEPT}/{name}-*"):
+                    cases.cannot(f"{name} can't be built: {said}")
+                for old in glob(f"{path[:-16]}*"):
                     os.remove(old)
                 shutil.move(f"{room}/{name}", path)
     return path

@@ -1,4 +1,4 @@
-"""The processes of one run, from Linux's /proc: those that have its mark in their environment, and all that these start.
+"""The processes of one run, from Linux's /proc: those with its mark in their environment, and all that these start.
 
 A run has a folder of its own for what is made meanwhile, where TMPDIR points. It goes when the run ends.
 """

@@ -73,7 +73,7 @@ def the_table_of_the_readme(program):
 
 
 def the_sessions_of_the_pages(program):
-    """In a block of text that begins with `>`, what is sent stands behind `>`, and its replies below it."""
+    """In a block of text that begins with `>`, what is sent stands after `>`, and its replies below it."""
     shown = []
     for page in sorted(glob("docs/*.md")):
         with open(page, encoding="utf-8") as file:
@@ -363,7 +363,7 @@ def main():
         TESTS.remove(first_run_by_the_script)
     for name, test in tests():
         for program in cases.programs(given) if told.wants(name) else ():
-            told.case(f"{os.path.basename(program)} {name}", test, program)
+            told.case(f"{cases.title(program)} {name}", test, program)
     told.end()
 
 

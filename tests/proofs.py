@@ -1,8 +1,9 @@
 #!/usr/bin/env python3
-"""Proves crates in the order given, each over those below it, and their tests: it shows what `rt check` and `rt test` say.
+"""Proves crates in the order given, each over those below it, and their tests, by `rt check` and `rt test`.
 
     tests/proofs.py CRATE..      at the top of the repository; ./test CRATE.. calls it, lowest first
-What a check keeps in out/incremental is used, so only what changed is proved. A crate whose library failed is not tried.
+What a check keeps in out/incremental is used, so only what changed is proved. A crate whose library failed is not
+tried.
 """
 import os
 import re
@@ -20,7 +21,8 @@ def has_tests(crate):
 
 
 def prove(crate, verb, wanted):
-    """Runs a command of rt in a crate. Its output goes to a log; where it fails, the lines that tell why are the reason."""
+    """Runs a command of rt in a crate. Its output goes to a log; where it fails, the lines that tell why are the
+    reason."""
     log = f"{cases.TOP}/out/proof-{verb}-{crate}.log"
     with open(log, "w", encoding="utf-8") as file:
         how = {"cwd": f"crates/{crate}", "stdin": subprocess.DEVNULL, "stdout": file, "stderr": subprocess.STDOUT}

@@ -96,7 +96,7 @@ def shrinks(keys, key):
 
 
 def shrinks_without(keys, front):
-    """Whether the longest front that full keys behind a front share with others has such a width, if there are both."""
+    """Whether the longest front that full keys with a front share with others has such a width, if there are both."""
     others = [key for key in keys if not key.startswith(front)]
     if len(others) in (0, len(keys)):
         return False

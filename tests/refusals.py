@@ -1,17 +1,17 @@
 #!/usr/bin/env python3
-"""Refuses memory to calls of the libraries and lines of the program: each request in turn, alone and with all later ones.
+"""Refuses memory to calls of the libraries and lines of the program: each request, alone and with all later ones.
 
-    tests/refusals.py [--program PATH | --quick] [WORD]    at the top of the repository; WORD: only what has it in its name
-art_index is that which rt ci has built, by both compilers; with --program that at PATH, with --quick one without proofs.
-Under tests/refuse.c, which says what a window is, it runs
+    tests/refusals.py [--program PATH | --quick] [WORD]    WORD: only what has it in its name
+art_index is that which rt ci has built, by both compilers; with --program that at PATH, with --quick one without
+proofs. Under tests/refuse.c, which says what a window is, it runs
 - the player `refusals` (tests/players.py), which must write tests/refusals.scenarios, and each scenario of it, a line
-  'scenario NAME' and those behind it,
+  'scenario NAME' and those after it,
 - art_index over tests/refusals.lines with nothing refused: it must answer tests/refusals.replies, in which no line is
   refused, by the program as both compilers make it,
 - each of these lines: the line stands twice, and is refused the first time. It must answer `memory` then, and all else
   must be as if it stood once. Only lines that may be refused by the definition may ask for memory.
 - each script of tests/maps, and the first lines of six that are made at random, line by line likewise, by play_map;
-  and of all scripts that are made at random the lines whose calls are rare, while the maps are small. Behind each
+  and of all scripts that are made at random the lines whose calls are rare, while the maps are small. After each
   refused line both maps are looked at by the checker, and gone along from both ends. A call that builds may do without
   what it is refused, and succeed. Tables tell how many requests each call and each line of the program made, how often
   it was refused, and how often a call did without; they go to out/refusals.md.
@@ -21,9 +21,8 @@ import itertools
 import os
 import re
 import resource
-import subprocess
-import sys
 
+import cases
 import map_model
 import map_words
 import maps
@@ -32,7 +31,7 @@ import reference
 import windows
 
 SCENARIOS, TOLD = "refusals", "tests/refusals.scenarios"
-PROGRAM, REFUSED, CONFLICT = "art_index", b"memory\n", b"conflict\n"
+REFUSED, CONFLICT = b"memory\n", b"conflict\n"
 # A scenario whose name ends so must ask for nothing in its window, and each other must ask for something.
 NO_MEMORY = "takes_no_memory"
 # Calls of the map that take out or put in several pairs, one by one, and calls that take no memory.
@@ -41,11 +40,11 @@ SEVERAL = {"retain", "extract_if", "extraction", "extend", "from_vec", "from_ite
 # succeed. One of them has to: it puts in no more pairs than there is room for.
 BUILDING = {"extend", "extend_from_refs", "from_vec", "from_iter", "and", "or", "xor", "minus"}
 WITH_ROOM = "extend with room"
-# Calls that do without what they are refused: those, and one that gives memory back.
-SPARING = BUILDING | {"shrink"}
+# Calls that do without what they are refused: those, one that gives memory back, and one that does so at its end.
+SPARING = BUILDING | {"shrink", "compact"}
 # Calls that are given a key, and calls that take out one pair.
 REMOVALS = {"remove", "remove_entry", "pop_first", "pop_last", "take", "entry_remove", "entry_remove_entry"}
-# Calls that take out all keys behind a prefix, or make ready for it.
+# Calls that take out all keys with a prefix, or make ready for it.
 CUTS = {"remove_prefix", "apply_prefix", "prepare_prefix", "remove_from_both", "count_cut"}
 GIVEN_KEY = {"try_insert", "put_at", "prefix_insert", "replace", *maps.ENDED, *maps.FREE} - REMOVALS
 # Of these the first are given a key, and ask for no memory else.
@@ -56,34 +55,30 @@ PLAYERS_OWN = {"drain"}
 # many runs at least; any other call that may ask for memory in one.
 RARE = {"append", "split_off", "clone", "retain", "extend", "from_vec", "from_iter", "and", "or", "xor", "minus"}
 MOST, LEAST = 60, {**{it: 2 if it == "retain" else 20 for it in RARE}, WITH_ROOM: 0}
-# Each such call does without what it is refused in so many runs at least. (Of pairs that are lent the player puts in the
-# last first, so that few are built.)
-WITHOUT = {it: 2 if it in ("extend_from_refs", "shrink") else 40 for it in SPARING | {WITH_ROOM}}
+# Each such call does without what it is refused in so many runs at least. (Of pairs that are lent the player puts in
+# the last first, so that few are built.)
+WITHOUT = {it: 2 if it in ("extend_from_refs", "shrink", "compact") else 40 for it in SPARING | {WITH_ROOM}}
 TAKE_NONE = {"len", "is_empty", "get", "get_key_value", "contains_key", "index", "prefix_get", "prefix_get_key_value"}
 TAKE_NONE |= {"first_key_value", "last_key_value", "get_mut", "prefix_get_mut", "prefix_get_key_value_mut", "clear"}
 TAKE_NONE |= {"iter", "keys", "values", "range", "prefix", "range_mut", "prefix_mut", "iter_mut", "values_mut", "swap"}
 TAKE_NONE |= {"compare", "into_iter", "into_keys", "into_values", "contains", "first", "last", "difference", "union"}
 TAKE_NONE |= {"symmetric_difference", "intersection", "is_disjoint", "is_subset", "is_superset", "hash", "debug"}
 TAKE_NONE |= {"read_get", "read_prefix_get", "read_prefix", "read_range", "count_prefix", "count_range"}
-TAKE_NONE |= {"shrink", "held", "less", "more"}
+TAKE_NONE |= {"shrink", "held", "less", "more", "in_order"}
 # First words of replies that list nothing.
 REPLIES = {"new", "old", "conflict", "over", "is", "none", "at", "gone", "bounds", "bytes", "dropped", "bad"}
 SHIM = os.path.abspath("out/refuse.so")
-given = sys.argv[1:]
-PROGRAMS = [f"crates/{PROGRAM}/out/{PROGRAM}{by}" for by in ("", ".by-rattle")]
-if given[:1] == ["--program"]:
-    PROGRAMS = [os.path.abspath(given[1])]
-    given = given[2:]
-elif given[:1] == ["--quick"]:
-    PROGRAMS = [os.path.abspath(players.quick.kept(players.quick.TOP))]
-    given = given[1:]
-word = given[0] if given else ""
-counts, runs, requests = {True: 0, False: 0}, 0, 0
+given = cases.given(__doc__, "--program=PATH", "--quick")
+tally, runs, requests = cases.Tally(given.word), 0, 0
 # Of each call and kind of keys, and of each word of the program and reply: its lines, those that made no request, the
 # most requests that one made, and the runs in which one was refused.
 told, told_lines = (collections.defaultdict(lambda: [0, 0, 0, 0]) for _ in range(2))
 # Of each call that builds, and kind of keys: the runs in which a request was refused, and it succeeded.
 without = collections.Counter()
+
+
+def player(name):
+    return players.program(name, "--quick" in given)
 
 
 def run(words, refuse, line=None, given=b"", statuses=(0,)):
@@ -96,10 +91,11 @@ def run(words, refuse, line=None, given=b"", statuses=(0,)):
     return seen, out, err
 
 
-def each_refusal(words, **how):
-    """Gives what each run wrote, each request refused in turn, alone and with all later ones, until none is met."""
+def each_refusal(words, kinds=("", "+"), **how):
+    """Gives what each run wrote, each request refused in turn, with those for less in its place and with all later ones,
+    until none is met."""
     global requests
-    for rest in ("", "+"):
+    for rest in kinds:
         for number in itertools.count(1):
             seen, out, err = run(words, f"{number}{rest}", **how)
             if "x" not in seen:
@@ -121,7 +117,7 @@ def states(out):
 
 def scenario(name, wanted):
     """A call in a window: it prints what stands before it, and what is left."""
-    words = [players.program(SCENARIOS), name]
+    words = [player(SCENARIOS), name]
     seen, free, err = run(words, "0")
     assert free == wanted, f"it writes {free}"
     assert err == said(seen) and seen.count("|") == 1, f"windows {seen} say {err}"
@@ -154,9 +150,9 @@ def one_line(words, lines, at):
     add(told_lines[found[0] if found else "anything else", reply if reply in REPLIES else "a listing"], refused)
 
 
-def add(tally, refused):
+def add(row, refused):
     """One line more, of which so many runs were refused."""
-    tally[:] = [tally[0] + 1, tally[1] + (requests == 0), max(tally[2], requests), tally[3] + refused]
+    row[:] = [row[0] + 1, row[1] + (requests == 0), max(row[2], requests), row[3] + refused]
 
 
 def free_run(words, lines, wanted):
@@ -170,45 +166,44 @@ def start(words, lines, replies):
     its replies a smaller room serves where one is refused; without any they leave one by one."""
     ends = [(b"", b"art_index: takes no arguments\n"), (replies, b"")]
     met = set()
-    for label, out, err, _ in each_refusal(words, line=0, given=b"".join(lines), statuses=(0, 2)):
+    for label, out, err, _ in each_refusal(words, ("-", "+"), line=0, given=b"".join(lines), statuses=(0, 2)):
         assert (out, err) in ends, f"{label}: it answers {out[-100:]} and says {err}"
         met.add(ends.index((out, err)))
     assert met == {0, 1}, f"only {met} of {ends}"
 
 
-def count(kind, name, call, *given):
-    if word not in f"{kind} {name}":
-        return
-    had, ended = runs, "ok"
-    try:
-        call(*given)
-    except (AssertionError, KeyError, OSError, subprocess.TimeoutExpired) as why:
-        ended = f"FAILED: {why!r}"
-    counts[ended == "ok"] += 1
-    print(f"{kind} {name}: {runs - had} runs, {ended}")
+def case(kind, name, call, *words):
+    had = runs
+
+    def called():
+        call(*words)
+        return f"{runs - had} runs"
+
+    tally.case(f"{kind} {name}", called)
 
 
 def tells_all(wanted):
-    out = run([players.program(SCENARIOS)], "0")[1]
+    out = run([player(SCENARIOS)], "0")[1]
     assert out == wanted, f"it writes {out[-300:]}"
 
 
 def of_scenarios():
     with open(TOLD, "rb") as file:
         told = file.read()
-    count(SCENARIOS, "all, with nothing refused", tells_all, told)
+    case(SCENARIOS, "all, with nothing refused", tells_all, told)
     for part in re.findall(rb"(?m)^scenario .+\n(?:(?!scenario ).*\n)*", told):
         name = part.splitlines()[0].decode().split()[1]
-        count(SCENARIOS, name, scenario, name, part)
+        case(SCENARIOS, name, scenario, name, part)
 
 
 def of_program(program):
     with open("tests/refusals.lines", "rb") as script, open("tests/refusals.replies", "rb") as told:
         lines, replies = script.readlines(), told.read()
-    count(program, "free run", free_run, [program], lines, replies)
-    count(program, "start", start, [program], lines, replies)
+    name = cases.title(program)
+    case(name, "free run", free_run, [program], lines, replies)
+    case(name, "start", start, [program], lines, replies)
     for at, line in enumerate(lines):
-        count(program, f"line {at + 1}, {line.decode().strip()[:60]}", one_line, [program], lines, at)
+        case(name, f"line {at + 1}, {line.decode().strip()[:60]}", one_line, [program], lines, at)
 
 
 def played(model, lines):
@@ -232,6 +227,8 @@ def takes_none(line, model, kind):
         key = one.key(word) if call.startswith("entry") else map_words.bytes_in(word)
         keys = ends.get(call, [key] if key in one.pairs else [])
         return not any(one.shrinks(key) for key in keys)
+    if call == "compact":
+        return not one.pairs
     if call == "append":
         return not (one.pairs and model.other)
     if call in CUTS:
@@ -261,7 +258,7 @@ def one_call(kind, lines, at, model, before):
     twice = "".join(f"{it}\n" for it in [f"map 4 {kind}", *lines[: at + 1], *behind]).encode()
     free, refused = played(model.again(), behind), 0
     whole = played(model.again(), [lines[at], *behind]) if call in SPARING else None
-    for label, out, *_ in each_refusal([players.program(maps.PLAYER)], line=at + 2, given=twice):
+    for label, out, *_ in each_refusal([player(maps.PLAYER)], line=at + 2, given=twice):
         assert out.startswith(before), f"{label}: it answers {out[-300:]}"
         rest = out[len(before) :]
         if rest == whole:
@@ -290,7 +287,7 @@ def is_cut(model, refuse, line, behind, rest):
 
 def made_new(first):
     """A map or set with no pairs, or two, is made with every request refused."""
-    seen = run([players.program(maps.PLAYER)], "1+", line=1, given=f"{first}\nlen\n".encode())[0]
+    seen = run([player(maps.PLAYER)], "1+", line=1, given=f"{first}\nlen\n".encode())[0]
     assert seen == "|", f"it makes requests: {seen}"
 
 
@@ -298,7 +295,7 @@ def of_players():
     """The scripts of the map, and some more that are made at random."""
     for kind, size in itertools.product(maps.KINDS, maps.PREFIX_LENS):
         first = f"map {size} {kind}"
-        count(maps.PLAYER, f"new, {first}", made_new, first)
+        case(maps.PLAYER, f"new, {first}", made_new, first)
     for name, kind, lines in maps.scripts():
         if 4 not in maps.sizes(name):
             continue
@@ -309,7 +306,7 @@ def of_players():
             call = line.split(" ")[0]
             if call not in PLAYERS_OWN and (at < first or call in RARE and model.size() <= MOST):
                 title, some = f"{name}, line {at + 1}, {line[:40]}", lines[: at + 20]
-                count(maps.PLAYER, title, one_call, kind, some, at, model.again(), before)
+                case(maps.PLAYER, title, one_call, kind, some, at, model.again(), before)
             before += played(model, [line])
 
 
@@ -329,21 +326,20 @@ def table():
     every = {"map": [*maps.CALLS, *maps.FREE, *maps.ENDED_CALLS, "reserve", WITH_ROOM], "set": maps.SET_CALLS}
     for of, calls_of in every.items():
         missing = [it for it in calls_of if (it, of) not in told]
-        count(maps.PLAYER, f"each call of a {of} has a line that is refused", enough, -len(missing), 0)
+        case(maps.PLAYER, f"each call of a {of} has a line that is refused", enough, -len(missing), 0)
     for call, of in sorted(told):
         if call not in TAKE_NONE | KEY_ALONE:
-            count(maps.PLAYER, f"refusals of {call} of a {of}", enough, told[call, of][3], LEAST.get(call, 1))
+            case(maps.PLAYER, f"refusals of {call} of a {of}", enough, told[call, of][3], LEAST.get(call, 1))
         if call in WITHOUT:
-            count(maps.PLAYER, f"{call} of a {of} that does without", enough, without[call, of], WITHOUT[call])
+            case(maps.PLAYER, f"{call} of a {of} that does without", enough, without[call, of], WITHOUT[call])
 
 
 resource.setrlimit(resource.RLIMIT_CORE, (0, 0))
 os.makedirs("out", exist_ok=True)
 windows.build(SHIM)
 of_scenarios()
-for path in PROGRAMS:
+for path in cases.programs(given):
     of_program(path)
 of_players()
 table()
-print(f"{counts[True]} passed, {counts[False]} failed")
-sys.exit(bool(counts[False]) or not counts[True])
+tally.end()

@@ -102,8 +102,8 @@ class SetModel:
     def call_reserve(self, *_):
         return "done"
 
-    call_shrink = call_reserve
-    call_held, call_less, call_more = Model.call_held, Model.call_less, Model.call_more
+    call_shrink = call_compact = call_reserve
+    call_held, call_less, call_more, call_in_order = Model.call_held, Model.call_less, Model.call_more, Model.call_in_order
 
     def call_take(self, word, *_):
         key = bytes_in(word)
@@ -145,7 +145,7 @@ class SetModel:
         return "\n".join(told + ["end"])
 
     def comparisons(self):
-        """How many comparisons a merge of both sets needs: one for each key that isn't behind all of the other set."""
+        """How many comparisons a merge of both sets needs: one for each key that isn't after all of the other set."""
         if not self.keys or not self.other:
             return 0
         end = min(max(self.keys), max(self.other))

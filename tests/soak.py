@@ -111,7 +111,7 @@ def word_of(line):
 
 
 def read_of(text, faults):
-    """The lines that the program reads, and whether the read behind them fails."""
+    """The lines that the program reads, and whether the read after them fails."""
     is_cut = "read" in faults.kinds and faults.at["read"] <= len(text)
     pieces = (text[: faults.at["read"]] if is_cut else text).split(b"\n")
     last = pieces.pop()
@@ -140,7 +140,7 @@ def difference(lines, is_ended, faults):
             continue
         rest = said[at:]
         if len(ends) == 2 and (reply.startswith(rest) or may_refuse and REFUSED.startswith(rest)):
-            # (a read behind a write that failed is made before the next reply, and may fail too)
+            # (a read after a write that failed is made before the next reply, and may fail too)
             at, ends = len(said), {(1, ENDS["write"]), *([(1, ENDS["read"])] if is_cut else [])}
             break
         return f"to {line[:200]} it says {rest[:300]} and not {reply[:300]}"

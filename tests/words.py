@@ -9,7 +9,7 @@ import cases
 
 TOP = os.path.dirname(os.path.dirname(os.path.abspath(__file__)))
 # Lemmas are called by what they say, and that may be the same of two things: they begin with a small letter, or have a
-# hyphen behind the word that they speak of.
+# hyphen after the word that they speak of.
 TYPES = re.compile(r"\s*pub (?:record|data) ([^\s:({]+)")
 NAMES = re.compile(r"\s*(?:abbrev |unfoldable )*pub ([^\s:({]+) :(?!=)")
 

@@ -2,8 +2,8 @@
 """Programs with wrong bodies, which nothing proves: a run of the gate must fail by each.
 
     tests/wrong.py [WORD]      at the top of the repository; WORD: only rows that have it in them
-It is a part of ./test. Each row of tests/wrong/programs.lines names an edit as CRATE/NAME (tests/edits.py has their form
-and their places), the program that is built with it, and a run of tests/ with its word. The run must pass with the
+It is a part of ./test. Each row of tests/wrong/programs.lines names an edit as CRATE/NAME (tests/edits.py has their
+form and their places), the program that is built with it, and a run of tests/ with its word. The run must pass with the
 program as it is, and fail with the edit. What it says is in out/wrong-NAME-PROGRAM.log; at the end stands how much
 processor time all took.
 
@@ -18,17 +18,16 @@ import resource
 import shutil
 import subprocess
 import sys
-import tempfile
 from glob import glob
 
-sys.path.insert(0, os.path.join(os.path.dirname(os.path.dirname(os.path.abspath(__file__))), "tools"))
+import cases
 import edits
 import players
 import quick
 
 TOP, ROWS = os.getcwd(), "tests/wrong/programs.lines"
-# A wrong body may run for ever, and fill what memory there is. So each process has so much space, and so many seconds of
-# processor time.
+# A wrong body may run for ever, and fill what memory there is. So each process has so much space, and so many seconds
+# of processor time.
 SPACE, SECONDS = 1 << 29, 20
 # The number of the program as it is, in the text of a program and in its bytes.
 RIGHT = 0x2B6F_7577_726F_6E67
@@ -43,7 +42,8 @@ def rows(word):
 
 
 def body_around(text, at):
-    """Where the body begins and ends that a place of a source stands in, between its braces; None where it is in none."""
+    """Where the body begins and ends that a place of a source stands in, between its braces; None where it is in
+    none."""
     above = [it.start() for it in edits.FUNCTION.finditer(text) if it.start() < at]
     indent = re.match(r"[ \t]*", text[above[-1] :])[0] if above else ""
     end = re.compile(rf"^{indent}}}$", re.M).search(text, above[-1]) if above else None
@@ -56,7 +56,7 @@ def body_around(text, at):
 
 
 def adds_field(old, new):
-    """Whether an edit only puts another field behind one, where a value is made."""
+    """Whether an edit only puts another field after one, where a value is made."""
     pattern = re.compile(r" *\w+: [^;{}]*,")
     return bool(pattern.fullmatch(old) and new.startswith(old) and pattern.fullmatch(new[len(old) :]))
 
@@ -94,7 +94,7 @@ class Switched:
             of.write(text)
 
     def place(self, edit, path, old):
-        """The body that a text stands in, or None; behind an earlier pair it may stand in what that one put there."""
+        """The body that a text stands in, or None; after an earlier pair it may stand in what that one put there."""
         text = self.read(f"{edit.crate}/{path}")
         for it in (old, *(first for _, first, new in edit.pairs if old in new)):
             if it in text:
@@ -193,34 +193,24 @@ def play(copy, at, made, number, row, right):
 
 
 def main():
-    word, counts, programs, right = sys.argv[1] if len(sys.argv) > 1 else "", [0, 0], {}, {}
-    for row in rows(word):
+    told, programs, right = cases.Tally(), {}, {}
+    for row in rows(cases.given(__doc__).word):
         programs.setdefault(row[1], []).append(row)
     os.makedirs("out", exist_ok=True)
-    with tempfile.TemporaryDirectory() as room:
-        copy = f"{room}/copy"
-        shutil.copytree(TOP, copy, ignore=lambda at, names: {".git", "out", "__pycache__"})
+    with cases.folder() as room:
+        copy = cases.copied(f"{room}/copy")
         os.makedirs(f"{copy}/out")
         for program, of_program in programs.items():
             numbers = {title: number for number, title in enumerate(dict.fromkeys(it[0] for it in of_program), 1)}
-            made, at = None, ""
+            try:
+                made, at = built(room, program, {n: edits.named(it) for it, n in numbers.items()}), place(program, room)
+            except cases.FAILURES as why:
+                told.count(program, why)
+                continue
             for row in of_program:
-                try:
-                    if not made:
-                        made = built(room, program, {n: edits.named(it) for it, n in numbers.items()})
-                        at = place(program, room)
-                    ended = play(copy, at, made, numbers[row[0]], row, right)
-                    counts[0] += 1
-                except (ValueError, OSError) as why:
-                    ended = f"FAILED: {str(why)[:500]}"
-                    counts[1] += 1
-                print(f"{row[0]} in {program}: {ended}", flush=True)
-                if not made:
-                    break
-    spent = sum(os.times()[:4])
-    print(f"{spent:.0f} s of processor time")
-    print(f"{counts[0]} passed, {counts[1]} failed")
-    sys.exit(bool(counts[1]) or not counts[0])
+                told.case(f"{row[0]} in {program}", play, copy, at, made, numbers[row[0]], row, right)
+    print(f"{sum(os.times()[:4]):.0f} s of processor time")
+    told.end()
 
 
 if __name__ == "__main__":

@@ -3,12 +3,12 @@
 
     tools/dear.py [--repository PATH] [--jobs N] [--all] CRATE..    at the top of the repository
 
-It reads crates/CRATE/out/incremental, which `rt check` in the crate leaves. A check keeps a file for each module when it
-ends with it, so the time between two files is what the second took. So the list is of what the last check did: remove
-out/incremental, and run `rt check --jobs 1`, for one that is whole and exact. Where N processes shared the check, each
-file is taken to be of the process that was last at the same function, and the times are near ones. A row has the
-seconds, and the parts that took most: `Proof` is the search for goals without an answer, `Answers` the written ones,
-`Lts` and the like what rattle makes of the code. Rows that end in .antt are files of lemmas. 25 rows; --all: all.
+It reads crates/CRATE/out/incremental, which `rt check` in the crate leaves. A check keeps a file for each module when
+it ends with it, so the time between two files is what the second took. So the list is of what the last check did:
+remove out/incremental, and run `rt check --jobs 1`, for one that is whole and exact. Where N processes shared the
+check, each file is taken to be of the process that was last at the same function, and the times are near ones. A row
+has the seconds, and the parts that took most: `Proof` is the search for goals without an answer, `Answers` the written
+ones, `Lts` and the like what rattle makes of the code. Rows that end in .antt are files of lemmas. 25 rows; --all: all.
 """
 import os
 import sys
