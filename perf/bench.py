@@ -46,7 +46,7 @@ NODES = {"check_tree": 9, "clone_unchecked": 7, "deallocate_tree": 10}
 # Of ranges: the step, how many pairs each walk has, or about as many, and whether the time is told of a pair or a walk.
 RANGES = {
     "range of 100, a pair": (6, 100, True),
-    "behind a prefix, a pair": (5, 100, True),
+    "with a prefix, a pair": (5, 100, True),
     "range of one pair": (6, 1, False),
 }
 NO_RANGES = {"tree", "BTreeMap"}
@@ -233,7 +233,7 @@ def walks(folder, made, asked):
 def ranged(folder, made, key_set, size, repeats):
     """By map, nanoseconds of each kind of range, the least of the repeats, the maps in turn; and how many pairs stand
     with a prefix."""
-    least, behind = {name: [float("inf")] * len(RANGES) for name in made}, 0
+    least, with_prefix = {name: [float("inf")] * len(RANGES) for name in made}, 0
     for at, (step, span, is_of_pair) in enumerate(RANGES.values()):
         sums = set()
         for _ in range(repeats):
@@ -243,26 +243,26 @@ def ranged(folder, made, key_set, size, repeats):
                 sums.add(answered)
                 walks = size // 100
                 least[name][at] = min(least[name][at], took / (met if is_of_pair else walks))
-                behind = met / walks if step == 5 else behind
+                with_prefix = met / walks if step == 5 else with_prefix
         assert len(sums) == 1, f"ranges give {sums}"
-    return least, behind
+    return least, with_prefix
 
 
 def ranges(folder, made, asked):
     """Nanoseconds of ranges and of walks with a prefix, and the ratios of the map here to its peers."""
     size, made = asked.ranges, {name: path for name, path in made.items() if name not in NO_RANGES}
     print(f"\nRanges among {size} pairs, nanoseconds:\n")
-    print(f"| Keys | Pairs behind a prefix | Map | {' | '.join(RANGES)} |")
+    print(f"| Keys | Pairs with a prefix | Map | {' | '.join(RANGES)} |")
     print(f"|---|---:|---|{'---:|' * len(RANGES)}", flush=True)
     for key_set in asked.sets.split(","):
         tell(f"{key_set}, ranges among {size} pairs")
-        found, behind = ranged(folder, made, key_set, size, asked.repeats)
+        found, with_prefix = ranged(folder, made, key_set, size, asked.repeats)
         rows = {name: [f"{it:.1f}" for it in took] for name, took in found.items()}
         for peer in ("art-list", "btree"):
             if peer in found:
                 rows[f"map to {peer}"] = [f"{here / there:.2f}" for here, there in zip(found["map"], found[peer])]
         for name, cells in rows.items():
-            print(f"| {key_set} | {behind:.0f} | {name} | {' | '.join(cells)} |", flush=True)
+            print(f"| {key_set} | {with_prefix:.0f} | {name} | {' | '.join(cells)} |", flush=True)
 
 
 def entry_costs(made, cost):

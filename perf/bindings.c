@@ -93,17 +93,17 @@ uint64_t art_bench_sum(const art_bench *m) { return walk(of(m), (artmap_span){0}
 
 uint64_t art_bench_sum_by_next(const art_bench *m) { return walk_by_next(of(m), (artmap_span){0}).sum; }
 
-static artmap_span behind(const uint8_t *front, size_t len) {
+static artmap_span with_prefix(const uint8_t *front, size_t len) {
     return (artmap_span){.from = ARTMAP_FROM_KEY, .from_key = front, .from_len = len,
                          .to = ARTMAP_WITH_PREFIX, .to_key = front, .to_len = len};
 }
 
 size_t art_bench_prefix(const art_bench *m, const uint8_t *front, size_t len) {
-    return walk(of(m), behind(front, len), 128).count;
+    return walk(of(m), with_prefix(front, len), 128).count;
 }
 
 size_t art_bench_prefix_by_next(const art_bench *m, const uint8_t *front, size_t len) {
-    return walk_by_next(of(m), behind(front, len)).count;
+    return walk_by_next(of(m), with_prefix(front, len)).count;
 }
 
 size_t art_bench_range(const art_bench *m, const uint8_t *lo, size_t lo_len, const uint8_t *hi, size_t hi_len) {

@@ -35,7 +35,7 @@ fn main() {
     list(&paths, "usr/bin/");
     list(&paths, "usr/");
     println!("the last is {:?}", paths.keys().next_back());
-    println!("behind usr/bin/d comes {:?}", paths.range("usr/bin/d".to_string()..).next());
+    println!("after usr/bin/d comes {:?}", paths.range("usr/bin/d".to_string()..).next());
     println!("{} below usr/bin/ are gone", paths.remove_prefix("usr/bin/"));
     paths.retain(|_, size| *size > 50);
     println!("{paths:?}");

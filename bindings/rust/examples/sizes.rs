@@ -18,7 +18,7 @@ fn main() {
     for (path, file) in files.prefix("usr/") {
         println!("{path}: {} {:?}", file.size, file.names);
     }
-    println!("{} is behind usr/lib", files.range("usr/lib0".to_string()..).map(|it| it.0.as_str()).collect::<String>());
+    println!("{} is past usr/lib", files.range("usr/lib0".to_string()..).map(|it| it.0.as_str()).collect::<String>());
     let frozen = files.freeze();
     let readers = ["usr/lib", "var/log"].map(|path| {
         let mine = frozen.clone();

@@ -62,11 +62,11 @@ impl<K, V> Slab<K, V> {
     /// Puts a pair in, and tells its index.
     pub(crate) fn fill(&mut self, key: K, value: V) -> usize {
         self.is_in_order &= self.len == 0;
-        self.fill_behind(key, value)
+        self.fill_at_end(key, value)
     }
 
     /// Puts a pair in whose key is greater than all others, and tells its index.
-    pub(crate) fn fill_behind(&mut self, key: K, value: V) -> usize {
+    pub(crate) fn fill_at_end(&mut self, key: K, value: V) -> usize {
         let index = self.free;
         self.is_in_order &= index == NONE;
         self.len += 1;
@@ -133,7 +133,7 @@ impl<K, V> Slab<K, V> {
     }
 
     /// Makes room for so many more pairs after all slots.
-    pub(crate) fn reserve_behind(&mut self, additional: usize) -> Result<(), AllocError> {
+    pub(crate) fn reserve_at_end(&mut self, additional: usize) -> Result<(), AllocError> {
         self.slots.try_reserve(additional)?;
         Ok(())
     }

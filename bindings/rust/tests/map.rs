@@ -127,7 +127,7 @@ fn ranges_of_every_two_bounds_are_as_in_a_btree_map() {
 #[test]
 #[should_panic(expected = "range start is greater than range end in ArtMap")]
 #[allow(clippy::reversed_empty_ranges)]
-fn a_range_from_behind_its_end_panics() {
+fn a_range_that_begins_after_its_end_panics() {
     let _ = ArtMap::<u32, ()>::new().range(5..4);
 }
 

@@ -37,7 +37,7 @@ mod map {
             let pairs = self.0.range::<[u8], _>(bounds);
             pairs.fold(0, |sum: u64, (key, value)| sum.wrapping_add(*value).wrapping_add(key.len() as u64))
         }
-        pub fn walk_behind(&self, front: &[u8]) -> u64 {
+        pub fn walk_with_prefix(&self, front: &[u8]) -> u64 {
             let pairs = self.0.range::<[u8], _>((Bound::Included(front), Bound::Unbounded));
             let pairs = pairs.take_while(|(key, _)| key.starts_with(front));
             pairs.fold(0, |sum: u64, (key, value)| sum.wrapping_add(*value).wrapping_add(key.len() as u64))
@@ -123,7 +123,7 @@ mod map {
             });
             sum
         }
-        pub fn walk_behind(&self, front: &[u8]) -> u64 {
+        pub fn walk_with_prefix(&self, front: &[u8]) -> u64 {
             let mut sum = 0u64;
             self.0.prefix_each(front, &mut |it| {
                 sum = sum.wrapping_add(leaf::value(it)).wrapping_add(it.key().len() as u64)
@@ -218,7 +218,7 @@ fn walk_ranges(map: &Map, queries: &[u8], ends: &[u64]) -> u64 {
 /// The pairs with each query.
 #[inline(never)]
 fn walk_fronts(map: &Map, queries: &[u8], ends: &[u64]) -> u64 {
-    (0..ends.len()).fold(0, |sum: u64, i| sum.wrapping_add(map.walk_behind(string(queries, ends, i))))
+    (0..ends.len()).fold(0, |sum: u64, i| sum.wrapping_add(map.walk_with_prefix(string(queries, ends, i))))
 }
 
 /// How many pairs there are once each query is inserted, entered, or looked up for writing and inserted where it isn't

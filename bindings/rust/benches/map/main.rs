@@ -258,7 +258,7 @@ fn counted<'a, K: 'a>(pairs: impl Iterator<Item = (&'a K, &'a u64)>, all: &mut u
 
 /// Times walks after prefixes, for each pair that is met.
 #[allow(clippy::cast_precision_loss, reason = "a time is told in three digits")]
-fn behind<M, K>(map: &M, keys: &Keys<K>, times: &mut Times, prefix: Prefix<M, K>) {
+fn with_prefix<M, K>(map: &M, keys: &Keys<K>, times: &mut Times, prefix: Prefix<M, K>) {
     let (mut all, mut count) = (0, 0);
     let began = now();
     keys.fronts.iter().for_each(|front| count += prefix(map, front, &mut all));
@@ -288,7 +288,7 @@ macro_rules! steps {
                 timed(&mut times, "back", size, || back(&map));
                 let ranges: Ranges<$map<K, u64>, K> = $ranges;
                 ranges(&map, keys, &mut times, ["range of 1", "range of 10", "range of 100"]);
-                behind(&map, keys, &mut times, $prefix);
+                with_prefix(&map, keys, &mut times, $prefix);
             }
             let mut copy = None;
             timed(&mut times, "clone", size, || {

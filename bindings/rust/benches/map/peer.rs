@@ -1,6 +1,6 @@
 //! Radix trees of raw pointers, beside which `perf/bindings.py` has this bench built: a leaf is a block with its key and value,
 //! and that of `art-list` has its neighbours in it, too. Keys are those bytes that no map codes: texts have no end mark.
-use super::{Dense, Keys, Made, Rand8, Times, Url, behind, settle, timed};
+use super::{Dense, Keys, Made, Rand8, Times, Url, settle, timed, with_prefix};
 use peers::art::{Art, Insert, Leaf, Listed};
 use std::hint::black_box;
 
@@ -93,7 +93,7 @@ fn run<K: Made + Coded, L: Record<K::Code>>(keys: &Keys<K>) -> Times {
         sum
     });
     ranges(&map, keys, &mut times);
-    behind(&map, keys, &mut times, |map, front, all| {
+    with_prefix(&map, keys, &mut times, |map, front, all| {
         let mut count = 0;
         map.prefix_each(&front.0, &mut |leaf: &L| (*all, count) = (*all ^ leaf.value(), count + 1));
         count

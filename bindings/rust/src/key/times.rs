@@ -20,7 +20,7 @@ fn time(seconds: u64, nanos: u32) -> [u8; 12] {
 fn instant(of: &SystemTime) -> [u8; 12] {
     const EPOCH: u64 = 1 << 63;
     match of.duration_since(UNIX_EPOCH) {
-        Ok(behind) => time(EPOCH + behind.as_secs(), behind.subsec_nanos()),
+        Ok(after) => time(EPOCH + after.as_secs(), after.subsec_nanos()),
         Err(before) => {
             let before = before.duration();
             match before.subsec_nanos() {

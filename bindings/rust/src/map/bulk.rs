@@ -98,7 +98,7 @@ struct Filling<'a, K: Key, V> {
 /// Where a key stands.
 enum Place {
     /// After all others.
-    Behind,
+    AtEnd,
     /// After the greatest one, which begins it.
     Under,
     Elsewhere,
@@ -126,7 +126,7 @@ impl<'a, K: Key, V> Filling<'a, K, V> {
     fn place(&self, key: &[u8]) -> Place {
         let greatest = match self.run.last() {
             Some(last) => last,
-            None if self.map.slab.len() == 0 => return Place::Behind,
+            None if self.map.slab.len() == 0 => return Place::AtEnd,
             None => &self.greatest,
         };
         if key <= greatest {
@@ -134,15 +134,15 @@ impl<'a, K: Key, V> Filling<'a, K, V> {
         } else if key.starts_with(greatest) {
             Place::Under
         } else {
-            Place::Behind
+            Place::AtEnd
         }
     }
 
     /// Takes a pair on, or stores it. What it would stand in the place of is dropped.
     fn push(&mut self, key: K, value: V) -> Result<(), TryInsertError<K, V>> {
         match self.wait(&key) {
-            Ok(Place::Behind) => {
-                self.map.slab.fill_behind(key, value);
+            Ok(Place::AtEnd) => {
+                self.map.slab.fill_at_end(key, value);
                 Ok(())
             }
             Ok(Place::Under) => {
@@ -167,7 +167,7 @@ impl<'a, K: Key, V> Filling<'a, K, V> {
         }
         let bytes = key.to_bytes()?;
         let place = self.place(bytes.as_ref());
-        if let Place::Behind = place {
+        if let Place::AtEnd = place {
             let index = self.map.slab.next_index()?;
             self.run.push(bytes.as_ref(), word_of(index))?;
         }
@@ -252,7 +252,7 @@ impl<K, V> Parting<K, V> {
     fn end(mut self, from: &mut Slab<K, V>) -> ArtMap<K, V> {
         for index in self.indexes {
             let (key, value) = from.take(index);
-            self.made.slab.fill_behind(key, value);
+            self.made.slab.fill_at_end(key, value);
         }
         self.made
     }
@@ -348,7 +348,7 @@ impl<K: Key, V> ArtMap<K, V> {
             }
             moved.push(index);
         }
-        self.slab.reserve_behind(moved.len())?;
+        self.slab.reserve_at_end(moved.len())?;
         self.words = words;
         let mut other = std::mem::take(other);
         for index in moved {

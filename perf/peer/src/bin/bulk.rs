@@ -78,9 +78,9 @@ fn main() {
     let (mut low, high) = (map_of(0, size / 2, 1), pairs_of(size / 2, size, 1));
     let start = now();
     low.extend(high);
-    tell("extend,behind", start, low.len());
+    tell("extend,after", start, low.len());
     let (mut low, mut high) = (map_of(0, size / 2, 1), map_of(size / 2, size, 1));
-    append("append,behind", &mut low, &mut high);
+    append("append,after", &mut low, &mut high);
     let (mut even, mut odd) = (map_of(0, size, 2), map_of(1, size, 2));
     append("append,between", &mut even, &mut odd);
     append("append,few", &mut low, &mut map_of(0, size, 1000));

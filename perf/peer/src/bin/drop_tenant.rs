@@ -36,8 +36,8 @@ fn main() {
     let all = map.len();
     let start = now();
     let mut cut = map.split_off(&tenant.to_be_bytes().to_vec());
-    let mut behind = cut.split_off(&(tenant + 1).to_be_bytes().to_vec());
-    map.append(&mut behind);
+    let mut after = cut.split_off(&(tenant + 1).to_be_bytes().to_vec());
+    map.append(&mut after);
     drop(cut);
     println!("{} {}", now() - start, all - map.len());
 }

@@ -363,7 +363,7 @@ type Make = Box<dyn Fn() -> Box<dyn Map>>;
 fn bench(kind: &str, size: usize, rounds: usize, maps: &[(String, Make)]) {
     let (keys, mut best) = (keys(kind, size), vec![Told::new(); maps.len()]);
     let met = steps(&*maps[0].1, &keys).iter().find(|it| it.0 == "prefix").map_or(0, |it| it.2) as usize;
-    eprintln!("{kind} {size}: {} pairs behind a prefix", met / keys.fronts.ends.len());
+    eprintln!("{kind} {size}: {} pairs with a prefix", met / keys.fronts.ends.len());
     for round in 0..rounds {
         for at in (0..maps.len()).map(|at| (at + round) % maps.len()) {
             let told = steps(&*maps[at].1, &keys);
