@@ -1,2 +1,4 @@
+pub mod Entries
 pub mod Fits
 pub mod NodesLends
+pub mod SlotsLends

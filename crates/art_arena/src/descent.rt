@@ -22,7 +22,7 @@ use crate::inner_ref::{InnerRef, NextStep};
 use crate::path::{TreePath, TreePathSearch};
 use crate::reader::ArenaReader;
 use art_bytes::AsBytes;
-use art_nodes::{LeafNode, NodePtr, OpaqueNodePtr};
+use art_nodes::{LeafNode, OpaqueNodePtr};
 
 /// How a descent passes over the prefix of an inner node.
 #[derive(Clone, Copy, PartialEq, Eq, Debug)]
@@ -246,7 +246,7 @@ pub fn land<'a, K: AsBytes, V, const PREFIX_LEN: usize>(
     let stop = descend(reader, &mut search, root, key, Passing::ByLength);
     match stop.leaf {
         Some(leaf) => Some(Landed {
-            name: NodePtr::from_slot(stop.node.slot()),
+            name: stop.node.with_kind(),
             leaf,
             path: search.finish(),
         }),

@@ -17,6 +17,7 @@ mod nodes;
 mod path;
 mod prefix;
 mod reader;
+mod slots;
 mod stored;
 
 pub use arena::{LeafPtr, NodeArena, NodeRefused};

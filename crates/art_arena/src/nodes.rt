@@ -5,8 +5,8 @@ ghost use Rattle.std.specs.Borrow.{sem};
 ghost use Rattle.slab.specs.Slab.{get, slab_len, EndsWithValue, HasRoomFor, SameValues, Updates, IsSlotClone};
 ghost use Rattle.art_arena.specs.inner.NodesLends.{lends_in};
 
+use crate::slots::Slots;
 use art_nodes::assume_proved;
-use slab::Slab;
 use std::alloc::{AllocError, AllocFailed, Global};
 use std::marker::Model;
 
@@ -17,7 +17,7 @@ pub(crate) const PREFIX_LEN_LIMIT: usize = 1 << 62;
 /// bytes is so short that a node fits in memory.
 #[derive(Drop)]
 pub(crate) struct Nodes<N, const PREFIX_LEN: usize> {
-    slab: Slab<N>,
+    slab: Slots<N>,
 }
 
 impl<N, const PREFIX_LEN: usize> Model for Nodes<N, PREFIX_LEN> {
@@ -31,10 +31,10 @@ impl<N, const PREFIX_LEN: usize> Model for Nodes<N, PREFIX_LEN> {
     ghost invariant = { λ a. FitsWhereUsed PREFIX_LEN a.slab };
 }
 
-// Makes room for so many more values where the memory that `Slab::reserve` asks for is refused: for half as many as
+// Makes room for so many more values where the memory that `Slots::reserve` asks for is refused: for half as many as
 // there is room for, and so on, down to no more than these. With no room yet it asked for a few only.
 #[cold]
-fn reserve_fewer<T>(slab: &mut Slab<T>, additional: usize) -> Result<(), AllocError>
+fn reserve_fewer<T>(slab: &mut Slots<T>, additional: usize) -> Result<(), AllocError>
     ensures room { OnOk result (HasRoomFor slab.new additional) }
     ensures capacity { slab.old.capacity ≤ slab.new.capacity }
     ensures kept { slab.new ≡ record slab.old { capacity = slab.new.capacity } }
@@ -53,7 +53,7 @@ fn reserve_fewer<T>(slab: &mut Slab<T>, additional: usize) -> Result<(), AllocEr
 }
 
 // Makes room for so many more values: for as many as there are, if so much memory is had, or else for fewer.
-fn reserve_in<T>(slab: &mut Slab<T>, additional: usize) -> Result<(), AllocError>
+fn reserve_in<T>(slab: &mut Slots<T>, additional: usize) -> Result<(), AllocError>
     ensures room { OnOk result (HasRoomFor slab.new additional) }
     ensures succeeds { HasRoomFor slab.old additional → IsOk result }
     ensures capacity { slab.old.capacity ≤ slab.new.capacity }
@@ -72,7 +72,7 @@ impl<N, const PREFIX_LEN: usize> Nodes<N, PREFIX_LEN> {
         ensures capacity { result.capacity ≡ 0 }
     {
         Nodes {
-            slab: Slab::new(alloc),
+            slab: Slots::new(alloc),
         }
     }
 
@@ -167,6 +167,7 @@ impl<N, const PREFIX_LEN: usize> Nodes<N, PREFIX_LEN> {
         ensures handed_back { IfErr result (λ failed. failed.value ≡ node) }
         ensures succeeds { HasRoomFor self.old 1 → IsOk result }
         ensures capacity { self.old.capacity ≤ self.new.capacity }
+        ensures below { IfOk result (λ slot. slot < 2 ^ 61) }
     {
         let slab = &mut self.slab;
         if PREFIX_LEN >= PREFIX_LEN_LIMIT {

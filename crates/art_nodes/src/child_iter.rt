@@ -9,7 +9,7 @@ ghost use Rattle.art_nodes.specs.inner.Place.{place, children_within, bytes_with
 ghost use Rattle.art_nodes.specs.inner.Table.{children_from, entry_at, IsMarkedTable};
 
 use crate::mask::Mask;
-use crate::names::OpaqueNodePtr;
+use crate::names::{OpaqueNodePtr, Place};
 use std::marker::Model;
 use std::ops::Bound;
 
@@ -64,7 +64,7 @@ struct DirectChildren<'a> {
     mask: &'a Mask,
     from: usize,
     to: usize,
-    slots: &'a [Option<OpaqueNodePtr>; 256],
+    slots: &'a [Place; 256],
 }
 
 impl<'a> Model for DirectChildren<'a> {
@@ -154,10 +154,10 @@ pub(crate) fn end_of(end: Bound<u8>) -> usize
 
 /// What stands in a table's place for this byte.
 #[tactic(auto, using(crate::proofs::DirectLemmas::holds))]
-pub(crate) fn held(slots: &[Option<OpaqueNodePtr>; 256], byte: u8) -> Option<OpaqueNodePtr>
+pub(crate) fn held(slots: &[Place; 256], byte: u8) -> Option<OpaqueNodePtr>
     ensures { result ≡ entry_at slots.now byte }
 {
-    slots[usize::from(byte)]
+    slots[usize::from(byte)].get()
 }
 
 impl<'a> SortedChildren<'a> {
@@ -317,12 +317,7 @@ impl<'a> ChildIter<'a> {
 
     /// The children of a table of names, a place for each byte, of which those with a name are marked, from one byte
     /// up to another.
-    pub(crate) fn direct(
-        mask: &'a Mask,
-        slots: &'a [Option<OpaqueNodePtr>; 256],
-        from: usize,
-        to: usize,
-    ) -> Self
+    pub(crate) fn direct(mask: &'a Mask, slots: &'a [Place; 256], from: usize, to: usize) -> Self
         requires marks { IsMarkedTable mask.now slots.now }
         requires bounds { (from ≤ to) × (to ≤ 256) }
         ensures { result ≡ children_within from to (children_from 0 slots.now) }

@@ -81,14 +81,13 @@ impl OpaqueNodePtr {
     pub fn to_node_ptr(self) -> ConcreteNodePtr
         ensures { node_name_of result ≡ self }
     {
-        let slot = self.slot();
         match self.node_type() {
-            NodeType::Node4 => ConcreteNodePtr::Node4(NodePtr::from_slot(slot)),
-            NodeType::Node16 => ConcreteNodePtr::Node16(NodePtr::from_slot(slot)),
-            NodeType::Node32 => ConcreteNodePtr::Node32(NodePtr::from_slot(slot)),
-            NodeType::Node48 => ConcreteNodePtr::Node48(NodePtr::from_slot(slot)),
-            NodeType::Node256 => ConcreteNodePtr::Node256(NodePtr::from_slot(slot)),
-            NodeType::Leaf => ConcreteNodePtr::LeafNode(NodePtr::from_slot(slot)),
+            NodeType::Node4 => ConcreteNodePtr::Node4(self.with_kind()),
+            NodeType::Node16 => ConcreteNodePtr::Node16(self.with_kind()),
+            NodeType::Node32 => ConcreteNodePtr::Node32(self.with_kind()),
+            NodeType::Node48 => ConcreteNodePtr::Node48(self.with_kind()),
+            NodeType::Node256 => ConcreteNodePtr::Node256(self.with_kind()),
+            NodeType::Leaf => ConcreteNodePtr::LeafNode(self.with_kind()),
         }
     }
 

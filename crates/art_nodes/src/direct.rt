@@ -3,7 +3,7 @@ use crate::child_iter::{ChildIter, end_of, held, start_of};
 use crate::header::Header;
 use crate::inner_node::{InnerNodeCommon, InnerNodeInit};
 use crate::mask::Mask;
-use crate::names::OpaqueNodePtr;
+use crate::names::{OpaqueNodePtr, Place};
 use crate::sealed::Sealed;
 use std::fmt;
 use std::marker::{Model, PhantomData};
@@ -15,7 +15,7 @@ use std::ops::Bound;
 pub struct InnerNodeDirect<K, V, const PREFIX_LEN: usize> {
     header: Header<PREFIX_LEN>,
     mask: Mask,
-    slots: [Option<OpaqueNodePtr>; 256],
+    slots: [Place; 256],
     tree: PhantomData<(K, V)>,
 }
 
@@ -40,7 +40,7 @@ impl<K, V, const PREFIX_LEN: usize> InnerNodeInit<PREFIX_LEN>
         InnerNodeDirect {
             header: Header::new(bytes, len),
             mask: Mask::new(),
-            slots: [None; 256],
+            slots: [Place::new(None); 256],
             tree: PhantomData,
         }
     }
@@ -70,10 +70,10 @@ impl<K, V, const PREFIX_LEN: usize> InnerNodeCommon<PREFIX_LEN>
     fn write_child(&mut self, byte: u8, name: OpaqueNodePtr) {
         let at = usize::from(byte);
         match held(&self.slots, byte) {
-            Some(_) => self.slots[at] = Some(name),
+            Some(_) => self.slots[at] = Place::new(Some(name)),
             None => {
                 self.mask.mark(byte);
-                self.slots[at] = Some(name);
+                self.slots[at] = Place::new(Some(name));
                 self.header.inc_num_children();
             }
         }
@@ -84,7 +84,7 @@ impl<K, V, const PREFIX_LEN: usize> InnerNodeCommon<PREFIX_LEN>
         match held(&self.slots, byte) {
             Some(name) => {
                 self.mask.unmark(byte);
-                self.slots[at] = None;
+                self.slots[at] = Place::new(None);
                 self.header.dec_num_children();
                 Some(name)
             }

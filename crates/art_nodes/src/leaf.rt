@@ -6,9 +6,10 @@ use crate::inner_node::Node;
 use crate::kind::KindLeaf;
 use crate::names::NodePtr;
 use crate::sealed::Sealed;
-use crate::slot::Slot;
+use crate::unaligned::Unaligned;
 use art_bytes::AsBytes;
 use std::alloc::AllocError;
+use std::fmt;
 use std::marker::Model;
 
 /// A leaf: a key with its value, and the names of the leaves before and after it in the order of keys. The names come
@@ -21,21 +22,38 @@ pub struct LeafNode<K, V> {
     value: V,
 }
 
-// The leaf beside a leaf, if there is one. It has a model of its own, since the check fails of a caller that moves a
-// leaf of concrete types where an enum in the leaf holds a type with a model.
-#[derive(Clone, Copy, Debug)]
+// The leaf beside a leaf, if there is one: one more than its slab key, or zero. It has a model of its own, since the
+// check fails of a caller that moves a leaf of concrete types where an enum in the leaf holds a type with a model.
+#[derive(Clone, Copy)]
 struct Link {
-    slot: Option<Slot>,
+    above: Unaligned,
 }
 
 impl Model for Link {
-    ghost use Rattle.std.specs.Prelude.{ℕ, Option};
+    ghost use Rattle.std.specs.Prelude.{ℕ, Option, ◌≤◌, ◌^◌};
+    ghost use Rattle.std.proofs.Common.{ap};
+    ghost use Rattle.art_nodes.specs.Name.{linked_by, above_of};
+    ghost use Rattle.art_nodes.specs.lemmas.NameLaws.{above_of-linked_by};
 
     ghost Value = { Option ℕ };
 
-    ghost view = { λ link. link.slot };
+    ghost view = { λ link. linked_by link.above };
 
-    ghost inverse = { λ slot. record { slot = slot } };
+    ghost invariant = { λ link. link.above ≤ 2 ^ 61 };
+
+    ghost inverse = { λ slot. record { above = above_of slot } };
+
+    ghost inverse_ok = { λ link h. ap (λ (above : ℕ). record { above = above }) (above_of-linked_by link.above) };
+}
+
+impl fmt::Debug for Link {
+    fn fmt<W: fmt::Write>(&self, f: &mut fmt::Formatter<W>) -> fmt::Result {
+        let slot = match self.get() {
+            Some(leaf) => Some(leaf.slot()),
+            None => None,
+        };
+        f.debug_struct("Link").field("slot", &slot).finish()
+    }
 }
 
 impl Link {
@@ -43,20 +61,24 @@ impl Link {
     fn new(leaf: Option<NodePtr<KindLeaf>>) -> Self
         ensures { result ≡ leaf }
     {
-        let slot = match leaf {
-            Some(leaf) => Some(Slot::new(leaf.slot())),
-            None => None,
+        let above = match leaf {
+            Some(leaf) => leaf.bounded_slot() + 1,
+            None => 0,
         };
-        Link { slot }
+        Link {
+            above: Unaligned::new(above),
+        }
     }
 
     // The leaf.
     fn get(self) -> Option<NodePtr<KindLeaf>>
         ensures { result ≡ self }
     {
-        match self.slot {
-            Some(slot) => Some(NodePtr::from_slot(slot.get())),
-            None => None,
+        let above = self.above.get();
+        if above == 0 {
+            None
+        } else {
+            Some(NodePtr::from_slot(above - 1))
         }
     }
 }

@@ -21,8 +21,8 @@ mod prefix_match;
 mod replaying;
 mod row;
 mod sealed;
-mod slot;
 mod sorted;
+mod unaligned;
 
 pub use builder::{HasChild, HasOneChild, InnerNodeBuilder, NoChild};
 pub use child_iter::{ChildIter, are_valid_child_bounds};

@@ -1,37 +1,61 @@
 //! Names of nodes: a kind, and a key in the slab of that kind.
-ghost use Rattle.std.specs.Prelude.{◌≡◌, ◌≢◌, ◌↔◌, IsTrue, IsSome, IfSome};
+ghost use Rattle.std.specs.Prelude.{◌≡◌, ◌≢◌, ◌<◌, ◌%◌, ◌^◌, ◌↔◌, IsTrue, IsSome, IfSome};
+ghost use Rattle.art_nodes.specs.Name as name;
 
+use crate::hint::assume_proved;
 use crate::kind::{NodeKind, NodeType};
-use crate::slot::Slot;
 use std::alloc::AllocError;
 use std::fmt;
 use std::marker::{Model, PhantomData};
 
-/// The name of a node of any kind. It takes nine bytes, so that nodes of many children stay small. The slab key comes
-/// first: a copy of nine bytes moves eight and then one, so a name that was just written is read in the same pieces.
-#[derive(Clone, Copy, PartialEq, Eq, Hash, Debug)]
+// Every slab key is below it, so that three bits of a word are free for the kind.
+const SLOTS: usize = 1 << 61;
+
+/// The name of a node of any kind. It is one word of eight bytes, so that nodes of many children stay small: the kind
+/// in the low three bits, and the slab key above them.
+#[derive(Clone, Copy, PartialEq, Eq, Hash)]
 pub struct OpaqueNodePtr {
-    slot: Slot,
-    kind: NodeType,
+    word: usize,
 }
 
 impl Model for OpaqueNodePtr {
-    ghost use Rattle.art_nodes.specs.Name.{Name};
+    ghost use Rattle.std.specs.Prelude.{ℕ};
+    ghost use Rattle.std.proofs.Common.{ap};
+    ghost use Rattle.art_nodes.specs.Name.{Name, IsWord, name_in, word_of};
+    ghost use Rattle.art_nodes.specs.lemmas.NameLaws.{word_of-name_in};
 
     ghost Value = { Name };
 
-    ghost view = { λ p. record { kind = p.kind; slot = p.slot } };
+    ghost view = { λ p. name_in p.word };
 
-    ghost inverse = { λ n. record { kind = n.kind; slot = n.slot } };
+    ghost invariant = { λ p. IsWord p.word };
+
+    ghost inverse = { λ n. record { word = word_of n } };
+
+    ghost inverse_ok = { λ p h. ap (λ (word : ℕ). record { word = word }) (word_of-name_in p.word h) };
+}
+
+// The code of a kind in the word of a name.
+const fn code_of(kind: NodeType) -> usize
+    ensures { result ≡ name.code_of kind }
+{
+    match kind {
+        NodeType::Node4 => 1,
+        NodeType::Node16 => 2,
+        NodeType::Node32 => 3,
+        NodeType::Node48 => 4,
+        NodeType::Node256 => 5,
+        NodeType::Leaf => 6,
+    }
 }
 
 impl OpaqueNodePtr {
     fn new(kind: NodeType, slot: usize) -> Self
+        requires { slot < 2 ^ 61 }
         ensures { result ≡ record { kind = kind; slot = slot } }
     {
         OpaqueNodePtr {
-            slot: Slot::new(slot),
-            kind,
+            word: slot * 8 + code_of(kind),
         }
     }
 
@@ -39,14 +63,35 @@ impl OpaqueNodePtr {
     pub fn node_type(self) -> NodeType
         ensures { result ≡ self.kind }
     {
-        self.kind
+        match self.word % 8 {
+            1 => NodeType::Node4,
+            2 => NodeType::Node16,
+            3 => NodeType::Node32,
+            4 => NodeType::Node48,
+            5 => NodeType::Node256,
+            6 => NodeType::Leaf,
+            _ => {
+                assume_proved(false);
+                unreachable!()
+            }
+        }
     }
 
     /// Returns the slab key.
     pub fn slot(self) -> usize
         ensures { result ≡ self.slot }
     {
-        self.slot.get()
+        self.word / 8
+    }
+
+    /// Returns the name of the node of the kind `N` with the same slab key: of the same node, if it is of that kind.
+    pub fn with_kind<N: NodeKind>(self) -> NodePtr<N>
+        ensures { result ≡ self.slot }
+    {
+        NodePtr {
+            slot: self.word / 8,
+            node: PhantomData,
+        }
     }
 
     /// Returns whether this names a node of the kind `N`.
@@ -62,10 +107,19 @@ impl OpaqueNodePtr {
         ensures slot { IfSome result (λ name. name ≡ self.slot) }
     {
         if self.is::<N>() {
-            Some(NodePtr::from_slot(self.slot.get()))
+            Some(self.with_kind())
         } else {
             None
         }
+    }
+}
+
+impl fmt::Debug for OpaqueNodePtr {
+    fn fmt<W: fmt::Write>(&self, f: &mut fmt::Formatter<W>) -> fmt::Result {
+        f.debug_struct("OpaqueNodePtr")
+            .field("slot", &self.slot())
+            .field("kind", &self.node_type())
+            .finish()
     }
 }
 
@@ -80,6 +134,52 @@ impl Default for OpaqueNodePtr {
     }
 }
 
+/// A place for a name, which may have none: the word of the name, or zero. An `Option` would take two words.
+#[derive(Clone, Copy)]
+pub(crate) struct Place {
+    word: usize,
+}
+
+impl Model for Place {
+    ghost use Rattle.std.specs.Prelude.{ℕ, Option};
+    ghost use Rattle.std.proofs.Common.{ap};
+    ghost use Rattle.art_nodes.specs.Name.{Name, IsPlaceWord, name_in_place, place_word};
+    ghost use Rattle.art_nodes.specs.lemmas.NameLaws.{place_word-name_in_place};
+
+    ghost Value = { Option Name };
+
+    ghost view = { λ p. name_in_place p.word };
+
+    ghost invariant = { λ p. IsPlaceWord p.word };
+
+    ghost inverse = { λ place. record { word = place_word place } };
+
+    ghost inverse_ok = { λ p h. ap (λ (word : ℕ). record { word = word }) (place_word-name_in_place p.word h) };
+}
+
+impl Place {
+    // With this name, or none.
+    pub(crate) fn new(name: Option<OpaqueNodePtr>) -> Self
+        ensures { result ≡ name }
+    {
+        match name {
+            Some(name) => Place { word: name.word },
+            None => Place { word: 0 },
+        }
+    }
+
+    // The name that stands here.
+    pub(crate) fn get(self) -> Option<OpaqueNodePtr>
+        ensures { result ≡ self }
+    {
+        if self.word == 0 {
+            None
+        } else {
+            Some(OpaqueNodePtr { word: self.word })
+        }
+    }
+}
+
 /// The name of a node of one kind: its key in the slab of that kind.
 pub struct NodePtr<N> {
     slot: usize,
@@ -87,11 +187,13 @@ pub struct NodePtr<N> {
 }
 
 impl<N> Model for NodePtr<N> {
-    ghost use Rattle.std.specs.Prelude.{ℕ};
+    ghost use Rattle.std.specs.Prelude.{ℕ, ◌<◌, ◌^◌};
 
     ghost Value = { ℕ };
 
     ghost view = { λ p. p.slot };
+
+    ghost invariant = { λ p. p.slot < 2 ^ 61 };
 
     ghost inverse = { λ n. record { slot = n; node = record {} } };
 }
@@ -114,12 +216,13 @@ impl<N> Clone for NodePtr<N> {
 impl<N> Copy for NodePtr<N> {}
 
 impl<N: NodeKind> NodePtr<N> {
-    /// Returns the name of the node of this kind with that slab key, whether one is held there or not.
+    /// Returns the name of the node of this kind with that slab key, whether one is held there or not. A slab key is
+    /// below 2^61: of a larger number only the low 61 bits count.
     pub fn from_slot(slot: usize) -> Self
-        ensures { result ≡ slot }
+        ensures { result ≡ slot % 2 ^ 61 }
     {
         NodePtr {
-            slot,
+            slot: slot % SLOTS,
             node: PhantomData,
         }
     }
@@ -130,6 +233,14 @@ impl<N: NodeKind> NodePtr<N> {
     {
         let NodePtr { slot, node: _ } = self;
         slot
+    }
+
+    // The slab key, with the bound on all of them.
+    pub(crate) fn bounded_slot(self) -> usize
+        ensures value { result ≡ self }
+        ensures below { result < 2 ^ 61 }
+    {
+        self.slot
     }
 
     /// Returns this name with its kind as a value.

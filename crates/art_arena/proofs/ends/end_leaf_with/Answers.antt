@@ -29,17 +29,17 @@ at_end g c path s tree =
     end_at g.K.AsBytes.bytes g.row.PREFIX_LEN c.args.reader.now.arena.now c.args.end path s c.args.reader.now.count c.down.current c.down.search c.down.reader.count (c.down.invariant.way path s tree) c.in-Ok.leaf.now.key c.in-Ok.leaf.now.value there
 
 pub returns-in-Ok-clause-value : goal.returns-in-Ok-clause-value
-returns-in-Ok-clause-value g c = λ path s tree. (at_end g c path s tree).slot_is ∙ ap Some (sym (c.from_slot.ensures ∙ c.slot.ensures))
+returns-in-Ok-clause-value g c = λ path s tree. (at_end g c path s tree).slot_is ∙ ap Some (sym c.with_kind.ensures)
 
 pub returns-in-Ok-clause-leaf : goal.returns-in-Ok-clause-leaf
 returns-in-Ok-clause-leaf g c =
     let named = (at_end g c c.requires.0 c.requires.1 c.requires.2).named in
-    ap (λ m. held_at c.args.reader.now.arena.now (leaf_name m)) (c.from_slot.ensures ∙ c.slot.ensures) ∙ ap (held_at c.args.reader.now.arena.now) (sym named)
+    ap (λ m. held_at c.args.reader.now.arena.now (leaf_name m)) c.with_kind.ensures ∙ ap (held_at c.args.reader.now.arena.now) (sym named)
     ∙ ap (λ a. held_at a c.down.current) (sym c.down.invariant.kept) ∙ c.visit.ensures.value ∙ ap Some c.in-Ok.ensures
 
 pub returns-in-Ok-clause-place : goal.returns-in-Ok-clause-place
 returns-in-Ok-clause-place g c = λ s tree.
-    rw (c.from_slot.ensures, c.slot.ensures, c.finish.ensures) ((at_end g c [] s tree).place refl)
+    rw (c.with_kind.ensures, c.finish.ensures) ((at_end g c [] s tree).place refl)
 
 pub returns-in-Ok-clause-counts : goal.returns-in-Ok-clause-counts
 returns-in-Ok-clause-counts g c = λ path s tree. c.visit.ensures.counts ∙ (at_end g c path s tree).reads

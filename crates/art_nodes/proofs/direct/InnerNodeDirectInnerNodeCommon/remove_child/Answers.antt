@@ -15,7 +15,7 @@ dec_num_children-requires g c =
 pub invariant_of-self : goal.invariant_of-self
 invariant_of-self g c =
     let i = c.self.inside in
-    rw (c.from-at.ensures, c.unmark.ensures, c.dec_num_children.ensures) ((removed i.header i.mask i.slots c.args.byte c.ranges.byte.fits c.self.invariant _ (sym c.in-Some.ensures)).counted)
+    rw (c.from-at.ensures, c.new.ensures, c.unmark.ensures, c.dec_num_children.ensures) ((removed i.header i.mask i.slots c.args.byte c.ranges.byte.fits c.self.invariant _ (sym c.in-Some.ensures)).counted)
 
 pub returns-in-Some-clause-value : goal.returns-in-Some-clause-value
 returns-in-Some-clause-value g c = rw (← c.self.view_is) (c.in-Some.ensures ∙ sym (lookup-table c.self.inside.slots c.args.byte c.self.invariant.table.whole))
@@ -23,7 +23,7 @@ returns-in-Some-clause-value g c = rw (← c.self.view_is) (c.in-Some.ensures �
 pub returns-in-Some-clause-rest : goal.returns-in-Some-clause-rest
 returns-in-Some-clause-rest g c =
     let i = c.self.inside in
-    rw (← c.self.view_is, c.from-at.ensures, c.dec_num_children.ensures) ((removed i.header i.mask i.slots c.args.byte c.ranges.byte.fits c.self.invariant _ (sym c.in-Some.ensures)).view)
+    rw (← c.self.view_is, c.from-at.ensures, c.new.ensures, c.dec_num_children.ensures) ((removed i.header i.mask i.slots c.args.byte c.ranges.byte.fits c.self.invariant _ (sym c.in-Some.ensures)).view)
 
 pub returns-in-None-clause-value : goal.returns-in-None-clause-value
 returns-in-None-clause-value g c = rw (← c.self.view_is) (c.in-None.ensures ∙ sym (lookup-table c.self.inside.slots c.args.byte c.self.invariant.table.whole))
