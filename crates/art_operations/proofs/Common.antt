@@ -2,7 +2,7 @@
 pub use Rattle.art_operations.proofs.Terms.{AreClones, AreEndsWhere, Builds, BuildsTo, CanPut, CanPutOver, ForLongest, FreesLeaves, HasCut, HasInnerRoom, HasKey, HasKeyAt, HasLeaves, HasLeavesOf, HasMoved, HasPairs, HasPairsWhere, HasPut, HasPutIn, HasPutOver, HasRoomAbove, HasRoomAround}
 pub use Rattle.art_operations.proofs.Terms.{HasRoomBeside, HasTaken, HasTakenEnd, HasTreeWhere, HoldsInOrder, HoldsTreeOf, IsAmong, IsAtEnd, IsBlocked, IsCutBeside, IsDeletedBeside, IsEmptySpine, IsForConflict, IsPairRefused, IsPlaceFor, IsPlaced, IsPoint, IsSubtreeAnswer, IsSubtreePoint}
 pub use Rattle.art_operations.proofs.Terms.{KeepsCells, KeepsInnerRoom, KeepsLeavesOf, OfTree, OfTreeWhere, OpeningReads, ReadsAtLeast, ShrinksAtEnd, ShrinksWithout, SpanReads, StandsAhead, StandsBetween, StandsInList, inner_cells, leaves_with, node_count, overlapping, overlaps, pair_in}
-pub use Rattle.art_operations.proofs.Terms.{removed_by, with_key, with_pair_over, with_pair_put, without_key, without_overlapping}
+pub use Rattle.art_operations.proofs.Terms.{landed_leaf, removed_by, takes_key, with_key, with_pair_over, with_pair_put, without_key, without_overlapping}
 pub use Rattle.art_operations.proofs.Building.{fresh}
 pub use Rattle.art_operations.proofs.HeldPairs.{leaves-pairs, pairs-same, pairs-tree, tree-same}
 pub use Rattle.art_operations.proofs.KeyedLists.{all-but-none, before, following, nothing_taken, put_new, put_replaced, stored-free, taken}

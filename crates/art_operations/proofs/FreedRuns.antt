@@ -50,6 +50,14 @@ module _ {K V : Type 0} where
   times-copies n [] = refl
   times-copies n (l ∷ ls) = ap (λ k. (if nat_eq n l.slot then 1 else 0) + k) (times-copies n ls)
 
+  slots-of-leaves : (ls : List (LeafAt K V)) (rest : List (Name × Cell K V)) → length (slots_as Leaf (leaf_cells ls ++ rest)) ≡ length ls + length (slots_as Leaf rest)
+  slots-of-leaves [] rest = omega arith
+  slots-of-leaves (l ∷ ls) rest = omega (arith, slots-of-leaves ls rest)
+
+  -- the leaves that are gone were those of the run
+  pub run-gone : (old new : Arena K V) (first last : ℕ) (ls : List (LeafAt K V)) (rest : List (Name × Cell K V)) → HoldsRun old first last ls rest → Holds (node_at new) rest → leaves_held old ≡ length ls + leaves_held new
+  run-gone old new first last ls rest run left = omega (arith, leaves_counted old (leaf_cells ls ++ rest) run.holds, leaves_counted new rest left, slots-of-leaves ls rest)
+
   module _ (now new : Arena K V) (first last : ℕ) (ls : List (LeafAt K V)) (rest : List (Name × Cell K V)) (run : HoldsRun now first last ls rest)
       (leaf : LeafNode K V) (value : held_at now (leaf_name first) ≡ Some (leaf_held leaf))
       (updates : UpdatesAt (held_at now) (held_at new) (leaf_name first) None) where

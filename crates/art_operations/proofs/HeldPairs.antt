@@ -3,10 +3,11 @@ use Rattle.std.proofs.Common.{◌≡◌, ◌≢◌, ℕ, List, [], ◌++◌, Opt
 use Rattle.std.proofs.lemmas.List.{append-nil}
 use Rattle.art_nodes.proofs.Common.{Name}
 use Rattle.art_nodes.specs.declared.leaf.LeafNode.{LeafNode}
-use Rattle.art_arena.proofs.Common.{Arena, leaf_held, cell_of, node_at, links_at, Allocates, KeepsNodes, SameNodes, Cell, leaf_name, Holds, HoldsOnly, IsIn, found_in, IsAtKey, IsTreeBeside, IsSubtree, Shape, leaf_at, LeafAt, leaves, pairs_of, key_of, cells, Shrinks, Step, tree_of}
+use Rattle.art_arena.proofs.Common.{Arena, leaf_held, cell_of, node_at, links_at, Allocates, KeepsNodes, SameNodes, Cell, leaf_name, Holds, HoldsOnly, IsIn, found_in, IsAtKey, IsTreeBeside, IsSubtree, Shape, leaf_at, LeafAt, leaves, pairs_of, key_of, cells, Shrinks, Step, tree_of, AscendsByKey}
 use Rattle.art_arena.proofs.Common.{keeps-beside, Holds-add, Holds-same, only-holds, shape_means, nodes-part, nodes-subtree, outside-apart, AreLinked-same, all_left, in_map, in_unmap, in_middle, all_at, nodes-update, links-update, nodes-same, links-same}
 use Rattle.art_operations.proofs.Terms.{IsLeafPlace, HasLeavesBeside, IsDeletedBeside, IsInsertedBeside, IsPoint, HasConflict, NoConflict, DeleteResult, InsertPoint, InsertResult, HasKey, IsBlocked, with_key, HasPairs, HasPairsBeside, CanPut, HasPut, HasTaken, HoldsTreeOf, NoChange}
 use Rattle.art_operations.specs.declared.insert.point.InsertKind.TheVariants as kind
+use Rattle.art_operations.proofs.KeyedLists.{stored-free}
 use Rattle.art_operations.proofs.NotStored.{not-stored, which}
 use Rattle.art_operations.proofs.LeafPairs.{leaf_pair, pairs_ascend, free_pairs, none_found, stored_in, stored_pair, taken_pair, shrinks-map, same_leaf, found_leaf, held_leaf}
 
@@ -72,6 +73,17 @@ module _ {K V : Type 0} (bytes : K → List ℕ) (P : ℕ) where
         let others = not-stored bytes key has.shape point has.place differs in
         absurd (all_at (λ (l : LeafAt K V). bytes l.key ≢ key) back.0 (leaves has.shape) others back.1 (ap (key_of bytes) back.2 ∙ same))
   ]
+
+  -- a place that was found for these bytes is one for the key that has them, and no pair blocks it
+  pub place-for : (rest : List (Name × Cell K V)) (arena : Arena K V) (place : Option InsertPoint) (found key : List ℕ) → found ≡ key → (pairs : List (K × V)) → CanPut bytes P arena place found pairs rest × (IsBlocked (key_of bytes) found pairs → ⊥)
+      → CanPut bytes P arena place key pairs rest × (IsBlocked (key_of bytes) key pairs → ⊥)
+  place-for rest arena place found key same pairs is = subst (λ k. CanPut bytes P arena place k pairs rest × (IsBlocked (key_of bytes) k pairs → ⊥)) same is
+
+  -- no pair has a key that a pair blocks
+  pub not-blocked : (rest : List (Name × Cell K V)) (arena : Arena K V) (root : Option Name) (pairs : List (K × V)) → HasPairsBeside bytes P arena root pairs rest → (key : List ℕ)
+      → HasKey (key_of bytes) key pairs → IsBlocked (key_of bytes) key pairs → ⊥
+  not-blocked rest arena None pairs none key stored blocked = (rw none.0 at blocked).1
+  not-blocked rest arena (Some root) pairs has key stored blocked = stored-free (key_of bytes) pairs (subst (AscendsByKey (key_of bytes)) has.2 (pairs_ascend bytes has.0 has.1.nodes.under)) key stored blocked
 
   -- the first pair
   module _ (old new : Arena K V) (rest : List (Name × Cell K V)) (slot : ℕ) (key : K) (value : V) (before : HoldsOnly (node_at old) rest) (allocates : Allocates old new (leaf_name slot) (leaf_held (record { key = key; value = value; previous = None; next = None }))) where

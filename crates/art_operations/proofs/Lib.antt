@@ -1,3 +1,4 @@
+pub mod Lookups
 pub mod Meetings
 pub mod Nearest
 pub mod Segments
@@ -45,7 +46,6 @@ pub mod LeafNames
 pub mod NotStored
 pub mod HeldPairs
 pub mod CutPairs
-pub mod StopPairs
 pub mod DecidedPoints
 pub mod KnownPlaces
 pub mod DecidedParts

@@ -1,9 +1,10 @@
 -- Nodes that are made in an arena: the room for them, and what is left where one is taken out again.
-use Rattle.std.proofs.Common.{◌≡◌, ◌≢◌, ℕ, zero, suc, ◌+◌, ◌≤◌, None, Some, Option, IsSome, refl, sym, ◌∙◌, inl, inr, arith, subst}
+use Rattle.std.proofs.Common.{◌≡◌, ◌≢◌, ℕ, zero, suc, ◌+◌, ◌≤◌, Bool, true, false, if◌then◌else◌, None, Some, Option, IsSome, refl, sym, ◌∙◌, inl, inr, arith, subst}
 use Rattle.art_nodes.proofs.Common.{Name, InnerNode, row_of}
 use Rattle.art_nodes.specs.declared.kind.NodeType.{NodeType}
 use Rattle.art_nodes.specs.declared.kind.NodeType.TheVariants.{Node4, Node16, Node32, Node48, Node256, Leaf}
 use Rattle.art_arena.proofs.Common.{Arena, Held, inner_held, as_inner, held_as, held_at, Allocates, SameNodes, FreesRoomOf, HasRoom, HasRoomOf, KeepsRoomOf, UsesRoomOf, UpdatesAt, same_kind_tells, same_name_tells}
+use Rattle.art_operations.proofs.Terms.{SwapsLeaves}
 
 -- what an inner node becomes that gets smaller is no leaf
 pub smaller-inner : (kind smaller : NodeType) → (row_of kind).smaller ≡ Some smaller → smaller ≢ Leaf
@@ -14,12 +15,37 @@ smaller-inner Node48 smaller is leaf = absurd (cc)
 smaller-inner Node256 smaller is leaf = absurd (cc)
 smaller-inner Leaf smaller is leaf = absurd (cc)
 
+-- what an inner node becomes that gets larger is no leaf
+pub larger-inner : (kind larger : NodeType) → (row_of kind).larger ≡ Some larger → larger ≢ Leaf
+larger-inner Node4 larger is leaf = absurd (cc)
+larger-inner Node16 larger is leaf = absurd (cc)
+larger-inner Node32 larger is leaf = absurd (cc)
+larger-inner Node48 larger is leaf = absurd (cc)
+larger-inner Node256 larger is leaf = absurd (cc)
+larger-inner Leaf larger is leaf = absurd (cc)
+
 module _ {K V : Type 0} where
   -- room for more is room for fewer
   pub fewer : (arena : Arena K V) (m n : ℕ) → m ≤ n → HasRoom arena n → HasRoom arena m
   fewer arena m n less room =
       let a = room.leaves in let b = room.nodes4 in let c = room.nodes16 in let d = room.nodes32 in let e = room.nodes48 in let f = room.nodes256 in
       record { leaves = omega (arith, a, less); nodes4 = omega (arith, b, less); nodes16 = omega (arith, c, less); nodes32 = omega (arith, d, less); nodes48 = omega (arith, e, less); nodes256 = omega (arith, f, less) }
+
+  -- where room of each kind stays, room stays
+  pub all_room : (old new : Arena K V) → KeepsRoomOf old new → (n : ℕ) → HasRoom old n → HasRoom new n
+  all_room old new kept n room = record {
+    leaves = kept Leaf n room.leaves;
+    nodes4 = kept Node4 n room.nodes4;
+    nodes16 = kept Node16 n room.nodes16;
+    nodes32 = kept Node32 n room.nodes32;
+    nodes48 = kept Node48 n room.nodes48;
+    nodes256 = kept Node256 n room.nodes256;
+  }
+
+  -- where room of each kind stays, a leaf that had the key costs none
+  pub swapped : (old new : Arena K V) (b : Bool) → KeepsRoomOf old new → SwapsLeaves 1 (if b then 1 else 0) old new
+  swapped old new true kept n room = kept Leaf (n + 1) room
+  swapped old new false kept n room = let still = kept Leaf (n + 1) room in omega (arith, still)
 
   -- a node that was made and taken out again leaves the arena as it was
   pub undone : (old made still new : Arena K V) (n : Name) (node : Held K V) → Allocates old made n node → SameNodes made still → UpdatesAt (held_at still) (held_at new) n None → SameNodes old new

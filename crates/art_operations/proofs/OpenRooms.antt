@@ -2,6 +2,7 @@
 -- and where a node is freed there is room to make it again.
 use Rattle.std.proofs.Common.{◌≡◌, ℕ, suc, ◌+◌, ◌-◌, ◌≤◌, List, [], ◌∷◌, ◌++◌, length, take, sym, ap, ap₂, subst, ◌∙◌, inl, inr, length-append, arith}
 use Rattle.std.proofs.lemmas.List.{length-map}
+use Rattle.std.specs.Prelude.{vec_capacity}
 use Rattle.art_nodes.specs.declared.kind.NodeType.{NodeType}
 use Rattle.art_arena.proofs.Common.{Arena, FreesRoomOf, HasRoomOf, IsKindOf, KeepsRoomOf, same_kind_tells, LeafAt, Branches, branch, no_branch, width, leaves, leaves_in, pairs_of, children_at, AreUnder, some_leaf, length-children}
 use Rattle.art_operations.proofs.Terms.{HasInnerRoom, HasRoomAround, HasSpineRoom, IsFresh, Open, Spine, Level, AreOpen, one_of, opened, open_children, open_leaves, unmade}
@@ -73,6 +74,14 @@ module _ {K V : Type 0} where
         places = record { stack = omega (arith, nodes, noted, stack); children = omega (arith, noted, children) };
         nodes = fewer-leaves arena (length spine.children.items + count) ls noted room.nodes;
       }
+
+  -- it stays where places and room stay
+  pub still-to-open : (old new : Arena K V) (was now : Spine) (ls : ℕ) → vec_capacity was.stack ≤ vec_capacity now.stack → vec_capacity was.children ≤ vec_capacity now.children → KeepsRoomOf old new → HasRoomToOpen old was ls
+      → HasRoomToOpen new now ls
+  still-to-open old new was now ls stack children kept room =
+      let s = room.stack in
+      let c = room.children in
+      record { stack = omega (arith, s, stack); children = omega (arith, c, children); nodes = λ kind other n few. kept kind n (room.nodes kind other n few) }
 
   -- a new spine has it
   pub fresh-to-open : (arena : Arena K V) (spine : Spine) (ls most : ℕ) → IsFresh spine most → ls ≤ most → HasInnerRoom arena most → HasRoomToOpen arena spine ls

@@ -3,10 +3,20 @@ use Rattle.std.proofs.Common.{◌≡◌, ℕ, List, drop, length, Option, Some, 
 use Rattle.art_bytes.proofs.Common.{BeginsWith}
 use Rattle.art_nodes.proofs.Common.{Name}
 use Rattle.art_arena.proofs.Common.{Arena, node_at, path_to, OnWayTo, Shape, erase, leaves, steps_of, Stores, StoresAt, free, conflict, IsSubtree, Step, StoresBelow, place-subtree}
-use Rattle.art_operations.proofs.Terms.{AllConflict, EndsInside, HasConflict, IsInTheWay, IsPoint, NoConflict, IsEndAt, IsPlaceAt, result_at, point_at, InsertKind}
+use Rattle.art_operations.proofs.Terms.{AllConflict, EndsInside, HasConflict, IsInTheWay, IsPoint, NoConflict, IsEndAt, IsPlaceAt, met_by, result_at, point_at, InsertKind}
 use Rattle.art_operations.specs.Points.{IsPlaceOrConflict}
 use Rattle.art_operations.specs.declared.insert.point.Stop.{Stop}
+use Rattle.art_operations.specs.declared.insert.point.SearchEnd.{SearchEnd}
+use Rattle.art_operations.specs.declared.insert.point.SearchEnd.TheVariants as way
 use Rattle.art_operations.proofs.Points.{way_at_depth, some_conflict}
+
+-- where the key meets nothing, there is a conflict
+pub conflicts : (name : Name) (end : SearchEnd) → met_by name end ≡ None → end ≡ way.Conflict
+conflicts name way.Conflict none = refl
+conflicts name way.Same none = absurd (cc)
+conflicts name (way.PartsFromLeaf parted) none = absurd (cc)
+conflicts name (way.PartsFromPrefix parted) none = absurd (cc)
+conflicts name (way.NoChild byte) none = absurd (cc)
 
 module _ {K V : Type 0} (bytes : K → List ℕ) (P : ℕ) (arena : Arena K V) (root : Name) (key : List ℕ) (stop : Stop) (s : Shape K V) (tree : Stores bytes P arena root s)
     (way : OnWayTo bytes P (node_at arena) key s stop.node (steps_of stop.path) stop.depth) where

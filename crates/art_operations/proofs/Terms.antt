@@ -4,11 +4,12 @@ pub use Rattle.art_operations.specs.Builders.{Builds, BuildsTo, BuildsUpTo, IsAf
 pub use Rattle.art_operations.specs.Commands.{AreAnswered, IsAnswered, after, clones_in, pairs_after, with_clone}
 pub use Rattle.art_operations.specs.DeletePoints.{IsLeafPlace}
 pub use Rattle.art_operations.specs.Deletions.{HasLeaves, HasLeavesBeside, IsAmong, IsDeletedBeside}
-pub use Rattle.art_operations.specs.Frees.{FreesLeaves, HoldsBeside, HoldsInnerBeside, HoldsRun, KeepsAllBut, cells_with, cells_with_in, inner_cells, leaf_cells}
+pub use Rattle.art_operations.specs.Frees.{FreesLeaves, HoldsBeside, HoldsInnerBeside, HoldsRun, KeepsAllBut, SwapsLeaves, cells_with, cells_with_in, inner_cells, leaf_cells}
 pub use Rattle.art_operations.specs.Insertions.{IsForConflict, IsInsertedBeside, IsPairRefused, IsPutOrReplaced, IsReplaced}
 pub use Rattle.art_operations.specs.KeyedLists.{HasKey, IsBlocked, overlapping, overlaps, with_key, without_key, without_overlapping}
 pub use Rattle.art_operations.specs.LeafCursors.{HasInserted, HasMoved, HasPutIn, HasRemoved, KeepsCells, KeepsInnerRoom, StandsAhead, StandsAtPlace, StandsBelow, StandsBetween, StandsInList}
 pub use Rattle.art_operations.specs.LeafNames.{HasKeyAt, HasLeavesOf, KeepsLeavesOf}
+pub use Rattle.art_operations.specs.Lookups.{landed_leaf, takes_key}
 pub use Rattle.art_operations.specs.Meetings.{PartAt}
 pub use Rattle.art_operations.specs.NodeCounts.{node_count, nodes_counted}
 pub use Rattle.art_operations.specs.Openings.{ForLongest, OpeningReads, PlaceReads, ReadsAtLeast, ReadsExactly, SpanReads, beside_reads, bound_reads, end_reads, ends_reads, first_above, near_reads, part_reads, place_reads, range_reads}

@@ -21,6 +21,10 @@ module _ {K V : Type 0} where
   abbrev pub FreesLeaves : ℕ → Arena K V → Arena K V → Type 0
   FreesLeaves count old new = (n : ℕ) → HasRoomOf old Leaf n → HasRoomOf new Leaf (n + count)
 
+  -- of the room for leaves, that of so many is used up, and there is room for so many more
+  abbrev pub SwapsLeaves : ℕ → ℕ → Arena K V → Arena K V → Type 0
+  SwapsLeaves used freed old new = (n : ℕ) → HasRoomOf old Leaf (n + used) → HasRoomOf new Leaf (n + freed)
+
 module _ {K V : Type 0} (P : ℕ) where
   -- the cells that the shape's nodes take, those of its leaves among them or not
   abbrev mutual

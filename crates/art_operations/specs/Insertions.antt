@@ -1,5 +1,5 @@
 -- What an insertion leaves.
-use Rattle.std.specs.Prelude.{◌≡◌, ℕ, List, ◌∷◌, ◌++◌, take, Option, Some, None, IfErr}
+use Rattle.std.specs.Prelude.{◌≡◌, ℕ, List, ◌∷◌, ◌++◌, take, Option, Some, None, IfErr, is_some, if◌then◌else◌}
 use Rattle.std.specs.declared.result.Result.{Result}
 use Rattle.art_nodes.specs.Name.{Name}
 use Rattle.art_nodes.specs.Concrete.{inner_name_of}
@@ -17,6 +17,10 @@ use Rattle.art_operations.specs.declared.insert.result.PairRefused.{PairRefused}
 use Rattle.art_operations.specs.declared.insert.result.PairRefused.TheVariants.{Conflict, Memory}
 use Rattle.art_operations.specs.declared.insert.result.InsertParentNodeChange.{InsertParentNodeChange}
 use Rattle.art_operations.specs.declared.insert.result.InsertParentNodeChange.TheVariants.{NewParent, NoChange}
+
+-- how many leaves had the key
+abbrev pub replaced_by : {K V : Type 0} → InsertResult K V → ℕ
+replaced_by result = if is_some result.existing_leaf then 1 else 0
 
 -- a refusal hands this key and this value back
 abbrev pub HandsPairBack : {K V A : Type 0} → K → V → Result A (InsertRefused K V) → Type 0

@@ -9,6 +9,7 @@ ghost use Rattle.art_operations.specs.Builders.{Builds, IsAfterAll, HasRoomBesid
 ghost use Rattle.art_operations.specs.Builders.{IsPushRefused};
 ghost use Rattle.art_operations.specs.LeafNames.{HasLeavesOf};
 ghost use Rattle.art_operations.specs.Pairs.{HasPairs};
+ghost use Rattle.art_operations.specs.Rebuilds.{KeepsLeafRoom};
 ghost use Rattle.art_operations.specs.inner.Spines.{IsEmptySpine};
 
 mod made;
@@ -232,6 +233,7 @@ impl TreeBuilder {
             → HasPairs K.bytes PREFIX_LEN arena.new result pairs }
         ensures leaves { SameLeaves arena.old arena.new }
         ensures room { (n : ℕ) → HasRoomBeside arena.old self n → HasRoom arena.new n }
+        ensures leaf_room { KeepsLeafRoom arena.old arena.new }
     {
         let Some(last) = self.last else {
             return None;

@@ -6,7 +6,7 @@
 //! which is freed for it. So the way down to that one is gone only once.
 ghost use Rattle.std.specs.Prelude.{◌≡◌, ◌<◌, ◌++◌, ◌-◌, ◌^◌, min, Bool, List, IfSome, IfNone, length};
 ghost use Rattle.art_nodes.specs.Name.{Name};
-ghost use Rattle.art_arena.specs.arena.Arena.{node_at, leaf_capacity, KeepsRoom, SameNodes};
+ghost use Rattle.art_arena.specs.arena.Arena.{node_at, leaf_capacity, KeepsRoom, KeepsRoomOf, SameNodes};
 ghost use Rattle.art_arena.specs.arena.Cells.{Cell, Holds};
 ghost use Rattle.art_arena.specs.arena.Shapes.{Shape, cells, leaves};
 ghost use Rattle.art_operations.specs.Frees.{cells_with, inner_cells, leaf_cells, HoldsBeside, HoldsInnerBeside};
@@ -69,7 +69,7 @@ fn free_node<K: Drop, V: Drop, const PREFIX_LEN: usize>(
     requires { HasSome (HoldsPart PREFIX_LEN with_leaves arena.old node) }
     ensures freed { OfEach (HoldsPart PREFIX_LEN with_leaves arena.old node)
         (λ s rest. FreesRoot with_leaves arena.old arena.new s) }
-    ensures room { KeepsRoom arena.old arena.new }
+    ensures room_of { KeepsRoomOf arena.old arena.new }
     ensures capacity { leaf_capacity arena.new ≡ leaf_capacity arena.old }
 {
     if let Some(leaf) = node.cast::<KindLeaf>() {
@@ -99,7 +99,7 @@ fn hang<K: Drop, V: Drop, const PREFIX_LEN: usize>(
         → HoldsBoth PREFIX_LEN with_leaves arena.old node s below t rest
         → KeepsAllBut (cells_with PREFIX_LEN with_leaves s ++ cells_with PREFIX_LEN with_leaves t) arena.old
         arena.new }
-    ensures room { KeepsRoom arena.old arena.new }
+    ensures room_of { KeepsRoomOf arena.old arena.new }
     ensures capacity { leaf_capacity arena.new ≡ leaf_capacity arena.old }
 {
     let bottom = find_bottom(arena, below);
@@ -149,7 +149,7 @@ fn free_one<K: Drop, V: Drop, const PREFIX_LEN: usize>(
         (λ s rest. HasFreedOne PREFIX_LEN with_leaves arena.new result s rest) }
     ensures kept { OfEach (HoldsPart PREFIX_LEN with_leaves arena.old root)
         (λ s rest. KeepsAllBut (cells_with PREFIX_LEN with_leaves s) arena.old arena.new) }
-    ensures room { KeepsRoom arena.old arena.new }
+    ensures room_of { KeepsRoomOf arena.old arena.new }
     ensures capacity { leaf_capacity arena.new ≡ leaf_capacity arena.old }
 {
     if root.is::<KindLeaf>() {
@@ -196,7 +196,7 @@ fn free_nodes<K: Drop, V: Drop, const PREFIX_LEN: usize>(
         (λ s rest. result ≡ min (length (cells PREFIX_LEN s)) (2 ^ 64 - 1)) }
     ensures kept { OfEach (HoldsPart PREFIX_LEN with_leaves arena.old root)
         (λ s rest. KeepsAllBut (cells_with PREFIX_LEN with_leaves s) arena.old arena.new) }
-    ensures room { KeepsRoom arena.old arena.new }
+    ensures room_of { KeepsRoomOf arena.old arena.new }
     ensures capacity { leaf_capacity arena.new ≡ leaf_capacity arena.old }
 {
     let mut current = root;
@@ -236,6 +236,7 @@ pub(crate) fn free_tree<K: Drop, V: Drop, const PREFIX_LEN: usize>(
     ensures kept { OfEach (HoldsBeside PREFIX_LEN arena.old root)
         (λ s rest. KeepsAllBut (cells PREFIX_LEN s) arena.old arena.new) }
     ensures room { KeepsRoom arena.old arena.new }
+    ensures room_of { KeepsRoomOf arena.old arena.new }
     ensures leaf_room { FreesLeaves result.leaves arena.old arena.new }
 {
     let before = arena.leaf_count();
@@ -261,6 +262,7 @@ pub fn deallocate_tree<K: Drop, V: Drop, const PREFIX_LEN: usize>(
     ensures kept { OfEach (HoldsBeside PREFIX_LEN arena.old root)
         (λ s rest. KeepsAllBut (cells PREFIX_LEN s) arena.old arena.new) }
     ensures room { KeepsRoom arena.old arena.new }
+    ensures room_of { KeepsRoomOf arena.old arena.new }
     ensures leaf_room { FreesLeaves result arena.old arena.new }
 {
     free_tree(arena, root).leaves
@@ -277,6 +279,7 @@ pub fn deallocate_tree_non_leaves<K: Drop, V: Drop, const PREFIX_LEN: usize>(
     ensures kept { OfEach (HoldsInnerBeside PREFIX_LEN arena.old root)
         (λ s rest. KeepsAllBut (inner_cells PREFIX_LEN s) arena.old arena.new) }
     ensures room { KeepsRoom arena.old arena.new }
+    ensures room_of { KeepsRoomOf arena.old arena.new }
 {
     free_nodes(arena, root, false);
 }
@@ -290,7 +293,8 @@ fn free_run<K: Drop, V: Drop, const PREFIX_LEN: usize>(
     requires { HasSome (HoldsRun arena.old first last) }
     ensures freed { OfEach (HoldsRun arena.old first last) (λ ls rest. Holds (node_at arena.new) rest) }
     ensures kept { OfEach (HoldsRun arena.old first last) (λ ls rest. KeepsAllBut (leaf_cells ls) arena.old arena.new) }
-    ensures room { KeepsRoom arena.old arena.new }
+    ensures room_of { KeepsRoomOf arena.old arena.new }
+    ensures capacity { leaf_capacity arena.new ≡ leaf_capacity arena.old }
 {
     let mut current = first;
     'run: loop {
@@ -318,6 +322,9 @@ pub fn deallocate_leaves<K: Drop, V: Drop, const PREFIX_LEN: usize>(
         (λ ls rest. KeepsAllBut (leaf_cells ls) arena.old arena.new)) }
     ensures none { IfNone run (SameNodes arena.old arena.new) }
     ensures room { KeepsRoom arena.old arena.new }
+    ensures room_of { KeepsRoomOf arena.old arena.new }
+    ensures leaf_room { IfSome run (λ ends. OfEach (HoldsRun arena.old ends.0 ends.1)
+        (λ ls rest. FreesLeaves (length ls) arena.old arena.new)) }
 {
     if let Some(ends) = run {
         free_run(arena, ends.0, ends.1);

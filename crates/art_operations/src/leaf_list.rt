@@ -10,6 +10,7 @@ ghost use Rattle.art_arena.specs.arena.Arena.{SameCells, SameNodes, WritesLinks}
 ghost use Rattle.art_arena.specs.arena.Cells.{leaf_name, pair, UpdatesAt};
 ghost use Rattle.art_arena.specs.arena.Rooms.{FreesRoomOf, SameLeaves, UsesRoomOf};
 ghost use Rattle.art_arena.specs.arena.Shapes.{key_of, LeafAt};
+ghost use Rattle.art_operations.specs.Frees.{FreesLeaves, SwapsLeaves};
 ghost use Rattle.art_operations.specs.Insertions.{HandsPairBack};
 ghost use Rattle.art_operations.specs.KeyedLists.{HasKey, IsBlocked};
 ghost use Rattle.art_operations.specs.LeafCursors.{HasInserted, HasMoved, HasPutIn, HasRemoved, KeepsCells};
@@ -376,6 +377,7 @@ fn move_leaf<K: Drop, V: Drop, const PREFIX_LEN: usize>(
         → HoldsFrom to.old first moved → HasMovedOne from.new cursor.new to.new result ls moved }
     ensures none_new { KeepsCells from.new from.old }
     ensures room_of { KeepsRoomOf from.old from.new }
+    ensures leaf_room { FreesRoomOf Leaf from.old from.new }
     ensures used { UsesRoomOf Leaf to.old to.new }
 {
     let Some((key, value)) = cursor.remove(from) else {
@@ -405,7 +407,9 @@ pub fn move_leaves<K: Drop, V: Drop, const PREFIX_LEN: usize>(
         → HasMoved from.new cursor.new to.new result count ls }
     ensures none_new { KeepsCells from.new from.old }
     ensures room_of { KeepsRoomOf from.old from.new }
+    ensures leaf_room { FreesLeaves count from.old from.new }
     ensures kept_room { KeepsInnerRoom to.old to.new }
+    ensures used { SwapsLeaves count 0 to.old to.new }
 {
     let mut first = None;
     for _ in 0..count {

@@ -41,7 +41,8 @@ pub use insert::point::{
 pub use insert::result::{InsertParentNodeChange, InsertRefused, InsertResult, PairRefused};
 pub use leaf_list::{LeafCursor, move_leaves};
 pub use lookup::{
-    PrefixMatchBehavior, prefix_search_unchecked, prefix_search_with, search_unchecked, search_with,
+    PrefixMatchBehavior, prefix_search_unchecked, prefix_search_with, search_leaf_with,
+    search_unchecked, search_with,
 };
 pub use minmax::{maximum_unchecked, maximum_with, minimum_unchecked, minimum_with};
 pub use pairs::{

@@ -2,11 +2,14 @@
 ghost use Rattle.std.specs.Prelude.{◌≡◌, ◌<◌, ◌≤◌, ◌⊎◌, ◌↔◌, drop, IsTrue, MatchResult};
 ghost use Rattle.std.specs.Str.{bytes_eq};
 ghost use Rattle.art_bytes.specs.Keys.{BeginsWith};
+ghost use Rattle.art_arena.specs.arena.Descents.{passing};
+ghost use Rattle.art_arena.specs.arena.Shapes.{leaves};
 ghost use Rattle.art_arena.specs.tree.Tenants.{begins_with};
-ghost use Rattle.art_operations.specs.Lookups.{behavior_after, seen_by, IsMatchedByBytes, IsMatchedByLength, ReadsPath};
+ghost use Rattle.art_operations.specs.Lookups.{behavior_after, landed_leaf, seen_by, takes_key};
+ghost use Rattle.art_operations.specs.Lookups.{IsMatchedByBytes, IsMatchedByLength, ReadsPath};
 ghost use Rattle.art_operations.specs.Whichever.{FindsLeaf, HasTree, OfTree};
 
-use art_arena::{ArenaReader, LeafPtr, NodeArena, land};
+use art_arena::{ArenaReader, Landed, LeafPtr, NodeArena, land};
 use art_bytes::AsBytes;
 use art_nodes::{InnerNodeCommon, LeafNode, OpaqueNodePtr, PessimisticMismatch, PrefixMatch};
 
@@ -135,6 +138,46 @@ pub fn prefix_search_unchecked<K: AsBytes, V, const PREFIX_LEN: usize>(
     prefix_search_with(&mut counted, root, key)
 }
 
+// Whether a look-up takes a leaf's key for a query.
+#[inline(always)]
+fn takes_leaf<K: AsBytes, V>(leaf: &LeafNode<K, V>, query: &[u8], of_prefixes: bool) -> bool
+    ensures { result ≡ takes_key of_prefixes query.now (K.bytes leaf.now.key) }
+{
+    if of_prefixes {
+        return query.starts_with(leaf.key_ref().as_bytes());
+    }
+    leaf.compare_full_key(query)
+}
+
+/// Returns the leaf whose key equals a query, or is a prefix of it where prefixes are asked for, in the tree below a
+/// name, or `None` if there is none. The leaf is lent as long as the arena is.
+///
+/// The reader counts each node that is read: those of the query's path. The count stays at the greatest number.
+#[inline(always)]
+pub fn search_leaf_with<'a, K: AsBytes, V, const PREFIX_LEN: usize>(
+    reader: &mut ArenaReader<'a, K, V, PREFIX_LEN>,
+    root: OpaqueNodePtr,
+    query: &[u8],
+    of_prefixes: bool,
+) -> Option<Landed<'a, K, V>>
+    requires { HasTree K.bytes PREFIX_LEN reader.old.arena.now root }
+    ensures value { OfTree K.bytes PREFIX_LEN reader.old.arena.now root
+        (λ s. landed_leaf result ≡ passing K.bytes (takes_key of_prefixes query.now) (leaves s)) }
+    ensures kept { reader.new.arena.now ≡ reader.old.arena.now }
+    ensures counts { OfTree K.bytes PREFIX_LEN reader.old.arena.now root
+        (λ s. ReadsPath query.now s reader.old.count reader.new.count) }
+{
+    match land(reader, root, query) {
+        Some(landed) => {
+            if takes_leaf(landed.leaf, query, of_prefixes) {
+                return Some(landed);
+            }
+            None
+        }
+        None => None,
+    }
+}
+
 /// Returns what `search_unchecked` does, by a reader that counts each node that is read: those of the key's path. The
 /// count stays at the greatest number.
 pub fn search_with<K: AsBytes, V, const PREFIX_LEN: usize>(
@@ -148,13 +191,8 @@ pub fn search_with<K: AsBytes, V, const PREFIX_LEN: usize>(
     ensures counts { OfTree K.bytes PREFIX_LEN reader.old.arena.now root
         (λ s. ReadsPath key.now s reader.old.count reader.new.count) }
 {
-    match land(reader, root, key) {
-        Some(landed) => {
-            if landed.leaf.compare_full_key(key) {
-                return Some(landed.name);
-            }
-            None
-        }
+    match search_leaf_with(reader, root, key, false) {
+        Some(found) => Some(found.name),
         None => None,
     }
 }
@@ -172,13 +210,8 @@ pub fn prefix_search_with<K: AsBytes, V, const PREFIX_LEN: usize>(
     ensures counts { OfTree K.bytes PREFIX_LEN reader.old.arena.now root
         (λ s. ReadsPath key.now s reader.old.count reader.new.count) }
 {
-    match land(reader, root, key) {
-        Some(landed) => {
-            if key.starts_with(landed.leaf.key_ref().as_bytes()) {
-                return Some(landed.name);
-            }
-            None
-        }
+    match search_leaf_with(reader, root, key, true) {
+        Some(found) => Some(found.name),
         None => None,
     }
 }

@@ -8,9 +8,11 @@ ghost use Rattle.art_arena.specs.arena.Cells.{Cell, HoldsOnly};
 ghost use Rattle.art_arena.specs.arena.Rooms.{FreesRoomOf};
 ghost use Rattle.art_arena.specs.arena.Shapes.{key_of};
 ghost use Rattle.art_arena.specs.tree.Shrinks.{Shrinks};
-ghost use Rattle.art_operations.specs.Insertions.{HandsPairBack, IsForConflict, IsPairRefused};
+ghost use Rattle.art_operations.specs.Insertions.{HandsPairBack, IsForConflict, IsPairRefused, replaced_by};
+ghost use Rattle.art_operations.specs.Frees.{SwapsLeaves};
 ghost use Rattle.art_operations.specs.KeyedLists.{HasKey, IsBlocked};
 ghost use Rattle.art_operations.specs.LeafNames.{HasLeavesOf, KeepsLeavesOf};
+ghost use Rattle.art_operations.specs.Overwrites.{removed_by};
 ghost use Rattle.art_operations.specs.Pairs.{CanPut, CanPutOver, HasPairsBeside, HasPut};
 ghost use Rattle.art_operations.specs.Pairs.{HasPutOver, HasTaken, HasTakenEnd, IsPlaced};
 ghost use Rattle.art_operations.specs.Pairs.{IsPlaceFor, ShrinksAtEnd, TellsConflict, with_pair_over};
@@ -18,11 +20,8 @@ ghost use Rattle.art_operations.specs.Whichever.{HasSome, OfEach};
 
 use crate::delete::point::{end_point, search_for_delete_point};
 use crate::delete::result::DeleteResult;
-use crate::insert::at_stop::insert_at_stop;
 use crate::insert::leaf::store_leaf;
-use crate::insert::point::{
-    InsertPoint, PrefixConflict, find_insert_point, find_stop, search_end_at,
-};
+use crate::insert::point::{InsertPoint, PrefixConflict, find_insert_point};
 use crate::insert::result::{InsertParentNodeChange, InsertRefused, InsertResult, PairRefused};
 use crate::prefix_insert::point::{PrefixInsertPoint, search_for_prefix_insert_point};
 use crate::prefix_insert::result::PrefixInsertResult;
@@ -71,6 +70,7 @@ fn insert_first<K: AsBytes, V, const PREFIX_LEN: usize>(
     ensures handed_back { HandsPairBack key value result }
     ensures succeeds { HasRoom arena.old 1 → IsOk result }
     ensures room { UsesRoom 1 arena.old arena.new }
+    ensures leaf_room { IfOk result (λ put. SwapsLeaves 1 (replaced_by put) arena.old arena.new) }
     ensures kept_room { OnErr result (KeepsRoomOf arena.old arena.new) }
 {
     let leaf = store_leaf(arena, key, value)?;
@@ -105,6 +105,7 @@ pub fn insert_at<K: AsBytes, V, const PREFIX_LEN: usize>(
     ensures handed_back { HandsPairBack key value result }
     ensures succeeds { HasRoom arena.old 2 → IsOk result }
     ensures room { UsesRoom 2 arena.old arena.new }
+    ensures leaf_room { IfOk result (λ put. SwapsLeaves 1 (replaced_by put) arena.old arena.new) }
     ensures kept_room { OnErr result (KeepsRoomOf arena.old arena.new) }
     ensures stored_room { OfEach (CanPut K.bytes PREFIX_LEN arena.old place (K.bytes key))
         (λ pairs rest. HasKey (key_of K.bytes) (K.bytes key) pairs → KeepsRoomOf arena.old arena.new) }
@@ -125,9 +126,8 @@ fn memory_refusal<K, V>(refused: InsertRefused<K, V>) -> PairRefused<K, V>
     }
 }
 
-/// Inserts a key and its value at the place of the key: what `find_place` and `insert_at` do, in one descent, with no
-/// place named in between. It returns a pair that has the key already, whose leaf the new one takes: that never fails.
-/// Whatever stands beside the tree is unchanged.
+/// Inserts a key and its value at the place of the key, by `find_place` and `insert_at`. It returns a pair that has the
+/// key already, whose leaf the new one takes: that never fails. Whatever stands beside the tree is unchanged.
 ///
 /// Fails if the key is a prefix of a stored key, or a stored key is a prefix of it, and if out of memory. The error
 /// returns the key and the value, and nothing changed.
@@ -153,25 +153,17 @@ pub fn insert_pair<K: AsBytes, V, const PREFIX_LEN: usize>(
         (λ pairs rest. IsPairRefused key value (IsBlocked (key_of K.bytes) (K.bytes key) pairs) e)) }
     ensures succeeds { IfErr result (λ e. HasRoom arena.old 2 → IsForConflict e) }
     ensures room { UsesRoom 2 arena.old arena.new }
+    ensures leaf_room { IfOk result (λ put. SwapsLeaves 1 (replaced_by put) arena.old arena.new) }
     ensures kept_room { OnErr result (KeepsRoomOf arena.old arena.new) }
     ensures stored_room { OfEach (HasPairsBeside K.bytes PREFIX_LEN arena.old root)
         (λ pairs rest. HasKey (key_of K.bytes) (K.bytes key) pairs → KeepsRoomOf arena.old arena.new) }
 {
-    let Some(top) = root else {
-        return match insert_first(arena, key, value) {
+    match find_place(arena, root, key.as_bytes()) {
+        Ok(place) => match insert_at(arena, place, key, value) {
             Ok(put) => Ok(put),
             Err(refused) => Err(memory_refusal(refused)),
-        };
-    };
-    let bytes = key.as_bytes();
-    let stop = find_stop(arena, top, bytes);
-    let way = search_end_at(arena, stop.node, bytes, stop.depth);
-    if way.is_conflict() {
-        return Err(PairRefused::Conflict { key, value });
-    }
-    match insert_at_stop(arena, top, stop, way, key, value) {
-        Ok(put) => Ok(put),
-        Err(refused) => Err(memory_refusal(refused)),
+        },
+        Err(_) => Err(PairRefused::Conflict { key, value }),
     }
 }
 
@@ -216,6 +208,7 @@ pub fn insert_over<K: AsBytes + Drop, V: Drop, const PREFIX_LEN: usize>(
     ensures handed_back { HandsPairBack key value result }
     ensures succeeds { HasRoom arena.old 2 → IsOk result }
     ensures room { UsesRoom 2 arena.old arena.new }
+    ensures leaf_room { IfOk result (λ put. SwapsLeaves 1 (removed_by put) arena.old arena.new) }
     ensures kept_room { OnErr result (KeepsRoomOf arena.old arena.new) }
     ensures stored_room { OfEach (CanPutOver K.bytes PREFIX_LEN arena.old place (K.bytes key))
         (λ pairs rest. HasKey (key_of K.bytes) (K.bytes key) pairs → KeepsRoomOf arena.old arena.new) }

@@ -2,7 +2,7 @@
 ghost use Rattle.std.specs.Prelude.{◌≡◌, ◌++◌, List};
 ghost use Rattle.art_nodes.specs.Name.{Name};
 ghost use Rattle.art_arena.specs.arena.Cells.{Cell, Holds};
-ghost use Rattle.art_arena.specs.arena.Arena.{node_at, KeepsRoom};
+ghost use Rattle.art_arena.specs.arena.Arena.{node_at, KeepsRoomOf};
 ghost use Rattle.art_arena.specs.arena.Context.{Frame, root_of, cells_before};
 ghost use Rattle.art_arena.specs.arena.Steps.{Step, steps_of};
 ghost use Rattle.art_operations.specs.inner.Edits.{IsLastOf, StandsAround};
@@ -49,7 +49,7 @@ pub(crate) fn put_below<K: AsBytes, V, const PREFIX_LEN: usize>(
         → StandsAround K.bytes PREFIX_LEN (node_at arena.old) root ctx was rest steps → IsLastOf steps above
         → root_of ctx name ≡ result }
     ensures links { SameLinks arena.old arena.new }
-    ensures room { KeepsRoom arena.old arena.new }
+    ensures room_of { KeepsRoomOf arena.old arena.new }
 {
     match above {
         None => name,
@@ -78,7 +78,7 @@ pub(crate) fn repoint<K: AsBytes, V, const PREFIX_LEN: usize>(
         → StandsAround K.bytes PREFIX_LEN (node_at arena.old) root ctx was rest (steps_of path)
         → root_of ctx name ≡ result }
     ensures links { SameLinks arena.old arena.new }
-    ensures room { KeepsRoom arena.old arena.new }
+    ensures room_of { KeepsRoomOf arena.old arena.new }
 {
     put_below(arena, root, last_step(path), name)
 }

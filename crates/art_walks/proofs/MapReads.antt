@@ -1,18 +1,13 @@
 -- What a reader of a map answers, told by the pairs of the map.
-use Rattle.std.proofs.Common.{◌≡◌, ◌≢◌, ℕ, ◌+◌, ◌-◌, ◌^◌, min, Bool, true, false, cond, bytes_eq, IsTrue, ◌==◌, ◌↔◌, filter, List, [], ◌∷◌, ◌++◌, length, Option, Some, None, MatchOption, refl, sym, ap, subst, ◌∙◌, inl, inr, arith, append_assoc}
+use Rattle.std.proofs.Common.{◌≡◌, ◌≢◌, ℕ, ◌+◌, ◌-◌, ◌^◌, min, Bool, true, false, cond, filter, List, [], ◌∷◌, ◌++◌, length, Option, Some, None, MatchOption, refl, sym, ap, subst, ◌∙◌, inl, inr, arith, append_assoc}
 use Rattle.std.specs.Map.{lookup_entry}
-use Rattle.std.specs.List.{starts_with}
-use Rattle.std.proofs.lemmas.Bool.{false_from_ne_true}
 use Rattle.std.proofs.lemmas.Bool.Decides.{eqb_tells}
 use Rattle.std.proofs.lemmas.List.{length-map}
 use Rattle.art_nodes.proofs.Common.{Name}
 use Rattle.art_nodes.specs.declared.leaf.LeafNode.{LeafNode}
-use Rattle.art_arena.proofs.Common.{Arena, begins_with, begins_of, begins_same, begins_true, other_key, same_key, takes_equal, takes_front, cell_of, held_at, leaf_held, links_at, node_at, leaf_name, HasNoFront, LandsAt, ReadsPath, TakesFronts, passing, AreLinked, KeysWithin, Shape, LeafAt}
-use Rattle.art_arena.proofs.Common.{erase, key_of, leaves, pairs_of, Step, Stores, Tree, tree_of, canonical-erase, items-erase, leaves_of, located-fails, located-passes, passing-located, nodes-subtree}
-use Rattle.art_arena.specs.arena.Descents.{located_where}
+use Rattle.art_arena.proofs.Common.{Arena, cell_of, held_at, leaf_held, links_at, node_at, leaf_name, ReadsPath, passing, AreLinked, KeysWithin, Shape, LeafAt}
+use Rattle.art_arena.proofs.Common.{erase, key_of, leaves, pairs_of, Stores, Tree, tree_of, canonical-erase, items-erase, nodes-subtree}
 use Rattle.art_arena.specs.arena.Reads.{ReadsExactly}
-use Rattle.art_arena.specs.arena.Found.{located}
-use Rattle.art_arena.proofs.shapes.Prefixes.{begins_not}
 use Rattle.art_arena.proofs.tree.Unique.{tree_of_items}
 use Rattle.art_operations.proofs.Common.{AreEndsWhere, leaf_pair, IsConvex}
 use Rattle.art_walks.proofs.Terms.{IsSpan, IsSpanOf, PairsWithin, ReadsPathOf, ReadsPairs, ReadsTree, of_tree, path_length, Ends, HasEnds, IsWalk, AreStored}
@@ -23,23 +18,6 @@ use Rattle.art_walks.proofs.Spans.{passing-pairs, span-in}
 abbrev first_of : {X : Type 0} → List X → Option X
 first_of [] = None
 first_of (x ∷ xs) = Some x
-
--- which keys are taken for a query: the one that equals it, or of fronts those that it begins with
-abbrev pub taken : Bool → List ℕ → List ℕ → Bool
-taken of_fronts query k = cond of_fronts (begins_with k query) (bytes_eq k query)
-
-pub takes : (of_fronts : Bool) (query : List ℕ) → TakesFronts query (taken of_fronts query)
-takes true query = takes_front query
-takes false query = takes_equal query
-
-pub told-front : (r : Bool) (query read k : List ℕ) → read ≡ k → r ≡ starts_with ◌==◌ query read → r ≡ begins_with k query
-told-front true query read k same e = sym (begins_same k query (begins_of true query query read k refl same e refl))
-told-front false query read k same e =
-    sym (false_from_ne_true (begins_with k query) (λ passed. begins_not false query query read k refl same e refl (begins_true k query passed)))
-
-pub told-key : (r : Bool) (query k : List ℕ) → IsTrue r ↔ (k ≡ query) → r ≡ bytes_eq k query
-told-key true query k e = sym (same_key k query (e.0 refl))
-told-key false query k e = sym (other_key k query (λ same. let t = e.1 same in cc))
 
 module _ {K V : Type 0} (bytes : K → List ℕ) (test : List ℕ → Bool) where
   -- the first pair that passes is the first of those that do
@@ -82,25 +60,9 @@ module _ {K V : Type 0} (bytes : K → List ℕ) (P : ℕ) (arena : Arena K V) (
       ap (tree_of (key_of bytes)) (sym the-pairs) ∙ sym (ap (tree_of (key_of bytes)) (items-erase the-shape)) ∙ tree_of_items (key_of bytes) (erase the-shape) (canonical-erase bytes [] the-shape has.1.1.nodes.under) in
       reads ∙ ap (λ t. min (old + of_tree of t) (2 ^ 64 - 1)) (sym built)
 
-  -- what is found where a query lands
-  module _ (of_fronts : Bool) (query : List ℕ) where
-    found-where : (ls : List (LeafAt K V)) → leaves_of (located_where bytes (taken of_fronts query) (located [] the-shape)) ≡ ls → first_of (pairs_of ls) ≡ lookup_entry (λ k. taken of_fronts query (bytes k)) pairs
-    found-where ls are =
-        sym (ap (lookup_entry (λ k. taken of_fronts query (bytes k))) (sym the-pairs)
-        ∙ found bytes (taken of_fronts query) ls (leaves the-shape) (passing-located bytes (taken of_fronts query) the-shape ∙ are))
-
-    pub landed-entry : (slot : ℕ) (leaf : LeafNode K V) (last : List Step) → ((s : Shape K V) → Stores bytes P arena root s → LandsAt bytes query s slot leaf last) → taken of_fronts query (bytes leaf.key) ≡ true
-        → Some (leaf.key, leaf.value) ≡ lookup_entry (λ k. taken of_fronts query (bytes k)) pairs
-    landed-entry slot leaf last lands passes =
-        found-where _ (ap leaves_of (located-passes bytes query the-shape slot leaf last (lands the-shape the-stores) (taken of_fronts query) (takes of_fronts query) passes))
-
-    pub landed-other : (slot : ℕ) (leaf : LeafNode K V) (last : List Step) → ((s : Shape K V) → Stores bytes P arena root s → LandsAt bytes query s slot leaf last) → taken of_fronts query (bytes leaf.key) ≡ false
-        → None ≡ lookup_entry (λ k. taken of_fronts query (bytes k)) pairs
-    landed-other slot leaf last lands fails =
-        found-where [] (ap leaves_of (located-fails bytes query the-shape slot leaf last (lands the-shape the-stores) (taken of_fronts query) (takes of_fronts query) fails))
-
-    pub landed-none : ((s : Shape K V) → Stores bytes P arena root s → HasNoFront bytes query s) → None ≡ lookup_entry (λ k. taken of_fronts query (bytes k)) pairs
-    landed-none none = found-where [] (ap leaves_of (none the-shape the-stores (taken of_fronts query) (takes of_fronts query)))
+  -- the first of the leaves that pass has the first of the pairs that do
+  pub pair-found : (test : List ℕ → Bool) (ls : List (LeafAt K V)) → ls ≡ passing bytes test (leaves the-shape) → first_of (pairs_of ls) ≡ lookup_entry (λ k. test (bytes k)) pairs
+  pair-found test ls are = sym (ap (lookup_entry (λ k. test (bytes k))) (sym the-pairs) ∙ found bytes test ls (leaves the-shape) (sym are))
 
   -- keys of pairs are keys of leaves
   pub keys-within : (longest : ℕ) → PairsWithin bytes longest pairs → KeysWithin bytes longest (leaves the-shape)

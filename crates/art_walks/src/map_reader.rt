@@ -17,10 +17,10 @@ ghost use Rattle.art_walks.specs.MapReads.{IsSameMap, IsSpan, IsSpanOf, OfPairs,
 ghost use Rattle.art_walks.specs.MapReads.{ReadsTree};
 
 use crate::raw_iterator::RawIterator;
-use art_arena::{ArenaReader, LeafPtr, NodeArena, land};
+use art_arena::{ArenaReader, LeafPtr, NodeArena};
 use art_bytes::AsBytes;
-use art_nodes::{LeafNode, OpaqueNodePtr};
-use art_operations::{find_prefix_segment_with, find_range_segment_with};
+use art_nodes::OpaqueNodePtr;
+use art_operations::{find_prefix_segment_with, find_range_segment_with, search_leaf_with};
 use std::marker::{Model, PhantomData};
 use std::ops::Bound;
 
@@ -92,18 +92,6 @@ impl<'a, K: AsBytes, V, const PREFIX_LEN: usize, M: 'a> Model
     ghost invariant = { λ r. ReadsMap K.bytes PREFIX_LEN r.reader.arena.now r.root };
 }
 
-// Whether a leaf's key is a query, or where fronts are asked for, a prefix of it.
-#[inline(always)]
-fn is_taken<K: AsBytes, V>(leaf: &LeafNode<K, V>, query: &[u8], of_fronts: bool) -> bool
-    ensures { result ≡ (if of_fronts then begins_with (K.bytes leaf.now.key) query.now
-        else bytes_eq (K.bytes leaf.now.key) query.now) }
-{
-    if of_fronts {
-        return query.starts_with(leaf.key_ref().as_bytes());
-    }
-    leaf.compare_full_key(query)
-}
-
 // A bound of bytes: those of its key.
 fn bytes_of<Q: AsBytes>(bound: Bound<&Q>) -> Bound<&[u8]>
     ensures { bound_map (λ bytes. bytes.now) result ≡ bound_map (λ key. Q.bytes key.now) bound.entry }
@@ -169,14 +157,11 @@ impl<'a, K: AsBytes, V, const PREFIX_LEN: usize> MapReader<'a, K, V, PREFIX_LEN>
             Some(root) => root,
             None => return None,
         };
-        let landed = match land(&mut self.reader, root, query) {
-            Some(landed) => landed,
+        let found = match search_leaf_with(&mut self.reader, root, query, of_fronts) {
+            Some(found) => found,
             None => return None,
         };
-        if is_taken(landed.leaf, query, of_fronts) {
-            return Some(landed.leaf.entry_ref());
-        }
-        None
+        Some(found.leaf.entry_ref())
     }
 
     /// Returns the pair whose key has the query's bytes, if there is one. The nodes of the key's path are read, and no

@@ -353,7 +353,7 @@ impl Starts {
     // What is gone along from these leaves.
     fn chains(&self) -> Chains {
         let mut chains = Chains {
-            at: [LeafPtr::from_slot(self.names[0].slot()); STARTS],
+            at: [self.names[0].with_kind(); STARTS],
             ends: [NO_SLOT; STARTS],
             len: 1,
             has_end: false,
@@ -362,7 +362,7 @@ impl Starts {
             if self.names[i].node_type() != NodeType::Leaf {
                 break;
             }
-            chains.at[i] = LeafPtr::from_slot(self.names[i].slot());
+            chains.at[i] = self.names[i].with_kind();
             chains.ends[i - 1] = self.names[i].slot();
             chains.has_end = true;
             chains.len = i;

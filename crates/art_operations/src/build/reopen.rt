@@ -1,17 +1,13 @@
 //! A builder that goes on from a tree: the inner nodes on the way to its last leaf are open again, from the root down.
-ghost use Rattle.std.specs.Prelude.{◌≡◌, ◌≢◌, ◌+◌, ◌<◌, ◌≤◌, ◌++◌, ℕ, List, Some, length, vec_capacity};
+ghost use Rattle.std.specs.Prelude.{◌≡◌, ◌≢◌, ◌+◌, ◌≤◌, ◌++◌, ℕ, List, Some, length, vec_capacity};
 ghost use Rattle.std.specs.Prelude.{IfErr, IfOk, IsOk, MatchResult, OnErr, OnOk};
 ghost use Rattle.art_arena.specs.arena.Arena.{HasRoom};
 ghost use Rattle.art_arena.specs.arena.Rooms.{SameLeaves};
 ghost use Rattle.art_arena.specs.arena.Shapes.{LeafAt};
 ghost use Rattle.art_operations.specs.Builders.{Builds, HasRoomBeside};
 ghost use Rattle.art_operations.specs.Pairs.{HasPairs};
-ghost use Rattle.art_operations.specs.Rebuilds.{HasInnerRoom};
-ghost use Rattle.art_operations.specs.Whichever.{HasSome, OfEach};
-ghost use Rattle.art_operations.specs.inner.Rebuilding.{HasSpineRoom};
-ghost use Rattle.art_operations.specs.inner.Reopening.{HasRoomToOpen, OpensTo};
-ghost use Rattle.art_operations.specs.inner.Spines.{begin_of};
-ghost use Rattle.art_operations.specs.inner.Unmade.{HasRoomAround};
+ghost use Rattle.art_operations.specs.Rebuilds.{HasInnerRoom, KeepsLeafRoom};
+ghost use Rattle.art_operations.specs.inner.Reopening.{HasOpened, IsUnopened, KeepsOpenRoom, OpensTo};
 
 use crate::build::TreeBuilder;
 use crate::build::over_leaves::SpineRoom;
@@ -51,22 +47,10 @@ fn open_top<K: AsBytes + Drop, V: Drop, const PREFIX_LEN: usize>(
     requires inner { part.kind ≢ NodeType.Leaf }
     requires stands { (leaf : LeafAt K V) × (ls : List (LeafAt K V))
         × OpensTo K.bytes PREFIX_LEN arena.old spine.old part leaf ls × (length (K.bytes leaf.key) ≤ most) }
-    ensures ok { IfOk result (λ child. OfEach (OpensTo K.bytes PREFIX_LEN arena.old spine.old part)
-        (OpensTo K.bytes PREFIX_LEN arena.new spine.new child)) }
-    ensures err { OnErr result (OfEach (OpensTo K.bytes PREFIX_LEN arena.old spine.old part)
-        (OpensTo K.bytes PREFIX_LEN arena.new spine.new part)) }
-    ensures deeper { OnOk result (begin_of 0 spine.old.stack.items < begin_of 0 spine.new.stack.items) }
-    ensures within { OnOk result (begin_of 0 spine.new.stack.items ≤ most) }
-    ensures room { OnOk result (HasSpineRoom arena.new spine.new 1) }
-    ensures stack { OnErr result (spine.new.stack.items ≡ spine.old.stack.items) }
-    ensures kept_room { OnErr result ((n : ℕ) → HasSpineRoom arena.old spine.old n
-        → HasSpineRoom arena.new spine.new n) }
-    ensures succeeds { (leaf : LeafAt K V) (ls : List (LeafAt K V))
-        → OpensTo K.bytes PREFIX_LEN arena.old spine.old part leaf ls → HasRoomToOpen arena.old spine.old (length ls)
-        → IsOk result }
-    ensures room_to_open { (n : ℕ) → HasRoomToOpen arena.old spine.old n → HasRoomToOpen arena.new spine.new n }
-    ensures around { (n : ℕ) → HasRoomAround arena.old spine.old n → HasRoomAround arena.new spine.new n }
-    ensures leaves { SameLeaves arena.old arena.new }
+    ensures ok { IfOk result (λ child.
+        HasOpened K.bytes PREFIX_LEN arena.old spine.old part arena.new spine.new most child) }
+    ensures err { OnErr result (IsUnopened K.bytes PREFIX_LEN arena.old spine.old part arena.new spine.new) }
+    ensures kept { KeepsOpenRoom arena.old spine.old arena.new spine.new }
 {
     let count = arena.inner(part).num_children();
     spine.reserve(arena, count)?;
@@ -109,6 +93,7 @@ impl TreeBuilder {
         ensures leaf_alone { root.kind ≡ NodeType.Leaf → IsOk result }
         ensures room { (n : ℕ) → HasRoom arena.old n
             → MatchResult result (λ builder. HasRoomBeside arena.new builder n) (λ _. HasRoom arena.new n) }
+        ensures leaf_room { KeepsLeafRoom arena.old arena.new }
         ensures leaves { SameLeaves arena.old arena.new }
     {
         let mut spine = room.into_spine();

@@ -5,7 +5,7 @@ ghost use Rattle.std.specs.Prelude.{IfOk, IfSome, IsOk, MatchOption, OnErr, OnOk
 ghost use Rattle.art_nodes.specs.Name.{Name};
 ghost use Rattle.art_nodes.specs.InnerNode as node;
 ghost use Rattle.art_nodes.specs.Kind.{CanShrink};
-ghost use Rattle.art_arena.specs.arena.Arena.{HasRoom, KeepsNodes, KeepsRoom, SameNodes, UsesRoom};
+ghost use Rattle.art_arena.specs.arena.Arena.{HasRoom, KeepsNodes, KeepsRoom, KeepsRoomOf, SameNodes, UsesRoom};
 ghost use Rattle.art_arena.specs.arena.Shapes.{erase, key_of, leaves};
 ghost use Rattle.art_arena.specs.arena.Steps.{steps_of};
 ghost use Rattle.art_operations.specs.Frees.{FreesLeaves};
@@ -132,6 +132,7 @@ fn reserve_smaller<K, V, const PREFIX_LEN: usize>(
         → CanShrink parent.kind (length n.children - 1)) }
     ensures succeeds { HasRoom arena.old 1 → IsOk result }
     ensures kept_room { KeepsRoom arena.old arena.new }
+    ensures room_of { KeepsRoomOf arena.old arena.new }
     ensures kept { SameNodes arena.old arena.new }
 {
     let kind = parent.node_type();
@@ -164,6 +165,7 @@ impl SubtreeDeletePoint {
             (λ s rest. ShrinksWithout (λ l. K.bytes l.key) (leaves s) prefix)) }
         ensures succeeds { HasRoom arena.old 1 → IsOk result }
         ensures kept_room { KeepsRoom arena.old arena.new }
+        ensures room_of { KeepsRoomOf arena.old arena.new }
         ensures kept { SameNodes arena.old arena.new }
     {
         let Some(step) = last_step(self.path) else {

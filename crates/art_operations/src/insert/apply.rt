@@ -2,7 +2,8 @@
 ghost use Rattle.std.specs.Prelude.{◌≡◌, ℕ, IfOk, OnErr, IsOk};
 ghost use Rattle.art_arena.specs.arena.Arena.{HasRoom, KeepsNodes, KeepsRoomOf, SameNodes, UsesRoom};
 ghost use Rattle.art_arena.specs.arena.Steps.{steps_of};
-ghost use Rattle.art_operations.specs.Insertions.{HandsPairBack, IsInsertedBeside};
+ghost use Rattle.art_operations.specs.Frees.{SwapsLeaves};
+ghost use Rattle.art_operations.specs.Insertions.{HandsPairBack, IsInsertedBeside, replaced_by};
 ghost use Rattle.art_operations.specs.Points.{IsPoint};
 ghost use Rattle.art_operations.specs.declared.insert.point.InsertKind.TheVariants as kind;
 ghost use Rattle.art_operations.specs.Whichever.{HasTreeWhere, OfTreeWhere};
@@ -40,6 +41,7 @@ impl InsertPoint {
         ensures exact { (leaf : ℕ) → self.insert_kind ≡ kind.Exact leaf → IsOk result }
         ensures succeeds { HasRoom arena.old 2 → IsOk result }
         ensures room { UsesRoom 2 arena.old arena.new }
+        ensures leaf_room { IfOk result (λ inserted. SwapsLeaves 1 (replaced_by inserted) arena.old arena.new) }
         ensures kept_room { OnErr result (KeepsRoomOf arena.old arena.new) }
         ensures exact_room { (leaf : ℕ) → self.insert_kind ≡ kind.Exact leaf → KeepsRoomOf arena.old arena.new }
     {

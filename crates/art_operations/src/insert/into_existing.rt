@@ -2,7 +2,7 @@
 ghost use Rattle.std.specs.Prelude.{◌≡◌, ◌<◌, ◌+◌, ℕ, suc, List, ◌∷◌, ◌++◌, take, Some, None, IsOk, IfOk, OnErr};
 ghost use Rattle.art_nodes.specs.Name.{Name};
 ghost use Rattle.art_nodes.specs.InnerNode as node;
-ghost use Rattle.art_arena.specs.arena.Arena.{KeepsNodes, SameCells, SameNodes, HasRoom, KeepsRoom, UsesRoom, links_at};
+ghost use Rattle.art_arena.specs.arena.Arena.{KeepsNodes, SameCells, SameNodes, HasRoom, UsesRoom, links_at};
 ghost use Rattle.art_arena.specs.arena.Arena.{KeepsRoomOf};
 ghost use Rattle.art_arena.specs.arena.Cells.{Cell};
 ghost use Rattle.art_arena.specs.arena.Linked.{AreLinked, IsBeside, KeepsLinksOutside};
@@ -10,8 +10,10 @@ ghost use Rattle.art_arena.specs.arena.Context.{Frame, plug, leaves_before, leav
 ghost use Rattle.art_arena.specs.tree.Kinds.{IsKindOf};
 ghost use Rattle.art_arena.specs.arena.Shapes.{LeafAt, leaf_at, leaves, width};
 ghost use Rattle.art_arena.specs.arena.Steps.{Step, steps_to, steps_of};
+ghost use Rattle.art_operations.specs.Frees.{SwapsLeaves};
+ghost use Rattle.art_operations.specs.Rebuilds.{KeepsLeafRoom};
 ghost use Rattle.art_operations.specs.Points.{IsPoint};
-ghost use Rattle.art_operations.specs.Insertions.{HandsPairBack, IsInsertedBeside};
+ghost use Rattle.art_operations.specs.Insertions.{HandsPairBack, IsInsertedBeside, replaced_by};
 ghost use Rattle.art_operations.specs.declared.insert.point.InsertKind.TheVariants as kind;
 ghost use Rattle.art_operations.specs.inner.Edits.{IsLastOf};
 ghost use Rattle.art_operations.specs.inner.Waiting.{AreNeighbours, AwaitsLeaf, MustGrow};
@@ -75,6 +77,7 @@ fn grow_at<K: AsBytes, V, const PREFIX_LEN: usize>(
     ensures err { OnErr result (SameNodes arena.old arena.new) }
     ensures succeeds { HasRoom arena.old 1 → IsOk result }
     ensures room { UsesRoom 1 arena.old arena.new }
+    ensures leaf_room { KeepsLeafRoom arena.old arena.new }
     ensures kept_room { OnErr result (KeepsRoomOf arena.old arena.new) }
 {
     let node = arena.grow(inner)?;
@@ -107,6 +110,7 @@ fn reserve_child<K: AsBytes, V, const PREFIX_LEN: usize>(
     ensures err { OnErr result (SameNodes arena.old arena.new) }
     ensures succeeds { HasRoom arena.old 1 → IsOk result }
     ensures room { UsesRoom 1 arena.old arena.new }
+    ensures leaf_room { KeepsLeafRoom arena.old arena.new }
     ensures kept_room { OnErr result (KeepsRoomOf arena.old arena.new) }
 {
     if arena.inner(inner).may_write(byte) {
@@ -194,7 +198,7 @@ fn link_in<K, V, const PREFIX_LEN: usize>(
     requires { (xs : List (LeafAt K V)) × (ys : List (LeafAt K V)) × IsBeside (links_at arena.old) (xs ++ ys) leaf
         × AreNeighbours neighbours xs ys }
     ensures nodes { SameCells arena.old arena.new }
-    ensures room { KeepsRoom arena.old arena.new }
+    ensures room_of { KeepsRoomOf arena.old arena.new }
     ensures linked { (xs ys : List (LeafAt K V)) (m : LeafAt K V) → IsBeside (links_at arena.old) (xs ++ ys) leaf
         → AreNeighbours neighbours xs ys → m.slot ≡ leaf
         → AreLinked (links_at arena.new) None (xs ++ m ∷ ys) None }
@@ -218,7 +222,7 @@ fn insert_leaf<K: AsBytes, V, const PREFIX_LEN: usize>(
     requires { (root : Name) × (f : Frame K V) × (outer : List (Frame K V)) × (l : LeafAt K V)
         × (rest : List (Name × Cell K V)) × AwaitsLeaf K.bytes PREFIX_LEN arena.old rest root node byte leaf f outer l
         × IsKindOf node.kind (suc (width f.before + width f.after)) }
-    ensures room { KeepsRoom arena.old arena.new }
+    ensures room_of { KeepsRoomOf arena.old arena.new }
     ensures put { (root : Name) (f : Frame K V) (outer : List (Frame K V)) (l : LeafAt K V)
         (rest : List (Name × Cell K V)) → AwaitsLeaf K.bytes PREFIX_LEN arena.old rest root node byte leaf f outer l
         → IsKindOf node.kind (suc (width f.before + width f.after))
@@ -263,6 +267,7 @@ pub(crate) fn insert_into_existing<K: AsBytes, V, const PREFIX_LEN: usize>(
     ensures handed_back { HandsPairBack key value result }
     ensures succeeds { HasRoom arena.old 2 → IsOk result }
     ensures room { UsesRoom 2 arena.old arena.new }
+    ensures leaf_room { IfOk result (λ inserted. SwapsLeaves 1 (replaced_by inserted) arena.old arena.new) }
     ensures kept_room { OnErr result (KeepsRoomOf arena.old arena.new) }
 {
     let leaf = store_leaf(arena, key, value)?;

@@ -27,7 +27,7 @@ use art_arena::{
     read_full_prefix_with,
 };
 use art_bytes::AsBytes;
-use art_nodes::{KindLeaf, LeafNode, NodePtr, OpaqueNodePtr};
+use art_nodes::{KindLeaf, LeafNode, OpaqueNodePtr};
 use std::alloc::{AllocError, Global};
 use std::marker::Model;
 use thiserror::Error;
@@ -177,16 +177,16 @@ impl InsertPoint {
 
 // Where a descent stopped: the node, the last steps of the way to it, and how many bytes of the key lead there.
 #[derive(Clone, Copy)]
-pub(crate) struct Stop {
-    pub(crate) node: OpaqueNodePtr,
+struct Stop {
+    node: OpaqueNodePtr,
     path: TreePath,
-    pub(crate) depth: usize,
+    depth: usize,
 }
 
 impl Stop {
     // The place of a key that meets this here.
     #[inline(always)]
-    pub(crate) fn point(self, root: OpaqueNodePtr, insert_kind: InsertKind) -> InsertPoint
+    fn point(self, root: OpaqueNodePtr, insert_kind: InsertKind) -> InsertPoint
         ensures { result ≡ point_at root self insert_kind }
     {
         InsertPoint {
@@ -217,13 +217,13 @@ impl Stop {
             SearchEnd::Same => Ok(self.point(
                 root,
                 InsertKind::Exact {
-                    leaf_node_ptr: NodePtr::from_slot(node.slot()),
+                    leaf_node_ptr: node.with_kind(),
                 },
             )),
             SearchEnd::PartsFromLeaf(parted) => Ok(self.point(
                 root,
                 InsertKind::SplitLeaf {
-                    leaf_node_ptr: NodePtr::from_slot(node.slot()),
+                    leaf_node_ptr: node.with_kind(),
                     parted,
                 },
             )),
@@ -247,7 +247,7 @@ impl Stop {
 
 // How the search for the place of a key ends at a node.
 #[derive(Clone, Copy)]
-pub(crate) enum SearchEnd {
+enum SearchEnd {
     // The leaf has the key.
     Same,
     // The leaf's key has another byte.
@@ -258,19 +258,6 @@ pub(crate) enum SearchEnd {
     NoChild(u8),
     // The key can't be put in.
     Conflict,
-}
-
-impl SearchEnd {
-    // Whether the key can't be put in.
-    #[inline(always)]
-    pub(crate) fn is_conflict(self) -> bool
-        ensures { IsTrue result ↔ (self ≡ way.Conflict) }
-    {
-        match self {
-            SearchEnd::Conflict => true,
-            _ => false,
-        }
-    }
 }
 
 // Where the search ends at a leaf, after so many bytes of both keys.
@@ -339,45 +326,7 @@ fn search_end_with<K: AsBytes, V, const PREFIX_LEN: usize>(
     }
 }
 
-// Where the search ends at a node, from which the key goes no further.
-#[inline(always)]
-pub(crate) fn search_end_at<K: AsBytes, V, const PREFIX_LEN: usize>(
-    arena: &NodeArena<K, V, PREFIX_LEN>,
-    node: OpaqueNodePtr,
-    key: &[u8],
-    depth: usize,
-) -> SearchEnd
-    requires stands { (path : List ℕ) × (s : Shape K V) × StoresAt K.bytes PREFIX_LEN arena.now node depth path s
-        × BeginsWith path key.now }
-    requires stops { (path : List ℕ) (s : Shape K V) → StoresAt K.bytes PREFIX_LEN arena.now node depth path s
-        → BeginsWith path key.now → Stops K.bytes key.now path s }
-    ensures { (path : List ℕ) (s : Shape K V) → StoresAt K.bytes PREFIX_LEN arena.now node depth path s
-        → BeginsWith path key.now → IsSearchEnd K.bytes key.now path s node result }
-{
-    let mut reader = ArenaReader::new(arena);
-    search_end_with(&mut reader, node, key, depth)
-}
-
-// Goes down for a key by whole prefixes, as far as it goes.
-#[inline(always)]
-pub(crate) fn find_stop<K: AsBytes, V, const PREFIX_LEN: usize>(
-    arena: &NodeArena<K, V, PREFIX_LEN>,
-    root: OpaqueNodePtr,
-    key: &[u8],
-) -> Stop
-    requires { HasTree K.bytes PREFIX_LEN arena.now root }
-    ensures way { OfTree K.bytes PREFIX_LEN arena.now root
-        (λ s. OnWayTo K.bytes PREFIX_LEN (node_at arena.now) key.now s result.node
-        (steps_of result.path) result.depth) }
-    ensures stops { (path : List ℕ) (s : Shape K V)
-        → StoresAt K.bytes PREFIX_LEN arena.now result.node result.depth path s
-        → BeginsWith path key.now → Stops K.bytes key.now path s }
-{
-    let mut reader = ArenaReader::new(arena);
-    find_stop_with(&mut reader, root, key)
-}
-
-// Where the search for a key stops, by a reader that counts each node that is read.
+// Goes down for a key by whole prefixes, as far as it goes. What is read is counted.
 #[inline(always)]
 fn find_stop_with<K: AsBytes, V, const PREFIX_LEN: usize>(
     reader: &mut ArenaReader<'_, K, V, PREFIX_LEN>,

@@ -4,7 +4,7 @@ ghost use Rattle.std.specs.Prelude.{◌≡◌, ◌≢◌, ◌+◌, ◌<◌, ◌�
 ghost use Rattle.std.specs.Prelude.{IsSome, IsOk, IfOk, OnErr};
 ghost use Rattle.art_nodes.specs.declared.kind.NodeType.TheVariants.{Node4};
 ghost use Rattle.art_nodes.specs.declared.leaf.LeafNode as node;
-ghost use Rattle.art_arena.specs.arena.Arena.{held_at, node_at, links_at, Allocates, SameNodes, HasRoom, KeepsRoom};
+ghost use Rattle.art_arena.specs.arena.Arena.{held_at, node_at, links_at, Allocates, SameNodes, HasRoom};
 ghost use Rattle.art_arena.specs.arena.Arena.{KeepsRoomOf};
 ghost use Rattle.art_arena.specs.arena.Arena.{KeepsNodes, SameCells, UsesRoom};
 ghost use Rattle.art_arena.specs.arena.Cells.{Cell, UpdatesAt, leaf_name};
@@ -15,7 +15,9 @@ ghost use Rattle.art_arena.specs.arena.Steps.{steps_of};
 ghost use Rattle.art_operations.specs.inner.Edits.{lone_leaf, AllocatesBoth};
 ghost use Rattle.art_operations.specs.inner.Splits.{PartsFrom, trimmed, root_cell, with_prefix, IsEnd, IsBetween};
 ghost use Rattle.art_operations.specs.inner.Splits.{split_held, split_node};
-ghost use Rattle.art_operations.specs.Insertions.{HandsPairBack, IsInsertedBeside};
+ghost use Rattle.art_operations.specs.Frees.{SwapsLeaves};
+ghost use Rattle.art_operations.specs.Insertions.{HandsPairBack, IsInsertedBeside, replaced_by};
+ghost use Rattle.art_operations.specs.Rebuilds.{KeepsLeafRoom};
 ghost use Rattle.art_operations.specs.Points.{IsPoint};
 ghost use Rattle.art_arena.specs.arena.Stores.{StoresAt, StoresBelow};
 ghost use Rattle.art_operations.specs.Held.{HasLeaf, SameLinks};
@@ -80,6 +82,7 @@ fn store_split<K: AsBytes, V, const PREFIX_LEN: usize>(
     ensures err { OnErr result (SameNodes arena.old arena.new) }
     ensures succeeds { HasRoom arena.old 1 → IsOk result }
     ensures room { UsesRoom 1 arena.old arena.new }
+    ensures leaf_room { KeepsLeafRoom arena.old arena.new }
     ensures kept_room { OnErr result (KeepsRoomOf arena.old arena.new) }
 {
     let key = arena.as_key_ref(leaf).as_bytes();
@@ -115,6 +118,7 @@ fn store_nodes<K: AsBytes, V, const PREFIX_LEN: usize>(
     ensures handed_back { HandsPairBack key value result }
     ensures succeeds { HasRoom arena.old 2 → IsOk result }
     ensures room { UsesRoom 2 arena.old arena.new }
+    ensures leaf_room { IfOk result (λ made. SwapsLeaves 1 0 arena.old arena.new) }
     ensures kept_room { OnErr result (KeepsRoomOf arena.old arena.new) }
 {
     let leaf = store_leaf(arena, key, value)?;
@@ -153,7 +157,7 @@ pub(crate) fn link_between<K, V, const PREFIX_LEN: usize>(
     requires { (xs : List (LeafAt K V)) × (ys : List (LeafAt K V)) × IsBeside (links_at arena.old) (xs ++ ys) leaf
         × IsBetween is_before neighbour xs ys }
     ensures nodes { SameCells arena.old arena.new }
-    ensures room { KeepsRoom arena.old arena.new }
+    ensures room_of { KeepsRoomOf arena.old arena.new }
     ensures linked { (xs ys : List (LeafAt K V)) (m : LeafAt K V) → IsBeside (links_at arena.old) (xs ++ ys) leaf
         → IsBetween is_before neighbour xs ys → m.slot ≡ leaf
         → AreLinked (links_at arena.new) None (xs ++ m ∷ ys) None }
@@ -204,7 +208,7 @@ fn trim<K, V, const PREFIX_LEN: usize>(
     ensures cell { (c : Cell K V) → node_at arena.old node ≡ Some c
         → UpdatesAt (node_at arena.old) (node_at arena.new) node (Some (with_prefix header.entry c)) }
     ensures links { SameLinks arena.old arena.new }
-    ensures room { KeepsRoom arena.old arena.new }
+    ensures room_of { KeepsRoomOf arena.old arena.new }
 {
     if let Some(header) = header {
         arena.edit_inner(node, &NodeEdit::CopyPrefix { header: &header });
@@ -234,6 +238,7 @@ pub(crate) fn split<K: AsBytes, V, const PREFIX_LEN: usize>(
     ensures handed_back { HandsPairBack key value result }
     ensures succeeds { HasRoom arena.old 2 → IsOk result }
     ensures room { UsesRoom 2 arena.old arena.new }
+    ensures leaf_room { IfOk result (λ inserted. SwapsLeaves 1 (replaced_by inserted) arena.old arena.new) }
     ensures kept_room { OnErr result (KeepsRoomOf arena.old arena.new) }
 {
     if !arena.fits_in_memory() {

@@ -1,15 +1,16 @@
 //! The change of a tree that inserts a new key in place of those with which it is in conflict.
-ghost use Rattle.std.specs.Prelude.{ℕ, List, IfOk, OnErr, IsOk};
+ghost use Rattle.std.specs.Prelude.{ℕ, List, IfOk, OnErr, IsOk, is_some, if◌then◌else◌};
 ghost use Rattle.art_nodes.specs.Name.{Name};
-ghost use Rattle.art_arena.specs.arena.Arena.{node_at, HasRoom, KeepsNodes, KeepsRoom, SameNodes, UsesRoom};
+ghost use Rattle.art_arena.specs.arena.Arena.{node_at, HasRoom, KeepsNodes, SameNodes, UsesRoom};
 ghost use Rattle.art_arena.specs.arena.Arena.{KeepsRoomOf};
 ghost use Rattle.art_arena.specs.arena.Cells.{Cell, Holds};
 ghost use Rattle.art_arena.specs.arena.Shapes.{Shape, IsUnder, cells, leaves, pairs_of};
 ghost use Rattle.art_arena.specs.arena.Steps.{steps_of};
-ghost use Rattle.art_operations.specs.Frees.{HoldsBeside, KeepsAllBut};
+ghost use Rattle.art_operations.specs.Frees.{FreesLeaves, HoldsBeside, KeepsAllBut, SwapsLeaves};
+ghost use Rattle.art_operations.specs.LeafCursors.{KeepsInnerRoom};
 ghost use Rattle.art_operations.specs.LeafNames.{KeepsLeavesOf};
 ghost use Rattle.art_operations.specs.Overwrites.{AreRemoved, IsExact, IsOverwrittenBeside, IsPrefixPoint};
-ghost use Rattle.art_operations.specs.Overwrites.{root_at, steps_at};
+ghost use Rattle.art_operations.specs.Overwrites.{removed_by, root_at, steps_at};
 ghost use Rattle.art_operations.specs.Pairs.{with_pair_over};
 ghost use Rattle.art_operations.specs.Points.{IsInTheWay};
 ghost use Rattle.art_operations.specs.Whichever.{HasTreeWhere, OfTreeWhere};
@@ -46,7 +47,8 @@ fn remove_part<K: AsBytes + Drop, V: Drop, const PREFIX_LEN: usize>(
         → HoldsBeside PREFIX_LEN arena.old part s rest → AreRemoved (pairs_of (leaves s)) result.leaf result.count }
     ensures kept { (path : List ℕ) (s : Shape K V) (rest : List (Name × Cell K V)) → IsUnder K.bytes path s
         → HoldsBeside PREFIX_LEN arena.old part s rest → KeepsAllBut (cells PREFIX_LEN s) arena.old arena.new }
-    ensures room { KeepsRoom arena.old arena.new }
+    ensures room_of { KeepsRoomOf arena.old arena.new }
+    ensures leaf_room { FreesLeaves (if is_some result.leaf then 1 else result.count) arena.old arena.new }
 {
     match part.cast::<KindLeaf>() {
         Some(leaf) => {
@@ -89,6 +91,8 @@ impl OverwritePoint {
         ensures handed_back { HandsPairBack key value result }
         ensures succeeds { HasRoom arena.old 1 → IsOk result }
         ensures room { UsesRoom 1 arena.old arena.new }
+        ensures leaf_room { IfOk result (λ put. SwapsLeaves 1 (removed_by put) arena.old arena.new) }
+        ensures inner_room { KeepsInnerRoom arena.old arena.new }
         ensures kept_room { OnErr result (KeepsRoomOf arena.old arena.new) }
     {
         let part = self.overwrite_point;
@@ -140,6 +144,7 @@ impl PrefixInsertPoint {
         ensures exact { IsExact self → IsOk result }
         ensures succeeds { HasRoom arena.old 2 → IsOk result }
         ensures room { UsesRoom 2 arena.old arena.new }
+        ensures leaf_room { IfOk result (λ put. SwapsLeaves 1 (removed_by put) arena.old arena.new) }
         ensures kept_room { OnErr result (KeepsRoomOf arena.old arena.new) }
         ensures exact_room { IsExact self → KeepsRoomOf arena.old arena.new }
     {

@@ -5,7 +5,7 @@ use Rattle.art_operations.proofs.deallocate.free_nodes.Goals as goal
 pub free-init : goal.free-init
 free-init g c = record {
   left = λ s rest part. left-start g.row.PREFIX_LEN c.args.with_leaves c.args.arena.now c.args.root s rest part;
-  room = λ n room. room;
+  room_of = λ kind n room. room;
   capacity = refl;
 }
 
@@ -26,7 +26,7 @@ free-preserved g c = record {
   left = λ s rest part. let left = c.free.invariant.left s rest part in
       (left-step g.row.PREFIX_LEN c.args.with_leaves c.args.arena.now c.free.arena c.free_one.new.arena s c.free.current c.in-Some.left.root _ _ rest left
       c.saturating_add-count.ensures (c.in-Some.ensures.freed left.part rest left.holds) (c.free_one.ensures.kept left.part rest left.holds)).0;
-  room = λ n room. c.free_one.ensures.room n (c.free.invariant.room n room);
+  room_of = λ kind n room. c.free_one.ensures.room_of kind n (c.free.invariant.room_of kind n room);
   capacity = c.free_one.ensures.capacity ∙ c.free.invariant.capacity;
 }
 
@@ -35,8 +35,8 @@ returns-in-None-clause-kept g c = λ s rest part.
     let left = c.free.invariant.left s rest part in
     left-end g.row.PREFIX_LEN c.args.with_leaves c.args.arena.now c.free.arena c.free_one.new.arena s c.free.current _ rest left (c.free_one.ensures.kept left.part rest left.holds)
 
-pub returns-in-None-clause-room : goal.returns-in-None-clause-room
-returns-in-None-clause-room g c = λ n room. c.free_one.ensures.room n (c.free.invariant.room n room)
+pub returns-in-None-clause-room_of : goal.returns-in-None-clause-room_of
+returns-in-None-clause-room_of g c = λ kind n room. c.free_one.ensures.room_of kind n (c.free.invariant.room_of kind n room)
 
 pub returns-in-None-clause-capacity : goal.returns-in-None-clause-capacity
 returns-in-None-clause-capacity g c = c.free_one.ensures.capacity ∙ c.free.invariant.capacity

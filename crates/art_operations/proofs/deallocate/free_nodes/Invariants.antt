@@ -1,6 +1,6 @@
 use Rattle.std.proofs.Common.{◌≡◌, List}
 use Rattle.art_nodes.proofs.Common.{Name}
-use Rattle.art_arena.proofs.Common.{KeepsRoom, leaf_capacity, Cell, Shape}
+use Rattle.art_arena.proofs.Common.{KeepsRoomOf, leaf_capacity, Cell, Shape}
 use Rattle.art_operations.proofs.Terms.{HoldsPart}
 use Rattle.art_operations.proofs.FreedSizes.{size_of}
 use Rattle.art_operations.proofs.FreedAll.{IsLeft}
@@ -10,7 +10,7 @@ abbrev pub invariant-free : goal.invariant-free
 invariant-free g l = record {
   left : (s : Shape g.row.K.Denot g.row.V.Denot) (rest : List (Name × Cell g.row.K.Denot g.row.V.Denot)) → HoldsPart g.row.PREFIX_LEN l.with_leaves l.fn.arena l.fn.root s rest
       → IsLeft g.row.PREFIX_LEN l.with_leaves l.fn.arena l.arena s l.current l.count rest;
-  room : KeepsRoom l.fn.arena l.arena;
+  room_of : KeepsRoomOf l.fn.arena l.arena;
   capacity : leaf_capacity l.arena ≡ leaf_capacity l.fn.arena;
 }
 

@@ -69,8 +69,8 @@ returns-else-count-eq1-clause-kept g c = λ s rest part.
     (c.hang-left.ensures.kept _ _ rest (taken-out g.row.PREFIX_LEN c.args.with_leaves c.args.arena.now c.args.root s rest part c.edit_inner.new.self inner
     c.in-Some.child found up c.edit_inner.ensures.updates))
 
-pub returns-else-count-eq1-clause-room : goal.returns-else-count-eq1-clause-room
-returns-else-count-eq1-clause-room g c = λ n room. c.hang-left.ensures.room n (c.edit_inner.ensures.room n room)
+pub returns-else-count-eq1-clause-room_of : goal.returns-else-count-eq1-clause-room_of
+returns-else-count-eq1-clause-room_of g c = λ kind n room. c.hang-left.ensures.room_of kind n (c.edit_inner.ensures.room_of kind n room)
 
 pub returns-else-count-eq1-clause-capacity : goal.returns-else-count-eq1-clause-capacity
 returns-else-count-eq1-clause-capacity g c = c.hang-left.ensures.capacity ∙ c.edit_inner.ensures.capacity

@@ -6,7 +6,8 @@ use Rattle.art_operations.proofs.deallocate.free_run.Goals as goal
 pub run-init : goal.run-init
 run-init g c = record {
   left = λ ls rest run. record { left = ls; run = run; names = λ n. omega arith; kept = λ n none. refl };
-  room = λ n room. room;
+  room_of = λ kind n room. room;
+  capacity = refl;
 }
 
 pub deallocate_node_ptr-leaf-requires : goal.deallocate_node_ptr-leaf-requires
@@ -27,8 +28,11 @@ returns-then-eq-clause-kept g c = λ ls rest run.
     let left = c.run.invariant.left ls rest run in
     run-end c.run.arena c.deallocate_node_ptr-leaf.new.self c.run.current c.args.last left.left rest left.run c.deallocate_node_ptr-leaf.result (c.deallocate_node_ptr-leaf.ensures.value) c.deallocate_node_ptr-leaf.ensures.updates ls c.args.arena.now left.names left.kept
 
-pub returns-then-eq-clause-room : goal.returns-then-eq-clause-room
-returns-then-eq-clause-room g c = λ n room. c.deallocate_node_ptr-leaf.ensures.room n (c.run.invariant.room n room)
+pub returns-then-eq-clause-room_of : goal.returns-then-eq-clause-room_of
+returns-then-eq-clause-room_of g c = λ kind n room. c.deallocate_node_ptr-leaf.ensures.room_of kind n (c.run.invariant.room_of kind n room)
+
+pub returns-then-eq-clause-capacity : goal.returns-then-eq-clause-capacity
+returns-then-eq-clause-capacity g c = c.deallocate_node_ptr-leaf.ensures.capacity ∙ c.run.invariant.capacity
 
 pub unreachable-requires : goal.unreachable-requires
 unreachable-requires g c =
@@ -52,5 +56,6 @@ run-preserved g c = record {
       (c.deallocate_node_ptr-leaf.ensures.value) c.deallocate_node_ptr-leaf.ensures.updates ls c.args.arena.now
       (λ e. let h = sym c.if-eq.false ∙ c.eq.ensures ∙ (is_true-eq c.run.current c.args.last).1 e in absurd (cc)) left.names left.kept c.in-Some.next
       (sym c.next.ensures ∙ c.in-Some.is);
-  room = λ n room. c.deallocate_node_ptr-leaf.ensures.room n (c.run.invariant.room n room);
+  room_of = λ kind n room. c.deallocate_node_ptr-leaf.ensures.room_of kind n (c.run.invariant.room_of kind n room);
+  capacity = c.deallocate_node_ptr-leaf.ensures.capacity ∙ c.run.invariant.capacity;
 }

@@ -1,6 +1,7 @@
 use Rattle.std.proofs.Common.{ap, ◌∙◌, lit<, arith}
 use Rattle.art_arena.proofs.Common.{copies}
 use Rattle.art_operations.proofs.FreedAll.{all-part, leaves-gone, with_all}
+use Rattle.art_operations.proofs.NewNodes.{all_room}
 use Rattle.art_operations.proofs.deallocate.free_tree.Goals as goal
 
 pub free_nodes-nodes-requires : goal.free_nodes-nodes-requires
@@ -30,6 +31,9 @@ returns-clause-kept g c = λ s rest beside.
 
 pub returns-clause-nodes : goal.returns-clause-nodes
 returns-clause-nodes g c = λ s rest beside. c.free_nodes-nodes.ensures.value s rest (all-part g.row.PREFIX_LEN c.args.arena.now c.args.root s rest beside)
+
+pub returns-clause-room : goal.returns-clause-room
+returns-clause-room g c = all_room c.args.arena.now c.free_nodes-nodes.new.arena c.free_nodes-nodes.ensures.room_of
 
 pub returns-clause-leaf_room : goal.returns-clause-leaf_room
 returns-clause-leaf_room g c = λ n room.

@@ -67,8 +67,8 @@ returns-in-Some-clause-kept g c = λ s t rest both.
     c.find_bottom-bottom.result (c.find_bottom-bottom.ensures c.args.with_leaves) c.free_node.ensures.freed place c.in-Some.is) in
     kept-below g.row.PREFIX_LEN c.args.with_leaves c.args.arena.now c.free_node.new.arena s t c.args.node c.args.below rest both c.find_bottom-bottom.result (c.find_bottom-bottom.ensures c.args.with_leaves) c.free_node.ensures.freed place c.in-Some.is c.edit_inner.new.self written
 
-pub returns-in-Some-clause-room : goal.returns-in-Some-clause-room
-returns-in-Some-clause-room g c = λ n room. c.edit_inner.ensures.room n (c.free_node.ensures.room n room)
+pub returns-in-Some-clause-room_of : goal.returns-in-Some-clause-room_of
+returns-in-Some-clause-room_of g c = λ kind n room. c.edit_inner.ensures.room_of kind n (c.free_node.ensures.room_of kind n room)
 
 pub returns-in-Some-clause-capacity : goal.returns-in-Some-clause-capacity
 returns-in-Some-clause-capacity g c = c.edit_inner.ensures.capacity ∙ c.free_node.ensures.capacity

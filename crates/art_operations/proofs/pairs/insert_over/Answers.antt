@@ -34,6 +34,9 @@ returns-in_ok-insert_first-in-None-clause-ok g c = λ pairs rest can.
     let put = c.in_ok-insert_first-in-None.ensures.ok rest none.1 in
     rw none.0 (record { has = put.has; removed = none-removed _ put.old; leaf = put.leaf })
 
+pub returns-in_ok-insert_first-in-None-clause-leaf_room : goal.returns-in_ok-insert_first-in-None-clause-leaf_room
+returns-in_ok-insert_first-in-None-clause-leaf_room g c = λ n room. c.in_ok-insert_first-in-None.ensures.leaf_room n room
+
 pub returns-in-Some-clause-names : goal.returns-in-Some-clause-names
 returns-in-Some-clause-names g c = map_ok c.apply.result _ _ c.apply.ensures.names (λ put keeps. λ pairs rest can.
     let has = rw c.in-Some.is at can in

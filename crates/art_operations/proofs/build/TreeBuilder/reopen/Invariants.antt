@@ -1,6 +1,6 @@
 use Rattle.std.proofs.Common.{◌≡◌, ℕ, ◌-◌, ◌≤◌, []}
 use Rattle.art_nodes.specs.declared.kind.NodeType.TheVariants.{Leaf}
-use Rattle.art_arena.proofs.Common.{HasRoom, SameLeaves, Shape, LeafAt, StoresOnly, leaves}
+use Rattle.art_arena.proofs.Common.{HasRoom, KeepsRoomOf, SameLeaves, Shape, LeafAt, StoresOnly, leaves}
 use Rattle.art_operations.proofs.Terms.{HasInnerRoom, HasRoomAround, HasSpineRoom, begin_of}
 use Rattle.art_operations.specs.inner.Reopening.{HasRoomToOpen, OpensTo}
 use Rattle.art_operations.proofs.build.TreeBuilder.reopen.Given as goal
@@ -15,6 +15,7 @@ invariant-open g l = record {
   to_open : (n : ℕ) → n ≤ l.fn.room → HasInnerRoom l.fn.arena l.fn.room → HasRoomToOpen l.arena l.spine n;
   around : (n : ℕ) → HasRoom l.fn.arena n → HasRoomAround l.arena l.spine n;
   leaf_alone : l.fn.root.kind ≡ Leaf → l.part.kind ≡ Leaf;
+  room_of : KeepsRoomOf l.fn.arena l.arena;
 }
 
 abbrev pub decreases-open : goal.decreases-open

@@ -1,7 +1,9 @@
-use Rattle.std.proofs.Common.{◌+◌, ◌∙◌, arith}
+use Rattle.std.proofs.Common.{◌+◌, ◌∙◌, sym, arith}
+use Rattle.art_nodes.specs.declared.kind.NodeType.TheVariants.{Leaf}
 use Rattle.art_arena.proofs.Common.{width}
 use Rattle.art_operations.proofs.Growth.{next-kind, both-held, still-held, same_links, renamed}
 use Rattle.art_operations.proofs.Waiting.{open_node, node-held, node-inner, as_many}
+use Rattle.art_operations.proofs.NewNodes.{all_room, larger-inner}
 use Rattle.art_operations.proofs.insert.into_existing.grow_at.Goals as goal
 
 pub grow-requires : goal.grow-requires
@@ -44,4 +46,12 @@ returns-clause-links g c =
     (c.edit_inner.ensures.updates _ (still-held _ _ _ _ _ _ _ _ _ _ r.7 c.grow.new.self _ copies c.put_below-root.new.arena moved))
 
 pub returns-clause-room : goal.returns-clause-room
-returns-clause-room g c = λ n room. c.edit_inner.ensures.room n (c.put_below-root.ensures.room n (c.grow.ensures.room n room))
+returns-clause-room g c = λ n room. c.edit_inner.ensures.room n (all_room _ _ c.put_below-root.ensures.room_of n (c.grow.ensures.room n room))
+
+pub returns-clause-leaf_room : goal.returns-clause-leaf_room
+returns-clause-leaf_room g c = λ n room.
+    c.edit_inner.ensures.room_of Leaf n
+    (c.put_below-root.ensures.room_of Leaf n (c.in_ok-node.ensures.room_of.others Leaf (λ e. larger-inner c.args.inner.kind c.in_ok-node.node.kind c.in_ok-node.ensures.kind (sym e)) n room))
+
+pub returns-in_err-node-clause-leaf_room : goal.returns-in_err-node-clause-leaf_room
+returns-in_err-node-clause-leaf_room g c = λ n room. c.in_err-node.ensures.kept_room Leaf n room

@@ -1,10 +1,11 @@
 use Rattle.std.proofs.Common.{◌+◌, refl, sym, ◌∙◌, subst, arith}
 use Rattle.std.specs.Option.{IsSome}
+use Rattle.art_nodes.specs.declared.kind.NodeType.TheVariants.{Leaf}
 use Rattle.art_arena.proofs.Common.{HasRoom, leaf_name, links-update}
 use Rattle.art_operations.proofs.Inserted.{put_keeps}
 use Rattle.art_operations.proofs.Waiting.{node-inner}
 use Rattle.art_operations.proofs.IntoExisting.{starts, inserted}
-use Rattle.art_operations.proofs.NewNodes.{undone, undone_room}
+use Rattle.art_operations.proofs.NewNodes.{all_room, undone, undone_room}
 use Rattle.art_operations.proofs.insert.into_existing.insert_into_existing.Goals as goal
 
 pub reserve_child-requires : goal.reserve_child-requires
@@ -50,7 +51,12 @@ returns-clause-ok g c = λ s rest tree at.
     c.inner_node_ptr.result made.0 made.1 st.path st.was c.inner_node_ptr.ensures (c.insert_leaf.ensures.put _ _ _ _ _ made.0 made.1)
 
 pub returns-clause-room : goal.returns-clause-room
-returns-clause-room g c = λ n room. c.insert_leaf.ensures.room n (c.reserve_child.ensures.room n (c.in_ok-leaf.ensures.room (n + 1) (subst (HasRoom c.args.arena.now) (omega arith) room)))
+returns-clause-room g c = λ n room. all_room _ _ c.insert_leaf.ensures.room_of n (c.reserve_child.ensures.room n (c.in_ok-leaf.ensures.room (n + 1) (subst (HasRoom c.args.arena.now) (omega arith) room)))
+
+pub returns-clause-leaf_room : goal.returns-clause-leaf_room
+returns-clause-leaf_room g c = λ n room.
+    let still = c.insert_leaf.ensures.room_of Leaf n (c.reserve_child.ensures.leaf_room n (c.in_ok-leaf.ensures.room_of.own n room)) in
+    omega (arith, still)
 
 pub returns-clause-others : goal.returns-clause-others
 returns-clause-others g c = λ s rest tree at.

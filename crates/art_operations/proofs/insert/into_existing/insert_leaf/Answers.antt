@@ -24,8 +24,8 @@ edit_inner-requires g c =
     let few : length (open_node g.row.PREFIX_LEN r.1).children < (row_of c.args.node.kind).most = omega (arith, most, as_many _ _ _ _ _ _ _ _ _ _ r.5) in
     (omega arith, (omega arith, ((open_node g.row.PREFIX_LEN r.1, there, inl few), node-inner _ _ _ _ _ _ _ _ _ _ r.5)))
 
-pub returns-clause-room : goal.returns-clause-room
-returns-clause-room g c = λ n room. c.edit_inner.ensures.room n (c.link_in.ensures.room n room)
+pub returns-clause-room_of : goal.returns-clause-room_of
+returns-clause-room_of g c = λ kind n room. c.edit_inner.ensures.room_of kind n (c.link_in.ensures.room_of kind n room)
 
 pub returns-clause-put : goal.returns-clause-put
 returns-clause-put g c = λ root f outer l rest awaits kind.

@@ -2,9 +2,8 @@ use Rattle.std.proofs.Common.{arith, ap, sym, subst, ◌∙◌}
 use Rattle.art_arena.proofs.Common.{node_at, path_to, steps_of, StoresAt, part_within}
 use Rattle.art_operations.proofs.Terms.{met_by}
 use Rattle.art_operations.proofs.Points.{way_at_depth}
-use Rattle.art_operations.proofs.Stops.{answered, EndsThere, inside, refused}
+use Rattle.art_operations.proofs.Stops.{answered, conflicts, EndsThere, inside, refused}
 use Rattle.art_arena.proofs.Terms.{prefix_reads}
-use Rattle.art_operations.proofs.StopPairs.{conflicts}
 use Rattle.art_operations.proofs.WayParts.{way-at, way-stop}
 use Rattle.art_operations.proofs.insert.point.find_insert_point_with.Goals as goal
 use Rattle.art_operations.proofs.insert.point.find_insert_point_with.Goals.{After-search_end_with-way}

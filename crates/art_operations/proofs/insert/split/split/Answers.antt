@@ -1,10 +1,12 @@
 use Rattle.std.proofs.Common.{rules, ◌≡◌, ◌+◌, ◌<◌, ◌^◌, ◌∷◌, ◌++◌, ◌∙◌, List, ltb, Some, refl, subst, arith}
 use Rattle.art_arena.proofs.Common.{node_at, links_at, Cell, UpdatesAt, path_to, leaves_before, leaves_after, IsBeside, IsTreeBeside, Shape, steps_of, links-update, links-kept}
 use Rattle.art_nodes.proofs.Common.{Name}
+use Rattle.art_nodes.specs.declared.kind.NodeType.TheVariants.{Leaf}
 use Rattle.art_operations.proofs.Terms.{StandsAround, trimmed, root_cell, with_prefix, IsBetween, IsPoint}
 use Rattle.art_operations.proofs.Splits.{SplitPlace, split_place}
 use Rattle.art_operations.proofs.SplitTrees.{part_subtree, part_at_depth, part_cell, part_held, split_frame, split_leaves, end_between, split_cells, split_beside, split_stands, split, split_name, not_leaf}
 use Rattle.art_operations.proofs.Inserted.{put_keeps}
+use Rattle.art_operations.proofs.NewNodes.{all_room}
 use Rattle.art_operations.proofs.insert.split.split.Goals as goal
 use Rattle.art_operations.proofs.insert.split.split.Goals.{In_ok-made, After-trim, After-link_between}
 
@@ -134,4 +136,11 @@ returns-clause-others g c = λ s rest tree point.
     (c.link_between.ensures.others _ _ (record { slot = c.in_ok-made.made.leaf; key = c.args.key; value = c.args.value }) goes.0 goes.1 refl) c.repoint-new_root.ensures.links
 
 pub returns-clause-room : goal.returns-clause-room
-returns-clause-room g c = λ n room. c.repoint-new_root.ensures.room n (c.link_between.ensures.room n (c.trim.ensures.room n (c.in_ok-made.ensures.room n room)))
+returns-clause-room g c = λ n room.
+    all_room c.link_between.new.arena c.repoint-new_root.new.arena c.repoint-new_root.ensures.room_of n
+    (all_room c.trim.new.arena c.link_between.new.arena c.link_between.ensures.room_of n
+    (all_room c.store_nodes.new.arena c.trim.new.arena c.trim.ensures.room_of n (c.in_ok-made.ensures.room n room)))
+
+pub returns-clause-leaf_room : goal.returns-clause-leaf_room
+returns-clause-leaf_room g c = λ n room.
+    c.repoint-new_root.ensures.room_of Leaf _ (c.link_between.ensures.room_of Leaf _ (c.trim.ensures.room_of Leaf _ (c.in_ok-made.ensures.leaf_room n room)))

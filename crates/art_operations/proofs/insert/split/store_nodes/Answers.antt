@@ -15,6 +15,9 @@ returns-in-Ok-clause-ok g c = record { between = c.store_leaf.new.arena; first =
 pub returns-in-Ok-clause-room : goal.returns-in-Ok-clause-room
 returns-in-Ok-clause-room g c = λ n room. c.in-Ok.ensures.room n (c.in_ok-leaf.ensures.room (n + 1) (fewer c.args.arena.now (n + 1 + 1) _ (omega arith) room))
 
+pub returns-in-Ok-clause-leaf_room : goal.returns-in-Ok-clause-leaf_room
+returns-in-Ok-clause-leaf_room g c = λ n room. let made = c.in-Ok.ensures.leaf_room n (c.in_ok-leaf.ensures.room_of.own n room) in omega (arith, made)
+
 pub returns-in-Err-clause-err : goal.returns-in-Err-clause-err
 returns-in-Err-clause-err g c = undone c.args.arena.now c.store_leaf.new.arena c.store_split.new.arena c.take_back.new.arena _ _ c.in_ok-leaf.ensures.ok c.in-Err.ensures.err c.take_back.ensures.updates
 

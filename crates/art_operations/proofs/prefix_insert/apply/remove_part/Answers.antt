@@ -15,6 +15,9 @@ returns-in-Some-clause-freed g c = λ path s rest under holds.
     (leaf_named c.args.part c.in-Some.leaf (c.in-Some.ensures.variant.0 refl) c.in-Some.ensures.slot)
     c.deallocate_node_ptr-removed.ensures.updates
 
+pub returns-in-Some-clause-leaf_room : goal.returns-in-Some-clause-leaf_room
+returns-in-Some-clause-leaf_room g c = λ n room. let freed = c.deallocate_node_ptr-removed.ensures.frees n room in omega (arith, freed)
+
 pub returns-in-None-clause-removed : goal.returns-in-None-clause-removed
 returns-in-None-clause-removed g c = λ path s rest under holds.
     let count = c.deallocate_tree.ensures.value s rest holds in

@@ -1,7 +1,9 @@
 use Rattle.std.proofs.Common.{◌≡◌, List, ◌∷◌, ◌++◌, refl, subst, arith}
 use Rattle.art_nodes.proofs.Common.{Name}
+use Rattle.art_nodes.specs.declared.kind.NodeType.TheVariants.{Leaf}
 use Rattle.art_arena.proofs.Common.{node_at, links_at, Cell, pair, leaf_name, Holds, IsTreeBeside, steps_of, path_to, root_of, leaves_before, leaves_after, cells_before, cells_after, Shape, cells, leaves, kept-run}
 use Rattle.art_operations.proofs.Terms.{IsInTheWay}
+use Rattle.art_operations.proofs.NewNodes.{all_room}
 use Rattle.art_operations.proofs.Overwrites.{part_stands, stands_beside, part_left, part_apart, overwritten, others_stay}
 use Rattle.art_operations.proofs.prefix_insert.point.OverwritePoint.apply.Goals as goal
 use Rattle.art_operations.proofs.prefix_insert.point.OverwritePoint.apply.Goals.{After-repoint-new_root}
@@ -109,4 +111,13 @@ returns-clause-others g c = λ s rest tree way.
 
 pub returns-clause-room : goal.returns-clause-room
 returns-clause-room g c = λ n room.
-    c.remove_part-removed.ensures.room n (c.repoint-new_root.ensures.room n (c.replace_run.ensures.room n (c.store_leaf.ensures.room n room)))
+    all_room c.repoint-new_root.new.arena c.remove_part-removed.new.arena c.remove_part-removed.ensures.room_of n
+    (all_room c.replace_run.new.arena c.repoint-new_root.new.arena c.repoint-new_root.ensures.room_of n (c.replace_run.ensures.room n (c.store_leaf.ensures.room n room)))
+
+pub returns-clause-leaf_room : goal.returns-clause-leaf_room
+returns-clause-leaf_room g c = λ n room.
+    c.remove_part-removed.ensures.leaf_room n (c.repoint-new_root.ensures.room_of Leaf n (c.replace_run.ensures.room_of Leaf n (c.in_ok-leaf.ensures.room_of.own n room)))
+
+pub returns-clause-inner_room : goal.returns-clause-inner_room
+returns-clause-inner_room g c = λ kind other n room.
+    c.remove_part-removed.ensures.room_of kind n (c.repoint-new_root.ensures.room_of kind n (c.replace_run.ensures.room_of kind n (c.in_ok-leaf.ensures.room_of.others kind other n room)))

@@ -16,6 +16,9 @@ returns-in_ok-apply-in-InsertPoint-clause-ok g c =
 pub returns-in-OverwritePoint-clause-room : goal.returns-in-OverwritePoint-clause-room
 returns-in-OverwritePoint-clause-room g c = λ n room. c.apply-in-OverwritePoint.ensures.room n (fewer c.args.arena.now (n + 1) (n + 2) (omega arith) room)
 
+pub returns-in_ok-apply-in-InsertPoint-clause-leaf_room : goal.returns-in_ok-apply-in-InsertPoint-clause-leaf_room
+returns-in_ok-apply-in-InsertPoint-clause-leaf_room g c = λ n room. c.in_ok-apply-in-InsertPoint.ensures.leaf_room n room
+
 pub returns-in_ok-apply-in-InsertPoint-clause-names : goal.returns-in_ok-apply-in-InsertPoint-clause-names
 returns-in_ok-apply-in-InsertPoint-clause-names g c =
     let put = c.in_ok-apply-in-InsertPoint in
