@@ -1,5 +1,5 @@
 -- The words of this crate that its proofs and those above name, from one place.
-pub use Rattle.art_map.specs.Asked.{AnswersAt, AreMet, Asking, CallableFromEnds, CanExtractIf, ComesOf, Extracts, StopsAt, asking, extract_map, from_end, with_pairs_put}
+pub use Rattle.art_map.specs.Asked.{AnswersAt, AreMet, Asking, CallableFromEnds, CanExtractIf, ComesOf, Extracts, StopsAt, asking, extract_map, from_end, taken_by, with_pairs_put}
 pub use Rattle.art_map.specs.Audit.{audit_of}
 pub use Rattle.art_map.specs.Builders.{GathersWith, HasGathered, HasGatheredInOrder, HasRoomLeft, KeepsRoomLeft, nodes_of}
 pub use Rattle.art_map.specs.Bulk.{ExtendsWith, HandsNextBack, IsFirstOfList, IsMadeOf}

@@ -1,6 +1,6 @@
 -- A closure that is asked of a map's pairs, one after another, whether they leave the map.
 use Rattle.std.specs.Prelude.{◌≡◌, ◌⊎◌, ⊤, ℕ, Bool, false, cond, List, [], ◌∷◌, ◌++◌, reverse, Option, Some, None}
-use Rattle.std.specs.Prelude.{Result, Ok, Err, length, option_to_list}
+use Rattle.std.specs.Prelude.{Result, Ok, Err}
 use Rattle.std.specs.List.{FoldsTo}
 use Rattle.std.specs.List.Retain.{ExtractsNext}
 use Rattle.std.specs.Borrow.{Bor, MutBor}
@@ -12,6 +12,7 @@ use Rattle.art_arena.specs.declared.ends.End.{End}
 use Rattle.art_arena.specs.declared.ends.End.TheVariants.{First, Last}
 use Rattle.art_arena.specs.tree.Shrinks.{Shrinks}
 use Rattle.art_bytes.specs.declared.as_bytes.AsBytes as as_bytes
+use Rattle.art_operations.specs.Frees.{FreesLeaves}
 use Rattle.art_operations.specs.KeyedLists.{without_key}
 use Rattle.art_operations.specs.Pairs.{IsAtEnd, with_pair_put}
 use Rattle.art_map.specs.Contents.{Contents}
@@ -33,6 +34,18 @@ AreMet {X} xs (y ∷ ys) = (end : End) × (rest : List X) × IsAtEnd end y rest 
 abbrev pub with_pairs_put : {K V : Type 0} → (K → List ℕ) → List (K × V) → List (K × V) → List (K × V)
 with_pairs_put bytes [] pairs = pairs
 with_pairs_put bytes (p ∷ ps) pairs = with_pairs_put bytes ps (with_pair_put bytes p.0 p.1 pairs)
+
+-- how many were taken out by a call that may be refused: one or none
+abbrev pub taken_by : {A E : Type 0} → Option (Result A E) → ℕ
+taken_by None = 0
+taken_by (Some (Ok x)) = 1
+taken_by (Some (Err e)) = 0
+
+-- No leaf is new. Where a pair was taken out, room for one node of each kind may be used up, and there is room for one
+-- leaf more; else all room stays.
+abbrev pub TakesOut : {K V A E : Type 0} → (K → List ℕ) → Option (Result A E) → Contents K V → Contents K V → Type 0
+TakesOut bytes r old new =
+    AddsNoLeaf bytes old new × UsesRoom (taken_by r) old.nodes new.nodes × FreesLeaves (taken_by r) old.nodes new.nodes
 
 -- the pairs of a map, those that were not asked yet, and the closure
 pub record Asking (K V F : Type 0) : Type 0 where
@@ -96,12 +109,10 @@ module _ {K V F : Type 0} {P : ℕ} {g : as_bytes.Ghosts K} where
     abbrev pub CanExtractIf : ExtractIf K V F P g → Type 0
     CanExtractIf e = CallableFromEnds (CalledAtPair f) (TakesPair f) (asking e).asks (asking e).left
 
-    -- one call of an extraction from this end, after which no leaf is new. Where it gives something, room
-    -- for one node may be used up; else none is
+    -- one call of an extraction from this end
     abbrev pub ExtractsIf : {E : Type 0} → End → ExtractIf K V F P g → Option (Result (K × V) E) → ExtractIf K V F P g
         → Type 0
     ExtractsIf end s r t =
         ((extract_map t).ghost_name ≡ (extract_map s).ghost_name)
         × Extracts (CalledAtPair f) g.bytes end (asking s) r (asking t)
-        × AddsNoLeaf g.bytes (extract_map s).now (extract_map t).now
-        × UsesRoom (length (option_to_list r)) (extract_map s).now.nodes (extract_map t).now.nodes
+        × TakesOut g.bytes r (extract_map s).now (extract_map t).now

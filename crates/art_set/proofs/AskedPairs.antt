@@ -3,13 +3,16 @@ use Rattle.std.proofs.Common.{◌≡◌, ℕ, suc, ◌+◌, ◌-◌, ◌<◌, �
 use Rattle.std.proofs.lemmas.List.{length-map}
 use Rattle.std.specs.Prelude.{IfOk, OnErr, filter, is_ok}
 use Rattle.std.specs.Map.{keys_of}
-use Rattle.art_arena.proofs.Common.{HasRoom, key_of, Shrinks}
+use Rattle.art_nodes.specs.declared.kind.NodeType.TheVariants.{Leaf}
+use Rattle.art_arena.proofs.Common.{Arena, HasRoom, HasRoomOf, IsIn, key_of, Shrinks}
 use Rattle.art_arena.specs.arena.Arena.{UsesRoom}
 use Rattle.art_bytes.specs.declared.as_bytes.AsBytes as as_bytes
-use Rattle.art_map.proofs.Common.{Contents, first_item, left_of, map_of}
-use Rattle.art_map.proofs.RoomKept.{UsesOfGone, gone-room, gone-uses}
+use Rattle.art_map.proofs.Common.{Contents, first_item, in-removed, left_of, map_of}
+use Rattle.art_map.proofs.RoomKept.{UsesOfGone, gone-frees, gone-room, gone-uses}
+use Rattle.art_map.specs.Asked.{taken_by}
 use Rattle.art_map.specs.declared.map.extraction.Extraction.{Extraction}
-use Rattle.art_operations.proofs.Common.{without_key}
+use Rattle.art_operations.proofs.Common.{KeepsLeavesOf, without_key}
+use Rattle.art_operations.specs.Frees.{FreesLeaves}
 use Rattle.art_set.proofs.Terms.{AskingKeys, CallableOnEachKey}
 use Rattle.art_set.specs.Members.{Members, members}
 use Rattle.art_set.specs.Pairs.{pairs_of_keys}
@@ -96,10 +99,28 @@ module _ {K : Type 0} (s : Members K) (now : Contents K (Unit {0})) (uses : Uses
   uses-keys n room =
       gone-uses (contents_of s) now uses n (subst (HasRoom s.nodes) (ap₂ (λ a b. n + (a - b)) (sym (length-map s.keys (λ k. (k, tt)))) (length-map now.pairs (λ p. p.0))) room)
 
+  -- and there is room for one leaf more
+  pub frees-keys : FreesLeaves (length s.keys - length (keys_of now.pairs)) s.nodes now.nodes
+  frees-keys n room =
+      subst (HasRoomOf now.nodes Leaf) (ap₂ (λ a b. n + (a - b)) (length-map s.keys (λ k. (k, tt))) (sym (length-map now.pairs (λ p. p.0)))) (gone-frees (contents_of s) now uses n room)
+
   -- so with room for each key there is room for one that is still there
   pub room-keys : 0 < length (keys_of now.pairs) → HasRoom s.nodes (length s.keys) → HasRoom now.nodes 1
   room-keys some room =
       gone-room (contents_of s) now uses (subst (λ n. 0 < n) (length-map now.pairs (λ p. p.0)) some) (subst (HasRoom s.nodes) (sym (length-map s.keys (λ k. (k, tt)))) room)
+
+-- a key is taken where its pair is
+pub taken-as-key : {A B E : Type 0} (r : Result A E) (a : Result B E) → is_ok a ≡ is_ok r → taken_by (Some r) ≡ taken_by (Some a)
+taken-as-key (Ok x) (Ok y) same = refl
+taken-as-key (Err e) (Err f) same = refl
+taken-as-key (Ok x) (Err f) same = absurd (cc)
+taken-as-key (Err e) (Ok y) same = absurd (cc)
+
+-- the keys that stay keep their leaves where one pair more is taken out
+pub then-kept : {K V : Type 0} (bytes : K → List ℕ) (ps qs : List (K × V)) (query : List ℕ) (one two three : Arena K V) → KeepsLeavesOf bytes ps one two → qs ≡ without_key (key_of bytes) query ps → KeepsLeavesOf bytes qs two three → KeepsLeavesOf bytes qs one three
+then-kept bytes ps qs query one two three was out is slot key has (p, among, same) =
+    let there = (in-removed bytes p query ps).0 (subst (IsIn p) out among) in
+    is slot key (was slot key has (p, there.0, same)) (p, among, same)
 
 -- one pair less is one key less
 pub one-less : {K V : Type 0} (ps qs : List (K × V)) → suc (length (keys_of qs)) ≡ length (keys_of ps) → suc (length qs) ≡ length ps

@@ -1,7 +1,7 @@
 -- A set's keys, from the pairs of the map that holds them.
 use Rattle.std.proofs.Common.{Result, Ok, Err, ◌≡◌, ◌⊎◌, ℕ, Bool, true, false, not, cond, List, [], ◌∷◌, Option, Some, None, refl, sym, ap, ◌∙◌, subst, inl, inr}
-use Rattle.std.specs.Prelude.{IfNone, IfOk, OnOk, filter, find, is_some}
-use Rattle.std.specs.Bool.{OnFalse}
+use Rattle.std.specs.Prelude.{IfNone, IfOk, OnOk, OnSome, filter, find, is_ok, is_some}
+use Rattle.std.specs.Bool.{OnFalse, OnTrue}
 use Rattle.std.specs.List.{AllZip, list_any}
 use Rattle.std.specs.Map.{keys_of, lookup, lookup_entry}
 use Rattle.std.specs.declared.ops.Bound.{Bound}
@@ -34,6 +34,15 @@ none-key A (Some p) r e kept = subst (λ x. IfNone x A) (sym e) tt
 pub none-found : {V : Type 0} (A : Type 0) (o : Option V) (b : Bool) → b ≡ is_some o → IfNone o A → OnFalse b A
 none-found A None b e kept = subst (λ x. OnFalse x A) (sym e) kept
 none-found A (Some v) b e kept = subst (λ x. OnFalse x A) (sym e) tt
+
+-- and where one was, there was one
+pub some-key : {K V : Type 0} (A : Type 0) (o : Option (K × V)) (r : Option K) → r ≡ key_if_some o → OnSome o A → OnSome r A
+some-key A None r e frees = subst (λ x. OnSome x A) (sym e) tt
+some-key A (Some p) r e frees = subst (λ x. OnSome x A) (sym e) frees
+
+pub some-found : {V : Type 0} (A : Type 0) (o : Option V) (b : Bool) → b ≡ is_some o → OnSome o A → OnTrue b A
+some-found A None b e frees = subst (λ x. OnTrue x A) (sym e) tt
+some-found A (Some v) b e frees = subst (λ x. OnTrue x A) (sym e) frees
 
 module _ {K V : Type 0} where
   -- look-ups

@@ -7,6 +7,7 @@ use Rattle.std.specs.List.Retain.{ExtractsNext}
 use Rattle.std.specs.Map.{keys_of}
 use Rattle.art_arena.specs.tree.Shrinks.{Shrinks}
 use Rattle.art_bytes.specs.declared.as_bytes.AsBytes as as_bytes
+use Rattle.art_map.specs.Asked.{TakesOut}
 use Rattle.art_map.specs.Contents.{Contents}
 use Rattle.art_map.specs.Extractions.{left_of, map_of}
 use Rattle.art_operations.specs.KeyedLists.{without_key}
@@ -46,12 +47,11 @@ module _ {K F : Type 0} (T : F → K → Bool → F → Type 0) where
     -- not asked these others. The key leaves the set; or it stays, since its removal is refused, and then none is asked
     -- any more
     abbrev pub KeysComeOf : Option K → List K → List K → Option (Result K E) → AskingKeys K F → Type 0
-    KeysComeOf None keys others None t = (t.keys ≡ keys) × (t.left ≡ [])
-    KeysComeOf (Some k) keys others (Some (Ok l)) t =
-        (l ≡ k) × (t.keys ≡ without_key bytes (bytes k) keys) × (t.left ≡ others)
-    KeysComeOf (Some k) keys others (Some (Err e)) t = (t.keys ≡ keys) × (t.left ≡ []) × Shrinks bytes keys (bytes k)
-    KeysComeOf None keys others (Some r) t = ⊥
-    KeysComeOf (Some k) keys others None t = ⊥
+    KeysComeOf None ks rest None t = (t.keys ≡ ks) × (t.left ≡ [])
+    KeysComeOf (Some k) ks rest (Some (Ok l)) t = (l ≡ k) × (t.keys ≡ without_key bytes (bytes k) ks) × (t.left ≡ rest)
+    KeysComeOf (Some k) ks rest (Some (Err e)) t = (t.keys ≡ ks) × (t.left ≡ []) × Shrinks bytes ks (bytes k)
+    KeysComeOf None ks rest (Some r) t = ⊥
+    KeysComeOf (Some k) ks rest None t = ⊥
 
     -- one call of an extraction asks the keys that were not asked yet in turn, until the closure says true
     pub record ExtractsKey (s : AskingKeys K F) (r : Option (Result K E)) (t : AskingKeys K F) : Type 0 where
@@ -84,3 +84,4 @@ module _ {K F : Type 0} {P : ℕ} {g : as_bytes.Ghosts K} where
     ExtractsKeyIf s r t =
         ((extract_set t).ghost_name ≡ (extract_set s).ghost_name)
         × ExtractsKey (CalledAt f) g.bytes (asking_keys s) r (asking_keys t)
+        × TakesOut g.bytes r (extract_set s).now (extract_set t).now

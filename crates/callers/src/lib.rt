@@ -10,6 +10,7 @@ pub mod nodes;
 pub mod operations;
 pub mod own_key;
 pub mod parts;
+pub mod reserved;
 pub mod set;
 pub mod two_trees;
 pub mod visits;

@@ -3,7 +3,7 @@
 #![tactic(auto)]
 
 ghost use Rattle.std.specs.Prelude.{◌≡◌, Some, None, List, ℕ, bytes_eq, if◌then◌else◌, is_none, is_some};
-ghost use Rattle.std.specs.Prelude.{IfOk, OnErr, OnOk, length, nat_le, option_map, suc, ◌+◌};
+ghost use Rattle.std.specs.Prelude.{IfOk, OnErr, OnOk, filter, length, nat_le, not, option_map, suc, ◌+◌};
 ghost use Rattle.art_map.specs.Laws.{kept_value};
 ghost use Rattle.use_logins.specs.Logins.{last_seen};
 
@@ -74,10 +74,12 @@ fn touch(logins: &mut Logins, token: &Token, time: u64) -> bool
     }
 }
 
-/// Closes the logins that were last seen before a time. Every other one is as before.
+/// Closes the logins that were last seen before a time. Every other one is as before, and none is new.
 fn expire(logins: &mut Logins, oldest: u64) -> Result<(), AllocError>
-    ensures { OnOk result ((other : List ℕ) → last_seen other logins.new.pairs
+    ensures seen { OnOk result ((other : List ℕ) → last_seen other logins.new.pairs
         ≡ kept_value (nat_le oldest) (last_seen other logins.old.pairs)) }
+    ensures many { OnOk result (length logins.new.pairs
+        + length (filter (λ login. not (nat_le oldest login.1)) logins.old.pairs) ≡ length logins.old.pairs) }
 {
     // The keys ascend, so that a token has one login.
     keys_ascend(logins);

@@ -7,6 +7,7 @@ ghost use Rattle.art_arena.specs.arena.Arena.{HasRoom, UsesRoom};
 ghost use Rattle.art_arena.specs.arena.Shapes.{key_of};
 ghost use Rattle.art_arena.specs.declared.ends.End.TheVariants.{First, Last};
 ghost use Rattle.art_arena.specs.tree.Shrinks.{Shrinks};
+ghost use Rattle.art_operations.specs.Frees.{FreesLeaves};
 ghost use Rattle.art_walks.specs.Bounds.{AreValidKeyBounds};
 ghost use Rattle.art_map.specs.LeafNames.{AddsNoLeaf, KeepsLeaves};
 ghost use Rattle.art_map.specs.Ranges.{pairs_between};
@@ -166,6 +167,7 @@ impl<K: AsBytes, V, const PREFIX_LEN: usize> TreeMap<K, V, PREFIX_LEN> {
         ensures names { KeepsLeaves K.bytes self.old self.new }
         ensures succeeds { HasRoom self.old.nodes (length self.old.pairs) → IsOk result }
         ensures room { UsesRoom (length self.old.pairs - length self.new.pairs) self.old.nodes self.new.nodes }
+        ensures leaf_room { FreesLeaves (length self.old.pairs - length self.new.pairs) self.old.nodes self.new.nodes }
     {
         self.name_leaves();
         let retained = self.drop_others(keep);
@@ -186,6 +188,7 @@ impl<K: AsBytes, V, const PREFIX_LEN: usize> TreeMap<K, V, PREFIX_LEN> {
         ensures none_new { AddsNoLeaf K.bytes self.old self.new }
         ensures succeeds { HasRoom self.old.nodes (length self.old.pairs) → IsOk result }
         ensures room { UsesRoom (length self.old.pairs - length self.new.pairs) self.old.nodes self.new.nodes }
+        ensures leaf_room { FreesLeaves (length self.old.pairs - length self.new.pairs) self.old.nodes self.new.nodes }
     {
         let (_arena, _root) = self.nodes();
         let mut pairs = self.extraction_of_all();

@@ -5,7 +5,9 @@ ghost use Rattle.std.specs.Borrow.{sem};
 ghost use Rattle.std.specs.Map.Calls.{CalledAtPair, TakesPair};
 ghost use Rattle.std.specs.Map.Iter.{deref_pair};
 ghost use Rattle.std.specs.Range.Bound.{bound_map};
+ghost use Rattle.art_nodes.specs.declared.kind.NodeType.TheVariants.{Leaf};
 ghost use Rattle.art_arena.specs.arena.Arena.{links_at, HasRoom, KeepsRoomOf, UsesRoom};
+ghost use Rattle.art_arena.specs.arena.Rooms.{FreesRoomOf};
 ghost use Rattle.art_arena.specs.arena.Shapes.{key_of, LeafAt};
 ghost use Rattle.art_arena.specs.tree.Shrinks.{Shrinks};
 ghost use Rattle.art_operations.specs.KeyedLists.{without_key};
@@ -266,6 +268,7 @@ impl<'a, K: AsBytes, V, const PREFIX_LEN: usize> Extraction<'a, K, V, PREFIX_LEN
         ensures pairs { IfOk result (λ pair.
             (map_of self.new).now.pairs ≡ without_key (key_of K.bytes) (K.bytes pair.0) (map_of self.old).now.pairs) }
         ensures names { OnOk result (KeepsLeaves K.bytes (map_of self.old).now (map_of self.new).now) }
+        ensures none_new { AddsNoLeaf K.bytes (map_of self.old).now (map_of self.new).now }
         ensures err { OnErr result ((left_of self.new ≡ [])
             × ((map_of self.new).now.pairs ≡ (map_of self.old).now.pairs)) }
         ensures untouched { OnErr result (IsUntouched (map_of self.old).now (map_of self.new).now) }
@@ -274,6 +277,7 @@ impl<'a, K: AsBytes, V, const PREFIX_LEN: usize> Extraction<'a, K, V, PREFIX_LEN
             × Shrinks (key_of K.bytes) (map_of self.old).now.pairs (K.bytes pair.0)) }
         ensures succeeds { HasRoom (map_of self.old).now.nodes 1 → IsOk result }
         ensures room { UsesRoom 1 (map_of self.old).now.nodes (map_of self.new).now.nodes }
+        ensures leaf_room { OnOk result (FreesRoomOf Leaf (map_of self.old).now.nodes (map_of self.new).now.nodes) }
     {
         self.take(End::First)
     }
@@ -297,6 +301,7 @@ impl<'a, K: AsBytes, V, const PREFIX_LEN: usize> Extraction<'a, K, V, PREFIX_LEN
         ensures pairs { IfOk result (λ pair.
             (map_of self.new).now.pairs ≡ without_key (key_of K.bytes) (K.bytes pair.0) (map_of self.old).now.pairs) }
         ensures names { OnOk result (KeepsLeaves K.bytes (map_of self.old).now (map_of self.new).now) }
+        ensures none_new { AddsNoLeaf K.bytes (map_of self.old).now (map_of self.new).now }
         ensures err { OnErr result ((left_of self.new ≡ [])
             × ((map_of self.new).now.pairs ≡ (map_of self.old).now.pairs)) }
         ensures untouched { OnErr result (IsUntouched (map_of self.old).now (map_of self.new).now) }
@@ -305,6 +310,7 @@ impl<'a, K: AsBytes, V, const PREFIX_LEN: usize> Extraction<'a, K, V, PREFIX_LEN
             × Shrinks (key_of K.bytes) (map_of self.old).now.pairs (K.bytes pair.0)) }
         ensures succeeds { HasRoom (map_of self.old).now.nodes 1 → IsOk result }
         ensures room { UsesRoom 1 (map_of self.old).now.nodes (map_of self.new).now.nodes }
+        ensures leaf_room { OnOk result (FreesRoomOf Leaf (map_of self.old).now.nodes (map_of self.new).now.nodes) }
     {
         self.take(End::Last)
     }
@@ -335,6 +341,7 @@ impl<'a, K: AsBytes, V, const PREFIX_LEN: usize> Extraction<'a, K, V, PREFIX_LEN
             × Shrinks (key_of K.bytes) (map_of self.old).now.pairs (K.bytes pair.0)) }
         ensures succeeds { HasRoom (map_of self.old).now.nodes 1 → IsOk result }
         ensures room { UsesRoom 1 (map_of self.old).now.nodes (map_of self.new).now.nodes }
+        ensures leaf_room { OnOk result (FreesRoomOf Leaf (map_of self.old).now.nodes (map_of self.new).now.nodes) }
     {
         let leaf = self.next_leaf(end);
         match self.map.take_at(leaf) {

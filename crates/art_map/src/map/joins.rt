@@ -8,12 +8,14 @@ ghost use Rattle.std.specs.declared.ops.Bound.TheVariants.{Included, Excluded, U
 ghost use Rattle.art_nodes.specs.Name.{Name};
 ghost use Rattle.art_nodes.specs.declared.kind.NodeType.TheVariants.{Leaf};
 ghost use Rattle.art_arena.specs.arena.Arena.{held_at, HasRoom, HasRoomOf, KeepsRoomOf, SameNodes, UsesRoom};
+ghost use Rattle.art_arena.specs.arena.Rooms.{FreesRoomOf};
 ghost use Rattle.art_arena.specs.arena.Shapes.{key_of};
 ghost use Rattle.art_arena.specs.tree.Order.{AscendsByKey};
+ghost use Rattle.art_operations.specs.Frees.{FreesLeaves};
 ghost use Rattle.art_operations.specs.LeafCursors.{KeepsInnerRoom, StandsAhead, StandsInList};
 ghost use Rattle.art_operations.specs.LeafNames.{HasLeavesOf};
 ghost use Rattle.art_operations.specs.Pairs.{HasPairs};
-ghost use Rattle.art_operations.specs.Rebuilds.{HasInnerRoom};
+ghost use Rattle.art_operations.specs.Rebuilds.{HasInnerRoom, KeepsLeafRoom};
 ghost use Rattle.art_map.specs.Asked.{with_pairs_put};
 ghost use Rattle.art_map.specs.Contents.{IsUntouched};
 ghost use Rattle.art_map.specs.LeafNames.{AddsNoLeaf, KeepsAllLeaves, KeepsLeaves};
@@ -44,7 +46,7 @@ impl<K: AsBytes, V, const PREFIX_LEN: usize> TreeMap<K, V, PREFIX_LEN> {
     ///
     /// If few leave, they move one by one. If many do, all leaves that go are moved along their list, and the inner
     /// nodes of both maps are made anew. So the cost never goes by more than the pairs of the map. The others keep
-    /// their leaves. If all leave, the nodes go with them.
+    /// their leaves, and what room there was for leaves stays. If all leave, the nodes go with them, and all room.
     ///
     /// Fails if there is no memory for the nodes that the moves need. All of it is allocated first, and the map is
     /// unchanged then.
@@ -67,6 +69,8 @@ impl<K: AsBytes, V, const PREFIX_LEN: usize> TreeMap<K, V, PREFIX_LEN> {
         ensures names { OnOk result (KeepsLeaves K.bytes self.old self.new) }
         ensures err { OnErr result (self.new.pairs ≡ self.old.pairs) }
         ensures kept { OnErr result (IsUntouched self.old self.new) }
+        ensures leaf_room { OnOk result (self.new.pairs ≢ [] → KeepsLeafRoom self.old.nodes self.new.nodes) }
+        ensures swapped { IfOk result (λ off. self.new.pairs ≡ [] → off ≡ self.old) }
     {
         if !nodes_fit::<PREFIX_LEN>() {
             return Err(AllocError);
@@ -93,6 +97,7 @@ impl<K: AsBytes, V, const PREFIX_LEN: usize> TreeMap<K, V, PREFIX_LEN> {
         ensures joined { IfOk result (λ off. self.new.pairs ++ off.pairs ≡ self.old.pairs) }
         ensures moved { OnOk result (length self.new.pairs + count ≡ length self.old.pairs) }
         ensures none_new { OnOk result (AddsNoLeaf K.bytes self.old self.new) }
+        ensures leaf_room { OnOk result (KeepsLeafRoom self.old.nodes self.new.nodes) }
         ensures err { OnErr result (self.new.pairs ≡ self.old.pairs) }
         ensures kept { OnErr result (IsUntouched self.old self.new) }
     {
@@ -112,6 +117,7 @@ impl<K: AsBytes, V, const PREFIX_LEN: usize> TreeMap<K, V, PREFIX_LEN> {
         ensures joined { IfOk result (λ off. self.new.pairs ++ off.pairs ≡ self.old.pairs) }
         ensures moved { OnOk result (length self.new.pairs + count ≡ length self.old.pairs) }
         ensures none_new { OnOk result (AddsNoLeaf K.bytes self.old self.new) }
+        ensures leaf_room { OnOk result (KeepsLeafRoom self.old.nodes self.new.nodes) }
         ensures err { OnErr result (self.new.pairs ≡ self.old.pairs) }
         ensures kept { OnErr result (IsUntouched self.old self.new) }
     {
@@ -135,6 +141,7 @@ impl<K: AsBytes, V, const PREFIX_LEN: usize> TreeMap<K, V, PREFIX_LEN> {
         ensures joined { IfOk result (λ off. self.new.pairs ++ off.pairs ≡ self.old.pairs) }
         ensures moved { OnOk result (length self.new.pairs + count ≡ length self.old.pairs) }
         ensures none_new { OnOk result (AddsNoLeaf K.bytes self.old self.new) }
+        ensures leaf_room { OnOk result (KeepsLeafRoom self.old.nodes self.new.nodes) }
         ensures err { OnErr result (self.new.pairs ≡ self.old.pairs) }
         ensures kept { OnErr result (IsUntouched self.old self.new) }
     {
@@ -166,6 +173,7 @@ impl<K: AsBytes, V, const PREFIX_LEN: usize> TreeMap<K, V, PREFIX_LEN> {
         ensures joined { self.new.pairs ++ result.pairs ≡ self.old.pairs }
         ensures moved { length self.new.pairs + count ≡ length self.old.pairs }
         ensures none_new { AddsNoLeaf K.bytes self.old self.new }
+        ensures leaf_room { KeepsLeafRoom self.old.nodes self.new.nodes }
     {
         let mut arena = arena;
         let old = self.root;
@@ -216,6 +224,7 @@ impl<K: AsBytes, V, const PREFIX_LEN: usize> TreeMap<K, V, PREFIX_LEN> {
         ensures joined { self.new.pairs ++ to.new.pairs ≡ self.old.pairs ++ to.old.pairs }
         ensures moved { length self.new.pairs + count ≡ length self.old.pairs }
         ensures none_new { AddsNoLeaf K.bytes self.old self.new }
+        ensures leaf_room { FreesLeaves count self.old.nodes self.new.nodes }
     {
         for _ in 0..count {
             self.move_pair(to);
@@ -234,6 +243,7 @@ impl<K: AsBytes, V, const PREFIX_LEN: usize> TreeMap<K, V, PREFIX_LEN> {
         ensures joined { self.new.pairs ++ to.new.pairs ≡ self.old.pairs ++ to.old.pairs }
         ensures moved { length self.new.pairs + 1 ≡ length self.old.pairs }
         ensures none_new { AddsNoLeaf K.bytes self.old self.new }
+        ensures leaf_room { FreesRoomOf Leaf self.old.nodes self.new.nodes }
         ensures from_room { UsesRoom 1 self.old.nodes self.new.nodes }
         ensures to_room { UsesRoom 2 to.old.nodes to.new.nodes }
     {
@@ -401,6 +411,7 @@ fn cut_last<K: AsBytes + Drop, V: Drop, const PREFIX_LEN: usize>(
     ensures cut { (had : List (K × V)) → HasPairs K.bytes PREFIX_LEN arena.old root had
         → IsCutLast K.bytes PREFIX_LEN arena.new result.0 to.new result.1 count had }
     ensures names { HasLeavesOf K.bytes arena.old arena.new }
+    ensures leaf_room { KeepsLeafRoom arena.old arena.new }
 {
     let mut cursor = LeafCursor::after_leaves(arena, root);
     let first = move_leaves(arena, &mut cursor, to, count);

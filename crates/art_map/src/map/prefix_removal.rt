@@ -2,9 +2,11 @@
 //! cuts.
 ghost use Rattle.std.specs.Prelude.{◌≡◌, ◌≢◌, ◌+◌, ◌*◌, ◌≤◌, ℕ, [], List, length, IfOk, IsOk, OnErr, OnOk};
 ghost use Rattle.std.specs.Borrow.{sem};
-ghost use Rattle.art_arena.specs.arena.Arena.{HasRoom, KeepsRoom, UsesRoom};
+ghost use Rattle.art_nodes.specs.declared.kind.NodeType.TheVariants.{Leaf};
+ghost use Rattle.art_arena.specs.arena.Arena.{HasRoom, HasRoomOf, KeepsRoom, KeepsRoomOf, UsesRoom};
 ghost use Rattle.art_arena.specs.arena.Shapes.{key_of};
 ghost use Rattle.art_arena.specs.tree.Tenants.{with_front, without_front};
+ghost use Rattle.art_operations.specs.Frees.{FreesLeaves};
 ghost use Rattle.art_operations.specs.Openings.{OpeningReads};
 ghost use Rattle.art_walks.specs.MapReads.{PairsWithin};
 ghost use Rattle.art_map.specs.Contents.{HasSameNodes};
@@ -103,6 +105,7 @@ impl<'a, K: AsBytes, V, const PREFIX_LEN: usize> PrefixRemoval<'a, K, V, PREFIX_
         ensures all_counted { result.pairs ≤ result.visits }
         ensures few { result.visits ≤ removal_reads self.entry + 2 * result.pairs }
         ensures room { UsesRoom 1 (removal_map self.entry).now.nodes self.exit.0.now.nodes }
+        ensures leaf_room { FreesLeaves result.pairs (removal_map self.entry).now.nodes self.exit.0.now.nodes }
     {
         let block = self.block;
         self.map.cut_block(block)
@@ -140,6 +143,7 @@ impl<K: AsBytes, V, const PREFIX_LEN: usize> TreeMap<K, V, PREFIX_LEN> {
         ensures pairs { self.new.pairs ≡ self.old.pairs }
         ensures kept { HasSameNodes self.old self.new }
         ensures kept_room { KeepsRoom self.old.nodes self.new.nodes }
+        ensures room_of { KeepsRoomOf self.old.nodes self.new.nodes }
         ensures succeeds { HasRoom self.old.nodes 1 → IsOk result }
         ensures shrinks { OnErr result ((prefix : List ℕ) → IsFoundPart K.bytes PREFIX_LEN self.old prefix (Some part)
             → ShrinksAtCut K.bytes prefix self.old.pairs) }
@@ -159,6 +163,7 @@ impl<K: AsBytes, V, const PREFIX_LEN: usize> TreeMap<K, V, PREFIX_LEN> {
         ensures pairs { self.new.pairs ≡ self.old.pairs }
         ensures kept { HasSameNodes self.old self.new }
         ensures kept_room { KeepsRoom self.old.nodes self.new.nodes }
+        ensures room_of { KeepsRoomOf self.old.nodes self.new.nodes }
         ensures succeeds { HasRoom self.old.nodes 1 → IsOk result }
         ensures shrinks { OnErr result (ShrinksAtCut K.bytes prefix.now self.old.pairs) }
     {
@@ -188,6 +193,7 @@ impl<K: AsBytes, V, const PREFIX_LEN: usize> TreeMap<K, V, PREFIX_LEN> {
         ensures all_counted { result.pairs ≤ result.visits }
         ensures few { result.visits ≤ visits + 2 * result.pairs }
         ensures room { UsesRoom 1 self.old.nodes self.new.nodes }
+        ensures leaf_room { FreesLeaves result.pairs self.old.nodes self.new.nodes }
     {
         let cut = ready.apply(&mut self.arena);
         self.root = cut.new_root;
@@ -213,6 +219,7 @@ impl<K: AsBytes, V, const PREFIX_LEN: usize> TreeMap<K, V, PREFIX_LEN> {
         ensures all_counted { result.pairs ≤ result.visits }
         ensures few { result.visits ≤ block.reads + 2 * result.pairs }
         ensures room { UsesRoom 1 self.old.nodes self.new.nodes }
+        ensures leaf_room { FreesLeaves result.pairs self.old.nodes self.new.nodes }
     {
         let FoundBlock { part, visits } = block;
         match part {
@@ -246,6 +253,7 @@ impl<K: AsBytes, V, const PREFIX_LEN: usize> TreeMap<K, V, PREFIX_LEN> {
         ensures same { IfOk result (λ r. (removal_map r).now.pairs ≡ self.old.pairs) }
         ensures kept { IfOk result (λ r. HasSameNodes self.old (removal_map r).now) }
         ensures kept_room { IfOk result (λ r. KeepsRoom self.old.nodes (removal_map r).now.nodes) }
+        ensures room_of { IfOk result (λ r. KeepsRoomOf self.old.nodes (removal_map r).now.nodes) }
         ensures succeeds { HasRoom self.old.nodes 1 → IsOk result }
         ensures prefix { IfOk result (λ r. removal_prefix r ≡ prefix.now) }
         ensures counts { IfOk result (λ r.
@@ -296,6 +304,8 @@ impl<K: AsBytes, V, const PREFIX_LEN: usize> TreeMap<K, V, PREFIX_LEN> {
         ensures shrinks { OnErr result (ShrinksAtCut K.bytes prefix.now self.old.pairs) }
         ensures succeeds { HasRoom self.old.nodes 1 → IsOk result }
         ensures room { UsesRoom 1 self.old.nodes self.new.nodes }
+        ensures leaf_room { IfOk result (λ done. (n : ℕ) → HasRoom self.old.nodes n
+            → HasRoomOf self.new.nodes Leaf (n + done.pairs)) }
     {
         match self.prepare_remove_prefix(prefix) {
             Ok(removal) => Ok(removal.apply()),

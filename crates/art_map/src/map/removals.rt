@@ -1,6 +1,8 @@
 //! Removals: of a key, of the first pair, and of the last.
-ghost use Rattle.std.specs.Prelude.{◌≡◌, List, ◌∷◌, ◌++◌, [], IfNone, IfOk, IsOk, MatchOption, OnErr, OnOk};
+ghost use Rattle.std.specs.Prelude.{◌≡◌, List, ◌∷◌, ◌++◌, [], IfNone, IfOk, IsOk, MatchOption, OnErr, OnOk, OnSome};
+ghost use Rattle.art_nodes.specs.declared.kind.NodeType.TheVariants.{Leaf};
 ghost use Rattle.art_arena.specs.arena.Arena.{HasRoom, KeepsRoomOf, UsesRoom};
+ghost use Rattle.art_arena.specs.arena.Rooms.{FreesRoomOf};
 ghost use Rattle.art_arena.specs.arena.Shapes.{key_of, LeafAt};
 ghost use Rattle.art_arena.specs.tree.Shrinks.{Shrinks};
 ghost use Rattle.art_map.specs.Contents.{IsUntouched};
@@ -43,13 +45,15 @@ impl<K: AsBytes, V, const PREFIX_LEN: usize> TreeMap<K, V, PREFIX_LEN> {
             × Shrinks (key_of K.bytes) self.old.pairs (Q.bytes key.now)) }
         ensures succeeds { HasRoom self.old.nodes 1 → IsOk result }
         ensures room { UsesRoom 1 self.old.nodes self.new.nodes }
+        ensures leaf_room { IfOk result (λ old. OnSome old (FreesRoomOf Leaf self.old.nodes self.new.nodes)) }
         ensures none_room { IfOk result (λ old. IfNone old (KeepsRoomOf self.old.nodes self.new.nodes)) }
     {
         let pair = self.remove_entry(key)?;
         Ok(value_of(pair))
     }
 
-    /// Removes the pair whose key has the query's bytes, and returns it, if there is one.
+    /// Removes the pair whose key has the query's bytes, and returns it, if there is one. There is room for one leaf
+    /// more then.
     ///
     /// Fails only if the removal turns a node into one of the next smaller kind, and there is neither room nor memory
     /// for that one. The map is unchanged then.
@@ -71,6 +75,7 @@ impl<K: AsBytes, V, const PREFIX_LEN: usize> TreeMap<K, V, PREFIX_LEN> {
             × Shrinks (key_of K.bytes) self.old.pairs (Q.bytes key.now)) }
         ensures succeeds { HasRoom self.old.nodes 1 → IsOk result }
         ensures room { UsesRoom 1 self.old.nodes self.new.nodes }
+        ensures leaf_room { IfOk result (λ old. OnSome old (FreesRoomOf Leaf self.old.nodes self.new.nodes)) }
         ensures none_room { IfOk result (λ old. IfNone old (KeepsRoomOf self.old.nodes self.new.nodes)) }
     {
         // By value an option of a name counts as moved, so a copy goes in.
@@ -104,6 +109,7 @@ impl<K: AsBytes, V, const PREFIX_LEN: usize> TreeMap<K, V, PREFIX_LEN> {
         ensures shrinks { OnErr result (ShrinksAtEnd K.bytes End.First self.old.pairs) }
         ensures succeeds { HasRoom self.old.nodes 1 → IsOk result }
         ensures room { UsesRoom 1 self.old.nodes self.new.nodes }
+        ensures leaf_room { IfOk result (λ taken. OnSome taken (FreesRoomOf Leaf self.old.nodes self.new.nodes)) }
         ensures none_room { IfOk result (λ taken. IfNone taken (KeepsRoomOf self.old.nodes self.new.nodes)) }
     {
         self.pop(End::First)
@@ -128,6 +134,7 @@ impl<K: AsBytes, V, const PREFIX_LEN: usize> TreeMap<K, V, PREFIX_LEN> {
         ensures shrinks { OnErr result (ShrinksAtEnd K.bytes End.Last self.old.pairs) }
         ensures succeeds { HasRoom self.old.nodes 1 → IsOk result }
         ensures room { UsesRoom 1 self.old.nodes self.new.nodes }
+        ensures leaf_room { IfOk result (λ taken. OnSome taken (FreesRoomOf Leaf self.old.nodes self.new.nodes)) }
         ensures none_room { IfOk result (λ taken. IfNone taken (KeepsRoomOf self.old.nodes self.new.nodes)) }
     {
         self.pop(End::Last)
@@ -152,6 +159,7 @@ impl<K: AsBytes, V, const PREFIX_LEN: usize> TreeMap<K, V, PREFIX_LEN> {
             → Shrinks (key_of K.bytes) self.old.pairs (K.bytes pair.0)) }
         ensures succeeds { HasRoom self.old.nodes 1 → IsOk result }
         ensures room { UsesRoom 1 self.old.nodes self.new.nodes }
+        ensures leaf_room { OnOk result (FreesRoomOf Leaf self.old.nodes self.new.nodes) }
     {
         match self.root {
             Some(root) => match take_leaf(&mut self.arena, root, leaf) {
@@ -177,6 +185,7 @@ impl<K: AsBytes, V, const PREFIX_LEN: usize> TreeMap<K, V, PREFIX_LEN> {
         ensures shrinks { OnErr result (ShrinksAtEnd K.bytes end self.old.pairs) }
         ensures succeeds { HasRoom self.old.nodes 1 → IsOk result }
         ensures room { UsesRoom 1 self.old.nodes self.new.nodes }
+        ensures leaf_room { IfOk result (λ taken. OnSome taken (FreesRoomOf Leaf self.old.nodes self.new.nodes)) }
         ensures none_room { IfOk result (λ taken. IfNone taken (KeepsRoomOf self.old.nodes self.new.nodes)) }
     {
         // By value an option of a name counts as moved, so a copy goes in.

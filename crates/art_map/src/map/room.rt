@@ -47,8 +47,9 @@ impl<K: AsBytes, V, const PREFIX_LEN: usize> TreeMap<K, V, PREFIX_LEN> {
 
     /// Allocates the nodes of so many more insertions, whatever their keys are. While there is room for two nodes, no
     /// insertion of a pair is out of memory, also by an entry or at a place, and each uses room for two at most. Nor is
-    /// `extend` of so many pairs. A removal uses room for one, and doesn't fail where there is so much. Room stays
-    /// where a call is refused, a key was stored already or isn't found, or a value is written.
+    /// `extend` of so many pairs. A removal uses room for one, and doesn't fail where there is so much. It gives room
+    /// for a leaf back. Room stays where a call is refused, a key was stored already or isn't found, or a value is
+    /// written.
     ///
     /// A node of any kind may be needed, so that many of each kind are allocated, some kilobytes for each insertion. It
     /// serves a few insertions that must not fail. Fails only if there is no room for so many, and no memory. Either

@@ -10,6 +10,8 @@ ghost use Rattle.art_arena.specs.arena.Arena.{HasRoom, UsesRoom};
 ghost use Rattle.art_arena.specs.tree.Shrinks.{Shrinks};
 ghost use Rattle.art_walks.specs.Bounds.{AreValidKeyBounds};
 ghost use Rattle.art_map.specs.Extractions.{left_of, map_of};
+ghost use Rattle.art_operations.specs.Frees.{FreesLeaves};
+ghost use Rattle.art_set.specs.LeafNames.{KeepsNames};
 ghost use Rattle.art_set.specs.Members.{keys_between};
 
 use crate::set::TreeSet;
@@ -34,7 +36,8 @@ fn key_of<K>(pair: Result<(K, ()), AllocError>) -> Result<K, AllocError>
 /// closure is called on each key once, in turn. Keys for which it returns false stay.
 ///
 /// If the removal of a key fails, the iterator returns that once, and then nothing more. The key stays. Keys that left
-/// before are gone, and those that come after stay. If an `ExtractIf` is dropped, the keys still to come stay too.
+/// before are gone, and those that come after stay. If an `ExtractIf` is dropped, the keys still to come stay too. No
+/// key gets another leaf, and for each that left there is room for one leaf more.
 #[derive(Drop)]
 pub struct ExtractIf<'a, K: AsBytes, F, const PREFIX_LEN: usize> {
     extraction: Extraction<'a, K, (), PREFIX_LEN>,
@@ -112,6 +115,7 @@ impl<K: AsBytes, const PREFIX_LEN: usize> TreeSet<K, PREFIX_LEN> {
         ensures* writes_back { sem 𝓛 (lends_keys K.row PREFIX_LEN.row K.AsBytes self.entry
             (extract_set result).ghost_name) }
         ensures keys { (asking_keys result).keys ≡ self.old.keys }
+        ensures nodes { (extract_set result).now.nodes ≡ self.old.nodes }
         ensures left { (asking_keys result).left ≡ keys_between K.bytes (bound_map (λ key. Q.bytes key.now) start.entry)
             (bound_map (λ key. Q.bytes key.now) end.entry) self.old.keys }
         ensures asks { (asking_keys result).asks ≡ pred }
@@ -128,6 +132,7 @@ impl<K: AsBytes, const PREFIX_LEN: usize> TreeSet<K, PREFIX_LEN> {
     fn map_mut(&mut self) -> &mut TreeMap<K, (), PREFIX_LEN>
         ensures* writes_back { sem 𝓛 (lends_keys K.row PREFIX_LEN.row K.AsBytes self.entry result.ghost_name) }
         ensures keys { keys_of result.now.pairs ≡ self.old.keys }
+        ensures nodes { result.now.nodes ≡ self.old.nodes }
     {
         &mut self.map
     }
@@ -136,7 +141,8 @@ impl<K: AsBytes, const PREFIX_LEN: usize> TreeSet<K, PREFIX_LEN> {
     /// ascending order. It has to be callable there, whatever it returned before.
     ///
     /// Fails if the removal of a key does, as that of `take`. That key then stays. So do the keys after it, on which
-    /// the closure was not called. What was dropped before is gone.
+    /// the closure was not called. What was dropped before is gone. The keys that stay keep their leaves, and for each
+    /// that went there is room for one leaf more.
     ///
     /// ```
     /// let mut set = TreeSet::new(rt.alloc());
@@ -152,7 +158,9 @@ impl<K: AsBytes, const PREFIX_LEN: usize> TreeSet<K, PREFIX_LEN> {
         ensures refused { OnErr result ((key : K) × StopsAtKey (CalledAt F.FnMut) keep self.old.keys key self.new.keys
             × Shrinks K.bytes self.new.keys (K.bytes key)) }
         ensures succeeds { HasRoom self.old.nodes (length self.old.keys) → IsOk result }
+        ensures names { KeepsNames K.bytes self.old self.new }
         ensures room { UsesRoom (length self.old.keys - length self.new.keys) self.old.nodes self.new.nodes }
+        ensures leaf_room { FreesLeaves (length self.old.keys - length self.new.keys) self.old.nodes self.new.nodes }
     {
         let _keys = self.iter();
         let mut keys = all_of(&mut self.map);

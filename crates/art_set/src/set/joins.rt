@@ -2,6 +2,7 @@
 ghost use Rattle.std.specs.Prelude.{◌≡◌, ◌≢◌, ◌⊎◌, [], IfOk, IsOk, OnErr, OnOk};
 ghost use Rattle.std.specs.List.{AllZip};
 ghost use Rattle.std.specs.declared.ops.Bound.TheVariants.{Included, Excluded, Unbounded};
+ghost use Rattle.art_operations.specs.Rebuilds.{KeepsLeafRoom};
 ghost use Rattle.art_set.specs.LeafNames.{IsSetClone, IsSetUntouched, KeepsAllNames, KeepsNames};
 ghost use Rattle.art_set.specs.Members.{keys_between, with_keys_put};
 
@@ -11,7 +12,9 @@ use art_map::CloneKey;
 use std::alloc::AllocError;
 
 impl<K: AsBytes, const PREFIX_LEN: usize> TreeSet<K, PREFIX_LEN> {
-    /// Moves the keys whose bytes are not less than the query's into a set of their own, and returns that set.
+    /// Moves the keys whose bytes are not less than the query's into a set of their own, and returns that set. The
+    /// others keep their leaves, and what room there was for leaves stays. If all leave, the nodes go with them, and
+    /// all room.
     ///
     /// Fails if there is no memory for the nodes that the moves need. All of it is allocated first, and the set is
     /// unchanged then.
@@ -33,6 +36,8 @@ impl<K: AsBytes, const PREFIX_LEN: usize> TreeSet<K, PREFIX_LEN> {
         ensures names { OnOk result (KeepsNames K.bytes self.old self.new) }
         ensures err { OnErr result (self.new.keys ≡ self.old.keys) }
         ensures kept { OnErr result (IsSetUntouched self.old self.new) }
+        ensures leaf_room { OnOk result (self.new.keys ≢ [] → KeepsLeafRoom self.old.nodes self.new.nodes) }
+        ensures swapped { IfOk result (λ off. self.new.keys ≡ [] → off ≡ self.old) }
     {
         let alloc = self.alloc;
         let map = self.map.split_off(key)?;

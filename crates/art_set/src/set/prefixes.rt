@@ -1,7 +1,8 @@
 //! The keys that begin with a prefix, and those of a range that is written as Rust's are.
-ghost use Rattle.std.specs.Prelude.{◌≡◌, ◌⊎◌, ◌*◌, ◌≤◌, ℕ, [], length, IfOk, IsOk, OnErr, OnOk};
+ghost use Rattle.std.specs.Prelude.{◌≡◌, ◌⊎◌, ◌+◌, ◌*◌, ◌≤◌, ℕ, [], length, IfOk, IsOk, OnErr, OnOk};
 ghost use Rattle.std.specs.Range.Bound.{bound_map};
-ghost use Rattle.art_arena.specs.arena.Arena.{HasRoom, KeepsRoom, UsesRoom};
+ghost use Rattle.art_nodes.specs.declared.kind.NodeType.TheVariants.{Leaf};
+ghost use Rattle.art_arena.specs.arena.Arena.{HasRoom, HasRoomOf, KeepsRoom, UsesRoom};
 ghost use Rattle.art_arena.specs.tree.Order.{AscendsByKey};
 ghost use Rattle.art_arena.specs.tree.Tenants.{with_front, without_front};
 ghost use Rattle.art_operations.specs.Openings.{OpeningReads};
@@ -87,6 +88,8 @@ impl<K: AsBytes, const PREFIX_LEN: usize> TreeSet<K, PREFIX_LEN> {
         ensures shrinks { OnErr result (ShrinksAtCut K.bytes prefix.now (pairs_of_keys self.old.keys)) }
         ensures succeeds { HasRoom self.old.nodes 1 → IsOk result }
         ensures room { UsesRoom 1 self.old.nodes self.new.nodes }
+        ensures leaf_room { IfOk result (λ done. (n : ℕ) → HasRoom self.old.nodes n
+            → HasRoomOf self.new.nodes Leaf (n + done.pairs)) }
     {
         self.map.remove_prefix(prefix)
     }

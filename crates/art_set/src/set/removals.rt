@@ -1,7 +1,9 @@
 //! Removals: of a key, of the first key, and of the last.
-ghost use Rattle.std.specs.Prelude.{◌≡◌, ◌∷◌, ◌++◌, [], find, IfNone, IfOk, IsOk, MatchOption, OnErr, OnOk};
-ghost use Rattle.std.specs.Bool.{OnFalse};
+ghost use Rattle.std.specs.Prelude.{◌≡◌, ◌∷◌, ◌++◌, [], find, IfNone, IfOk, IsOk, MatchOption, OnErr, OnOk, OnSome};
+ghost use Rattle.std.specs.Bool.{OnFalse, OnTrue};
+ghost use Rattle.art_nodes.specs.declared.kind.NodeType.TheVariants.{Leaf};
 ghost use Rattle.art_arena.specs.arena.Arena.{HasRoom, KeepsRoomOf, UsesRoom};
+ghost use Rattle.art_arena.specs.arena.Rooms.{FreesRoomOf};
 ghost use Rattle.art_arena.specs.declared.ends.End.TheVariants.{First, Last};
 ghost use Rattle.art_arena.specs.tree.Shrinks.{Shrinks};
 ghost use Rattle.art_map.specs.Contents.{has_bytes};
@@ -45,6 +47,7 @@ impl<K: AsBytes, const PREFIX_LEN: usize> TreeSet<K, PREFIX_LEN> {
             × Shrinks K.bytes self.old.keys (Q.bytes key.now)) }
         ensures succeeds { HasRoom self.old.nodes 1 → IsOk result }
         ensures room { UsesRoom 1 self.old.nodes self.new.nodes }
+        ensures leaf_room { IfOk result (λ old. OnSome old (FreesRoomOf Leaf self.old.nodes self.new.nodes)) }
         ensures none_room { IfOk result (λ old. IfNone old (KeepsRoomOf self.old.nodes self.new.nodes)) }
     {
         let pair = self.map.remove_entry(key)?;
@@ -71,6 +74,7 @@ impl<K: AsBytes, const PREFIX_LEN: usize> TreeSet<K, PREFIX_LEN> {
             × Shrinks K.bytes self.old.keys (Q.bytes key.now)) }
         ensures succeeds { HasRoom self.old.nodes 1 → IsOk result }
         ensures room { UsesRoom 1 self.old.nodes self.new.nodes }
+        ensures leaf_room { IfOk result (λ found. OnTrue found (FreesRoomOf Leaf self.old.nodes self.new.nodes)) }
         ensures none_room { IfOk result (λ found. OnFalse found (KeepsRoomOf self.old.nodes self.new.nodes)) }
     {
         let found = self.map.remove(key)?;
@@ -94,6 +98,7 @@ impl<K: AsBytes, const PREFIX_LEN: usize> TreeSet<K, PREFIX_LEN> {
         ensures shrinks { OnErr result (KeyShrinksAtEnd K.bytes First self.old.keys) }
         ensures succeeds { HasRoom self.old.nodes 1 → IsOk result }
         ensures room { UsesRoom 1 self.old.nodes self.new.nodes }
+        ensures leaf_room { IfOk result (λ taken. OnSome taken (FreesRoomOf Leaf self.old.nodes self.new.nodes)) }
         ensures none_room { IfOk result (λ taken. IfNone taken (KeepsRoomOf self.old.nodes self.new.nodes)) }
     {
         let pair = self.map.pop_first()?;
@@ -117,6 +122,7 @@ impl<K: AsBytes, const PREFIX_LEN: usize> TreeSet<K, PREFIX_LEN> {
         ensures shrinks { OnErr result (KeyShrinksAtEnd K.bytes Last self.old.keys) }
         ensures succeeds { HasRoom self.old.nodes 1 → IsOk result }
         ensures room { UsesRoom 1 self.old.nodes self.new.nodes }
+        ensures leaf_room { IfOk result (λ taken. OnSome taken (FreesRoomOf Leaf self.old.nodes self.new.nodes)) }
         ensures none_room { IfOk result (λ taken. IfNone taken (KeepsRoomOf self.old.nodes self.new.nodes)) }
     {
         let pair = self.map.pop_last()?;

@@ -1,7 +1,9 @@
 //! The methods of `OccupiedEntry`.
 ghost use Rattle.std.specs.Prelude.{◌≡◌, Some, IfOk, IsOk, OnErr, OnOk};
 ghost use Rattle.std.specs.Borrow.{sem};
+ghost use Rattle.art_nodes.specs.declared.kind.NodeType.TheVariants.{Leaf};
 ghost use Rattle.art_arena.specs.arena.Arena.{HasRoom, KeepsRoomOf, UsesRoom};
+ghost use Rattle.art_arena.specs.arena.Rooms.{FreesRoomOf};
 ghost use Rattle.art_arena.specs.arena.Shapes.{key_of};
 ghost use Rattle.art_arena.specs.tree.Shrinks.{Shrinks};
 
@@ -146,6 +148,7 @@ impl<'a, K: AsBytes, V, const PREFIX_LEN: usize> OccupiedEntry<'a, K, V, PREFIX_
             (K.bytes (entry_key (Occupied self.entry)))) }
         ensures succeeds { HasRoom self.entry.map.now.nodes 1 → IsOk result }
         ensures room { UsesRoom 1 self.entry.map.now.nodes self.exit.0.now.nodes }
+        ensures leaf_room { OnOk result (FreesRoomOf Leaf self.entry.map.now.nodes self.exit.0.now.nodes) }
     {
         let (_key, value) = self.remove_entry()?;
         Ok(value)
@@ -173,6 +176,7 @@ impl<'a, K: AsBytes, V, const PREFIX_LEN: usize> OccupiedEntry<'a, K, V, PREFIX_
             (K.bytes (entry_key (Occupied self.entry)))) }
         ensures succeeds { HasRoom self.entry.map.now.nodes 1 → IsOk result }
         ensures room { UsesRoom 1 self.entry.map.now.nodes self.exit.0.now.nodes }
+        ensures leaf_room { OnOk result (FreesRoomOf Leaf self.entry.map.now.nodes self.exit.0.now.nodes) }
     {
         let leaf = self.leaf;
         self.map.take_at(leaf)

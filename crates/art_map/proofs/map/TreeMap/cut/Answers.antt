@@ -47,3 +47,6 @@ returns-clause-names g c =
 
 pub returns-clause-room : goal.returns-clause-room
 returns-clause-room g c = rw (← c.self.view_is) c.apply-cut.ensures.room
+
+pub returns-clause-leaf_room : goal.returns-clause-leaf_room
+returns-clause-leaf_room g c = rw (← c.self.view_is) c.apply-cut.ensures.leaf_room

@@ -1,6 +1,8 @@
 use Rattle.art_operations.proofs.NewNodes.{fewer}
-use Rattle.std.proofs.Common.{◌+◌, arith, length, sym, ap, ◌∙◌}
+use Rattle.std.proofs.Common.{◌+◌, arith, length, sym, ap, subst, ◌∙◌}
+use Rattle.art_nodes.specs.declared.kind.NodeType.TheVariants.{Leaf}
 use Rattle.art_arena.proofs.Common.{key_of, begins_with}
+use Rattle.art_arena.specs.arena.Arena.{HasRoomOf}
 use Rattle.art_operations.proofs.Common.{all-but-none}
 use Rattle.art_map.proofs.Terms.{Block}
 use Rattle.art_map.proofs.PrefixBlocks.{none-ready, none-visits}
@@ -24,3 +26,6 @@ returns-in-None-clause-names g c = λ slot key has still. has
 
 pub returns-in-None-clause-room : goal.returns-in-None-clause-room
 returns-in-None-clause-room g c = λ n room. fewer c.args.self.now.nodes n (n + 1) (omega arith) room
+
+pub returns-in-None-clause-leaf_room : goal.returns-in-None-clause-leaf_room
+returns-in-None-clause-leaf_room g c = λ n room. subst (HasRoomOf c.args.self.now.nodes Leaf) (omega arith) room

@@ -5,7 +5,9 @@ use Rattle.art_arena.specs.declared.ends.End.TheVariants.{First}
 use Rattle.art_map.proofs.Terms.{map_of, AddsNoLeaf, IsAsked, asking_by}
 use Rattle.art_map.proofs.Asks.{asked-long, asked-some, taken-long, callable-first, none-left, on-err, one-left, retained-all, retaining-all, retaining-kept, retaining-stopped, retaining-taken}
 use Rattle.art_map.proofs.LeafNames.{then-names}
-use Rattle.art_map.proofs.RoomKept.{UsesOfGone, gone-room, gone-uses, kinds-kept, none-gone, one-gone, same-gone}
+use Rattle.art_operations.specs.Frees.{FreesLeaves}
+use Rattle.art_nodes.specs.declared.kind.NodeType.TheVariants.{Leaf}
+use Rattle.art_map.proofs.RoomKept.{UsesOfGone, gone-frees, gone-room, gone-uses, kinds-kept, none-gone, one-gone, same-gone}
 use Rattle.art_map.proofs.map.TreeMap.drop_others.Goals.{After-take}
 use Rattle.art_map.proofs.map.TreeMap.drop_others.Goals as goal
 
@@ -62,7 +64,8 @@ loop-pairs-preserved g c =
       none_new = asked-taken g (goal.at.loop-pairs-preserved g c).After-take;
       room = one-gone c.args.self.now (map_of c.loop-pairs.pairs).now (map_of c.take.new.self).now c.loop-pairs.invariant.room
           (taken-long (CalledAtPair g.F.FnMut) g.K.AsBytes.bytes (TakesPair g.F.FnMut) c.args.keep c.args.self.now.pairs s a c.loop-pairs.invariant.retaining c.if-ask.ensures.asked c.in_ok-_pair._pair m.left m.pairs taken.left taken.pairs)
-          (λ n room. c.take.ensures.room n (kinds-kept (map_of c.loop-pairs.pairs).now.nodes (map_of c.ask.new.self).now.nodes c.ask.ensures.room (n + 1) room));
+          (λ n room. c.take.ensures.room n (kinds-kept (map_of c.loop-pairs.pairs).now.nodes (map_of c.ask.new.self).now.nodes c.ask.ensures.room (n + 1) room))
+          (λ n room. taken.leaf_room n (c.ask.ensures.room Leaf n room));
       retaining = retaining-taken (CalledAtPair g.F.FnMut) g.K.AsBytes.bytes (TakesPair g.F.FnMut) c.args.keep c.args.self.now.pairs s a c.loop-pairs.invariant.retaining c.if-ask.ensures.asked m refl c.in_ok-_pair._pair taken.left taken.pairs;
     }
 
@@ -103,6 +106,12 @@ returns-clause-room g c =
     let same = sym (c.loop-pairs.invariant.same_map ∙ c.extraction_of_all-pairs.ensures.same_map.0) in
     subst (λ m. UsesRoom (length c.args.self.now.pairs - length m.pairs) c.args.self.now.nodes m.nodes) (sym (end.1 same)) (gone-uses c.args.self.now _ c.loop-pairs.invariant.room)
 
+pub returns-clause-leaf_room : goal.returns-clause-leaf_room
+returns-clause-leaf_room g c =
+    let end = c.self-1.given in
+    let same = sym (c.loop-pairs.invariant.same_map ∙ c.extraction_of_all-pairs.ensures.same_map.0) in
+    subst (λ m. FreesLeaves (length c.args.self.now.pairs - length m.pairs) c.args.self.now.nodes m.nodes) (sym (end.1 same)) (gone-frees c.args.self.now _ c.loop-pairs.invariant.room)
+
 -- what was asked of, and is refused
 refused-room : (g : _) (c : After-take g) → IsAsked (CalledAtPair g.F.FnMut) g.K.AsBytes.bytes First (asking_by c.loop-pairs.pairs c.loop-pairs.keep) false (asking_by c.ask.new.self c.ask.new.pred) → UsesOfGone c.args.self.now (map_of c.ask.new.self).now
 refused-room g c asked =
@@ -116,6 +125,14 @@ returns-in_err-_pair-clause-room g c =
     let same = sym (refused.same_map ∙ c.ask.ensures.same_map ∙ c.loop-pairs.invariant.same_map ∙ c.extraction_of_all-pairs.ensures.same_map.0) in
     let uses = same-gone c.args.self.now (map_of c.ask.new.self).now (map_of c.take.new.self).now (refused-room g (goal.at.returns-in_err-_pair-clause-room g c).After-take c.if-ask.ensures.asked) (ap length refused.err.1) refused.untouched.2 in
     subst (λ m. UsesRoom (length c.args.self.now.pairs - length m.pairs) c.args.self.now.nodes m.nodes) (sym (end.1 same)) (gone-uses c.args.self.now _ uses)
+
+pub returns-in_err-_pair-clause-leaf_room : goal.returns-in_err-_pair-clause-leaf_room
+returns-in_err-_pair-clause-leaf_room g c =
+    let end = c.in_err-_pair.self-in-Break-1-own.given in
+    let refused = c.in_err-_pair.ensures in
+    let same = sym (refused.same_map ∙ c.ask.ensures.same_map ∙ c.loop-pairs.invariant.same_map ∙ c.extraction_of_all-pairs.ensures.same_map.0) in
+    let uses = same-gone c.args.self.now (map_of c.ask.new.self).now (map_of c.take.new.self).now (refused-room g (goal.at.returns-in_err-_pair-clause-leaf_room g c).After-take c.if-ask.ensures.asked) (ap length refused.err.1) refused.untouched.2 in
+    subst (λ m. FreesLeaves (length c.args.self.now.pairs - length m.pairs) c.args.self.now.nodes m.nodes) (sym (end.1 same)) (gone-frees c.args.self.now _ uses)
 
 pub returns-in_err-_pair-clause-succeeds : goal.returns-in_err-_pair-clause-succeeds
 returns-in_err-_pair-clause-succeeds g c = λ room.

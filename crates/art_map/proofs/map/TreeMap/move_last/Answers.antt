@@ -1,8 +1,19 @@
-use Rattle.std.proofs.Common.{sym, subst, ◌∙◌, ◌-◌, ◌*◌, arith}
-use Rattle.art_arena.proofs.Common.{HasRoom, key_of, AscendsByKey}
+use Rattle.std.proofs.Common.{refl, sym, subst, ◌∙◌, ◌+◌, ◌-◌, ◌*◌, arith}
+use Rattle.art_nodes.specs.declared.kind.NodeType.TheVariants.{Leaf}
+use Rattle.art_arena.proofs.Common.{HasRoom, HasRoomOf, key_of, AscendsByKey}
 use Rattle.art_operations.proofs.NewNodes.{fewer}
 use Rattle.art_map.proofs.LeafNames.{then-names}
 use Rattle.art_map.proofs.map.TreeMap.move_last.Goals as goal
+
+pub loop-init : goal.loop-init
+loop-init g c = record {
+  joined = refl;
+  moved = omega arith;
+  none_new = λ slot key has. has;
+  leaf_room = λ n room. subst (HasRoomOf c.args.self.now.nodes Leaf) (omega arith) room;
+  from_room = subst (HasRoom c.args.self.now.nodes) (omega arith) c.requires.from_room;
+  to_room = subst (HasRoom c.args.to.now.nodes) (omega arith) c.requires.to_room;
+}
 
 pub move_pair-requires : goal.move_pair-requires
 move_pair-requires g c =
@@ -30,6 +41,10 @@ loop-preserved g c =
       joined = c.move_pair.ensures.joined ∙ kept.joined;
       moved = omega (arith, moved, one);
       none_new = then-names g.K.AsBytes.bytes c.args.self.now.nodes c.loop.self.nodes c.move_pair.new.self.nodes kept.none_new c.move_pair.ensures.none_new;
+      leaf_room = λ n room. subst (HasRoomOf c.move_pair.new.self.nodes Leaf) (omega arith) (c.move_pair.ensures.leaf_room (n + c.loop.counter) (kept.leaf_room n room));
       from_room = c.move_pair.ensures.from_room _ (subst (HasRoom c.loop.self.nodes) (omega arith) kept.from_room);
       to_room = c.move_pair.ensures.to_room _ (subst (HasRoom c.loop.to.nodes) (omega arith) kept.to_room);
     }
+
+pub returns-clause-leaf_room : goal.returns-clause-leaf_room
+returns-clause-leaf_room g c = λ n room. let kept = c.loop.invariant.leaf_room n room in omega (arith, kept)

@@ -13,3 +13,6 @@ returns-clause-joined g c =
     let at = subst (λ o. MatchOption o (c.args.self.now.pairs ≡ []) (λ pair. c.args.self.now.pairs ≡ c.pop.new.self.pairs ++ pair ∷ [])) c.in-Ok-Some.field-0-is c.in-Ok-Some.ensures.value in
     ap (λ ps. c.pop.new.self.pairs ++ ps) c.in-Ok.ensures.pairs
     ∙ put-joined g.K.AsBytes.bytes (c.in-Ok-Some.key, c.in-Ok-Some.value) c.pop.new.self.pairs c.args.self.now.pairs c.args.to.now.pairs at c.requires.ordered
+
+pub returns-clause-leaf_room : goal.returns-clause-leaf_room
+returns-clause-leaf_room g c = rw c.in-Ok-Some.field-0-is at c.in-Ok-Some.ensures.leaf_room

@@ -31,3 +31,6 @@ returns-clause-shrinks g c =
 
 pub returns-clause-kept_room : goal.returns-clause-kept_room
 returns-clause-kept_room g c = rw (← c.self.view_is) c.prepare.ensures.kept_room
+
+pub returns-clause-room_of : goal.returns-clause-room_of
+returns-clause-room_of g c = rw (← c.self.view_is) c.prepare.ensures.room_of

@@ -79,3 +79,6 @@ returns-in-Ok-None-clause-room g c = rw (← c.self.view_is) c.take_pair.ensures
 
 pub returns-in-Ok-None-clause-none_room : goal.returns-in-Ok-None-clause-none_room
 returns-in-Ok-None-clause-none_room g c = rw (← c.self.view_is) (rw c.in-Ok-None.field-0-is at c.in-Ok-None.ensures.none_room)
+
+pub returns-in-Ok-Some-clause-leaf_room : goal.returns-in-Ok-Some-clause-leaf_room
+returns-in-Ok-Some-clause-leaf_room g c = rw (← c.self.view_is) (rw c.in-Ok-Some.field-0-is at c.in-Ok-Some.ensures.leaf_room)

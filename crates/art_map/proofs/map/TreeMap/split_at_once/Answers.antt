@@ -1,4 +1,5 @@
 use Rattle.std.proofs.Common.{length, sym, ap, subst, ◌∙◌, arith}
+use Rattle.art_nodes.specs.declared.kind.NodeType.TheVariants.{Leaf}
 use Rattle.art_operations.proofs.Common.{HasInnerRoom, same-names}
 use Rattle.art_map.proofs.map.TreeMap.split_at_once.Goals as goal
 
@@ -25,3 +26,6 @@ split_into-requires g c =
 pub returns-clause-none_new : goal.returns-clause-none_new
 returns-clause-none_new g c = λ slot key has.
     same-names g.K.AsBytes.bytes c.reserve_anew.new.self.nodes c.args.self.now.nodes (λ n. sym (c.reserve_anew.ensures.kept.0 n)) slot key (c.split_into.ensures.none_new slot key has)
+
+pub returns-clause-leaf_room : goal.returns-clause-leaf_room
+returns-clause-leaf_room g c = λ n room. c.split_into.ensures.leaf_room n (c.reserve_anew.ensures.kept.2 Leaf n room)

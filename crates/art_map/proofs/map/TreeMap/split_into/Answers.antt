@@ -39,3 +39,6 @@ returns-clause-moved g c =
 
 pub returns-clause-none_new : goal.returns-clause-none_new
 returns-clause-none_new g c = rw (← c.self.view_is) c.cut_last-roots.ensures.names
+
+pub returns-clause-leaf_room : goal.returns-clause-leaf_room
+returns-clause-leaf_room g c = rw (← c.self.view_is) c.cut_last-roots.ensures.leaf_room

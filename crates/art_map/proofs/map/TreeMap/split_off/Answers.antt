@@ -1,4 +1,4 @@
-use Rattle.std.proofs.Common.{◌≡◌, [], refl, sym, ap, ◌∙◌, arith}
+use Rattle.std.proofs.Common.{◌≡◌, [], length, refl, sym, ap, ◌∙◌, arith}
 use Rattle.std.proofs.lemmas.Bool.Decides.{nat_tests}
 use Rattle.std.proofs.lemmas.List.{append-nil}
 use Rattle.art_map.proofs.Joins.{all-from, below, from, last-moved, parts-long}
@@ -44,3 +44,22 @@ returns-clause-pairs g c = (moved g (goal.at.returns-clause-pairs g c).In_ok-off
 pub returns-clause-names : goal.returns-clause-names
 returns-clause-names g c = λ slot key has still.
     kept-names g.K.AsBytes.bytes c.args.self.now c.split_last.new.self c.name_leaves.ensures c.name_leaves-2.ensures c.in_ok-off.ensures.none_new slot key has still
+
+pub returns-then-count-len-clause-leaf_room : goal.returns-then-count-len-clause-leaf_room
+returns-then-count-len-clause-leaf_room g c = λ some. absurd (some (ap (λ m. m.pairs) c.swap.ensures.x_after ∙ c.with_prefix_len-off.ensures))
+
+pub returns-then-count-len-clause-swapped : goal.returns-then-count-len-clause-swapped
+returns-then-count-len-clause-swapped g c = λ none. c.swap.ensures.y_after
+
+pub returns-clause-leaf_room : goal.returns-clause-leaf_room
+returns-clause-leaf_room g c = λ some. c.in_ok-off.ensures.leaf_room
+
+pub returns-clause-swapped : goal.returns-clause-swapped
+returns-clause-swapped g c = λ none.
+    let count = c.count_from-count in
+    let parts = parts-long g.K.AsBytes.bytes c.as_bytes.result.now c.args.self.now.pairs count.ensures.ordered in
+    let counted = count.ensures.count in
+    let len = c.len.ensures in
+    let long = c.in_ok-off.ensures.moved in
+    let gone = ap length none in
+    absurd (omega (arith, nat_tests, c.if-count-len.false, parts, counted, len, long, gone))

@@ -64,3 +64,6 @@ returns-in-Err-clause-none_new g c = rw (← c.self.view_is) (same-names g.K.AsB
 
 pub returns-in-Ok-clause-room : goal.returns-in-Ok-clause-room
 returns-in-Ok-clause-room g c = rw (← c.self.view_is) c.take_leaf.ensures.room
+
+pub returns-in-Ok-clause-leaf_room : goal.returns-in-Ok-clause-leaf_room
+returns-in-Ok-clause-leaf_room g c = rw (← c.self.view_is) c.in-Ok.ensures.leaf_room

@@ -1,4 +1,5 @@
 use Rattle.std.proofs.Common.{sym, subst, arith}
+use Rattle.art_nodes.specs.declared.kind.NodeType.TheVariants.{Leaf}
 use Rattle.art_arena.proofs.Common.{pairs_of}
 use Rattle.art_operations.proofs.Common.{HasInnerRoom, HoldsInOrder, inner-kept, inner-kept-of}
 use Rattle.art_map.proofs.CutLeaves.{all-before, joined, left-long, left-order, long-before, moved-long, moved-order, pairs-left-long}
@@ -72,3 +73,6 @@ returns-clause-names g c =
     then-names g.K.AsBytes.bytes c.args.arena.now c.after_leaves-cursor.new.arena c.rebuild-left.new.arena (same-leaf-names-back g.K.AsBytes.bytes c.args.arena.now c.after_leaves-cursor.new.arena c.after_leaves-cursor.ensures.leaves)
     (then-names g.K.AsBytes.bytes c.after_leaves-cursor.new.arena c.move_leaves-first.new.from c.rebuild-left.new.arena (kept-leaf-names g.K.AsBytes.bytes c.move_leaves-first.new.from c.after_leaves-cursor.new.arena c.move_leaves-first.ensures.none_new)
     (same-leaf-names-back g.K.AsBytes.bytes c.move_leaves-first.new.from c.rebuild-left.new.arena c.rebuild-left.ensures.leaves))
+
+pub returns-clause-leaf_room : goal.returns-clause-leaf_room
+returns-clause-leaf_room g c = λ n room. c.rebuild-left.ensures.leaf_room n (c.move_leaves-first.ensures.room_of Leaf n (c.after_leaves-cursor.ensures.room_of Leaf n room))

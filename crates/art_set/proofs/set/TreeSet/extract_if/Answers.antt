@@ -17,6 +17,7 @@ returns g c =
       record {
         writes_back = tt;
         keys = ap (λ m. keys_of m.pairs) made.same_map.1 ∙ keys;
+        nodes = ap (λ m. m.nodes) made.same_map.1 ∙ c.map_mut-map.ensures.nodes;
         left = left;
         asks = refl;
         callable = subst (CallableOnEachKey (CalledAt g.F.FnMut) (TakesAt g.F.FnMut) c.args.pred) (sym left) c.requires.callable;

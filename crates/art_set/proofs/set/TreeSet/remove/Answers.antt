@@ -2,7 +2,7 @@ use Rattle.std.proofs.Common.{ap, ◌∙◌}
 use Rattle.std.specs.Prelude.{is_some}
 use Rattle.std.proofs.lemmas.Map.Made.{is_some-lookup}
 use Rattle.art_map.proofs.Common.{on-err}
-use Rattle.art_set.proofs.KeyViews.{has-key, kept-names, keys-without, none-found, shrinking}
+use Rattle.art_set.proofs.KeyViews.{has-key, kept-names, keys-without, none-found, shrinking, some-found}
 use Rattle.art_set.proofs.set.TreeSet.remove.Goals as goal
 
 pub returns-in_err-found-clause-shrinks : goal.returns-in_err-found-clause-shrinks
@@ -27,3 +27,6 @@ returns-clause-room g c = rw (← c.self.view_is) c.in_ok-found.ensures.room
 
 pub returns-clause-none_room : goal.returns-clause-none_room
 returns-clause-none_room g c = rw (← c.self.view_is) (none-found _ c.in_ok-found.found c.is_some.result c.is_some.ensures c.in_ok-found.ensures.none_room)
+
+pub returns-clause-leaf_room : goal.returns-clause-leaf_room
+returns-clause-leaf_room g c = rw (← c.self.view_is) (some-found _ c.in_ok-found.found c.is_some.result c.is_some.ensures c.in_ok-found.ensures.leaf_room)

@@ -43,3 +43,6 @@ returns-clause-kept_room g c = rw (← c.self.view_is) c.remove_prefix.ensures.k
 
 pub returns-clause-room : goal.returns-clause-room
 returns-clause-room g c = rw (← c.self.view_is) c.remove_prefix.ensures.room
+
+pub returns-clause-leaf_room : goal.returns-clause-leaf_room
+returns-clause-leaf_room g c = rw (← c.self.view_is) c.remove_prefix.ensures.leaf_room

@@ -1,12 +1,14 @@
 use Rattle.std.proofs.Common.{true, false, Ok, Err, length, refl, sym, ap, subst, ◌∙◌}
 use Rattle.std.specs.Fn.{CalledAt, TakesAt}
 use Rattle.std.specs.Map.{keys_of}
-use Rattle.art_arena.proofs.Common.{Shrinks}
+use Rattle.art_arena.proofs.Common.{Shrinks, key_of}
 use Rattle.art_map.proofs.Common.{on-err, left_of, map_of}
 use Rattle.art_map.proofs.RoomKept.{UsesOfGone, none-gone, one-gone, same-gone}
+use Rattle.art_operations.proofs.Common.{HasKey, KeepsLeavesOf, same-names}
 use Rattle.art_set.proofs.Terms.{StopsAtKey}
 use Rattle.art_set.proofs.AskedKeys.{callable-next, retained-all, retaining-all, retaining-kept, retaining-stopped, retaining-taken, some-left, taken-long}
-use Rattle.art_set.proofs.AskedPairs.{asking_by, contents-back, contents_of, first-left, first-passed, none-first, one-less, refused-key, room-keys, taken-key, uses-keys}
+use Rattle.art_set.proofs.AskedPairs.{asking_by, contents-back, contents_of, first-left, first-passed, frees-keys, none-first, one-less, refused-key, room-keys, taken-key, then-kept, uses-keys}
+use Rattle.art_set.proofs.KeyViews.{kept-names}
 use Rattle.art_set.proofs.set.TreeSet.retain.Goals as goal
 
 pub loop-key-init : goal.loop-key-init
@@ -15,6 +17,7 @@ loop-key-init g c =
     record {
       same_map = refl;
       room = none-gone (contents_of c.args.self.now) _ (all.same_map.1 ∙ contents-back c.self.inside.map ∙ ap contents_of c.self.view_is);
+      names = subst (λ a. KeepsLeavesOf g.K.AsBytes.bytes (map_of c.all_of-keys.result).now.pairs a (map_of c.all_of-keys.result).now.nodes) (ap (λ m. m.nodes) all.same_map.1 ∙ ap (λ m. m.nodes) c.self.view_is) (λ slot key has still. has);
       retaining = retaining-all (CalledAt g.F.FnMut) g.K.AsBytes.bytes (TakesAt g.F.FnMut) c.args.keep c.args.self.now.keys
           (asking_by c.all_of-keys.result c.args.keep) (ap (λ m. keys_of m.pairs) all.same_map.1 ∙ ap (λ m. m.keys) c.self.view_is)
           (ap keys_of all.left ∙ ap (λ m. m.keys) c.self.view_is) refl c.iter-keys.ensures.ordered c.requires;
@@ -34,6 +37,7 @@ loop-key-preserved-then-keep g c =
     record {
       same_map = ap (λ r. r.ghost_name) c.pass_front.ensures.same ∙ c.loop-key.invariant.same_map;
       room = subst (λ r. UsesOfGone (contents_of c.args.self.now) r.now) (sym c.pass_front.ensures.same) c.loop-key.invariant.room;
+      names = subst (λ r. KeepsLeavesOf g.K.AsBytes.bytes r.now.pairs c.args.self.now.nodes r.now.nodes) (sym c.pass_front.ensures.same) c.loop-key.invariant.names;
       retaining = retaining-kept (CalledAt g.F.FnMut) g.K.AsBytes.bytes (TakesAt g.F.FnMut) c.args.keep c.args.self.now.keys s c.loop-key.invariant.retaining k (asking_by c.pass_front.new.self c.keep.new.self)
           (first-passed k (left_of c.loop-key.keys) (left_of c.pass_front.new.self) first c.pass_front.ensures.left) call (ap (λ r. keys_of r.now.pairs) c.pass_front.ensures.same);
     }
@@ -72,7 +76,8 @@ loop-key-preserved g c =
     record {
       same_map = kept.same_map ∙ c.loop-key.invariant.same_map;
       room = one-gone (contents_of c.args.self.now) (map_of c.loop-key.keys).now (map_of c.take_front.new.self).now c.loop-key.invariant.room
-          (one-less ps qs (taken-long (CalledAt g.F.FnMut) g.K.AsBytes.bytes (TakesAt g.F.FnMut) c.args.keep c.args.self.now.keys s c.loop-key.invariant.retaining k (keys_of new) (keys_of qs) (first-passed k old new first (p, kept.left)) taken.1)) c.take_front.ensures.room;
+          (one-less ps qs (taken-long (CalledAt g.F.FnMut) g.K.AsBytes.bytes (TakesAt g.F.FnMut) c.args.keep c.args.self.now.keys s c.loop-key.invariant.retaining k (keys_of new) (keys_of qs) (first-passed k old new first (p, kept.left)) taken.1)) c.take_front.ensures.room kept.leaf_room;
+      names = then-kept g.K.AsBytes.bytes ps qs (g.K.AsBytes.bytes p.0) c.args.self.now.nodes (map_of c.loop-key.keys).now.nodes (map_of c.take_front.new.self).now.nodes c.loop-key.invariant.names kept.pairs kept.names;
       retaining = retaining-taken (CalledAt g.F.FnMut) g.K.AsBytes.bytes (TakesAt g.F.FnMut) c.args.keep c.args.self.now.keys s c.loop-key.invariant.retaining k (asking_by c.take_front.new.self c.keep.new.self)
           (first-passed k old new first (p, kept.left)) call taken.1;
     }
@@ -98,3 +103,23 @@ returns-in_err-_pair-clause-room g c =
 
 pub returns-clause-room : goal.returns-clause-room
 returns-clause-room g c = uses-keys c.args.self.now (map_of c.loop-key.keys).now c.loop-key.invariant.room
+
+pub returns-in_err-_pair-clause-leaf_room : goal.returns-in_err-_pair-clause-leaf_room
+returns-in_err-_pair-clause-leaf_room g c =
+    let refused = c.in_err-_pair.ensures in
+    frees-keys c.args.self.now (map_of c.take_front.new.self).now
+    (same-gone (contents_of c.args.self.now) (map_of c.loop-key.keys).now (map_of c.take_front.new.self).now c.loop-key.invariant.room (ap length refused.err.1) refused.untouched.2)
+
+pub returns-clause-leaf_room : goal.returns-clause-leaf_room
+returns-clause-leaf_room g c = frees-keys c.args.self.now (map_of c.loop-key.keys).now c.loop-key.invariant.room
+
+pub returns-in_err-_pair-clause-names : goal.returns-in_err-_pair-clause-names
+returns-in_err-_pair-clause-names g c =
+    let refused = c.in_err-_pair.ensures in
+    let was = (map_of c.loop-key.keys).now.nodes in
+    let is = (map_of c.take_front.new.self).now.nodes in
+    kept-names g.K.AsBytes.bytes (map_of c.take_front.new.self).now.pairs c.args.self.now.nodes is
+    (λ slot key has still. same-names g.K.AsBytes.bytes was is refused.untouched.0 slot key (c.loop-key.invariant.names slot key has (subst (HasKey (key_of g.K.AsBytes.bytes) key) refused.err.1 still)))
+
+pub returns-clause-names : goal.returns-clause-names
+returns-clause-names g c = kept-names g.K.AsBytes.bytes (map_of c.loop-key.keys).now.pairs c.args.self.now.nodes (map_of c.loop-key.keys).now.nodes c.loop-key.invariant.names

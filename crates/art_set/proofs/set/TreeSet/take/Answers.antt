@@ -1,7 +1,7 @@
 use Rattle.std.proofs.Common.{ap, ◌∙◌}
 use Rattle.art_map.proofs.Common.{on-err}
 use Rattle.art_set.proofs.Terms.{key_if_some}
-use Rattle.art_set.proofs.KeyViews.{found, has-key, kept-names, keys-without, none-key, shrinking}
+use Rattle.art_set.proofs.KeyViews.{found, has-key, kept-names, keys-without, none-key, shrinking, some-key}
 use Rattle.art_set.proofs.set.TreeSet.take.Goals as goal
 
 pub returns-in_err-pair-clause-shrinks : goal.returns-in_err-pair-clause-shrinks
@@ -26,3 +26,6 @@ returns-clause-room g c = rw (← c.self.view_is) c.in_ok-pair.ensures.room
 
 pub returns-clause-none_room : goal.returns-clause-none_room
 returns-clause-none_room g c = rw (← c.self.view_is) (none-key _ c.in_ok-pair.pair c.key_of.result c.key_of.ensures c.in_ok-pair.ensures.none_room)
+
+pub returns-clause-leaf_room : goal.returns-clause-leaf_room
+returns-clause-leaf_room g c = rw (← c.self.view_is) (some-key _ c.in_ok-pair.pair c.key_of.result c.key_of.ensures c.in_ok-pair.ensures.leaf_room)

@@ -4,7 +4,7 @@ use Rattle.art_map.proofs.Terms.{asking, extract_map, map_of, AddsNoLeaf, asking
 use Rattle.art_map.proofs.Asks.{callable-next, extracts-later, extracts-none, extracts-now, fewer-passed, fewer-taken, none-left, one-left}
 use Rattle.art_arena.proofs.Common.{KeepsRoomOf}
 use Rattle.art_map.proofs.LeafNames.{then-names}
-use Rattle.art_map.proofs.RoomKept.{kept-uses, then-uses}
+use Rattle.art_map.proofs.RoomKept.{kept-frees, kept-uses, taken-frees, taken-uses}
 use Rattle.art_map.proofs.map.extract_if.ExtractIf.extract.Goals.{After-ask}
 use Rattle.art_map.proofs.map.extract_if.ExtractIf.extract.Goals as goal
 
@@ -32,8 +32,11 @@ returns-then-ask-clause-steps g c =
       c.loop-end.invariant.later (Some c.take.result) (asking_by c.take.new.self c.ask.new.pred)
           (extracts-now (CalledAtPair g.F.FnMut) g.K.AsBytes.bytes c.args.end (asking c.loop-end.self) (asking_by c.ask.new.self c.ask.new.pred) c.if-ask.ensures.asked (asking_by c.take.new.self c.ask.new.pred) refl c.take.result
           taken.left taken.pairs taken.err taken.shrinks),
-      then-names g.K.AsBytes.bytes (extract_map c.args.self.now).now.nodes (map_of c.ask.new.self).now.nodes (map_of c.take.new.self).now.nodes (asked-names g (goal.at.returns-then-ask-clause-steps g c).After-ask) taken.none_new,
-      then-uses (extract_map c.args.self.now).now.nodes (map_of c.ask.new.self).now.nodes (map_of c.take.new.self).now.nodes 1 (asked-room g (goal.at.returns-then-ask-clause-steps g c).After-ask) taken.room,
+      (
+        then-names g.K.AsBytes.bytes (extract_map c.args.self.now).now.nodes (map_of c.ask.new.self).now.nodes (map_of c.take.new.self).now.nodes (asked-names g (goal.at.returns-then-ask-clause-steps g c).After-ask) taken.none_new,
+        taken-uses (extract_map c.args.self.now).now.nodes (map_of c.ask.new.self).now (map_of c.take.new.self).now (asked-room g (goal.at.returns-then-ask-clause-steps g c).After-ask) c.take.result taken.room taken.untouched,
+        taken-frees (extract_map c.args.self.now).now.nodes (map_of c.ask.new.self).now (map_of c.take.new.self).now (asked-room g (goal.at.returns-then-ask-clause-steps g c).After-ask) c.take.result taken.leaf_room taken.untouched,
+      ),
     )
 
 pub returns-then-ask-clause-goes : goal.returns-then-ask-clause-goes
@@ -69,6 +72,9 @@ returns-clause-steps g c =
     let s = asking c.loop-end.self in (
       c.loop-end.invariant.same_map,
       c.loop-end.invariant.later None s (extracts-none (CalledAtPair g.F.FnMut) g.K.AsBytes.bytes c.args.end s (none-left s.left c.is_empty.ensures c.loop-end-test.false)),
-      c.loop-end.invariant.none_new,
-      kept-uses (extract_map c.args.self.now).now.nodes (extract_map c.loop-end.self).now.nodes c.loop-end.invariant.room,
+      (
+        c.loop-end.invariant.none_new,
+        kept-uses (extract_map c.args.self.now).now.nodes (extract_map c.loop-end.self).now.nodes c.loop-end.invariant.room,
+        kept-frees (extract_map c.args.self.now).now.nodes (extract_map c.loop-end.self).now.nodes c.loop-end.invariant.room,
+      ),
     )

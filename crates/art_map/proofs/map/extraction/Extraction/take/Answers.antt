@@ -1,7 +1,9 @@
 use Rattle.std.proofs.Common.{sym, subst}
 use base.Stored.{Coded-set, coded_list, coded×}
+use Rattle.art_nodes.specs.declared.kind.NodeType.TheVariants.{Leaf}
 use Rattle.art_arena.proofs.Common.{HasRoom, key_of, Shrinks}
 use Rattle.art_arena.specs.arena.Arena.{UsesRoom}
+use Rattle.art_arena.specs.arena.Rooms.{FreesRoomOf}
 use Rattle.art_map.proofs.Terms.{IsUntouched, left_of, AddsNoLeaf, KeepsLeaves}
 use Rattle.art_map.proofs.Extractions.{either-some, empty-some, left-taken}
 use Rattle.art_map.proofs.map.extraction.Extraction.take.Goals as goal
@@ -51,3 +53,6 @@ returns-in-Err-clause-room g c = subst (λ m. UsesRoom 1 m.now.nodes c.take_at.n
 
 pub returns-in-Err-clause-succeeds : goal.returns-in-Err-clause-succeeds
 returns-in-Err-clause-succeeds g c = λ room. c.in-Err.ensures.succeeds (subst (λ m. HasRoom m.now.nodes 1) (sym c.next_leaf-leaf.ensures.same) room)
+
+pub returns-in-Ok-clause-leaf_room : goal.returns-in-Ok-clause-leaf_room
+returns-in-Ok-clause-leaf_room g c = subst (λ m. FreesRoomOf Leaf m.now.nodes c.take_at.new.self.nodes) c.next_leaf-leaf.ensures.same c.in-Ok.ensures.leaf_room

@@ -1,10 +1,15 @@
-use Rattle.std.proofs.Common.{◌<◌, length, true, false, None, refl, ap, ◌∙◌, arith}
+use Rattle.std.proofs.Common.{◌<◌, length, true, false, None, refl, sym, ap, subst, ◌∙◌, arith}
 use Rattle.std.specs.Fn.{CalledAt, TakesAt}
 use Rattle.std.specs.Map.{keys_of}
+use Rattle.art_arena.proofs.Common.{KeepsRoomOf}
+use Rattle.art_arena.specs.arena.Arena.{UsesRoom}
+use Rattle.art_operations.specs.Frees.{FreesLeaves}
 use Rattle.art_map.proofs.Common.{left_of, map_of}
-use Rattle.art_set.proofs.Terms.{AskingKeys, asking_keys}
+use Rattle.art_map.specs.LeafNames.{AddsNoLeaf}
+use Rattle.art_map.proofs.RoomKept.{kept-frees, kept-uses, taken-frees, taken-uses}
+use Rattle.art_set.proofs.Terms.{AskingKeys, asking_keys, extract_set}
 use Rattle.art_set.proofs.AskedKeys.{callable-after, callable-next, extracts-later, extracts-none, extracts-now}
-use Rattle.art_set.proofs.AskedPairs.{fewer-left, first-left, first-passed, none-first, refused-key, taken-key}
+use Rattle.art_set.proofs.AskedPairs.{fewer-left, first-left, first-passed, none-first, refused-key, taken-as-key, taken-key}
 use Rattle.art_set.proofs.iterators.extract_if.ExtractIfIterator.next.Goals as goal
 
 pub pred-requires : goal.pred-requires
@@ -22,12 +27,20 @@ returns-then-pred-clause-steps g c =
     let qs = (map_of c.take_front.new.self).now.pairs in
     let first = first-left (c.in-Some.key.now, c.in-Some.field-0-1.now) old c.in-Some.ensures in
     let call : CalledAt g.F.FnMut s.pred c.in-Some.key.now true c.pred.new.self = record { shown = c.in-Some.key; shows = refl; called = c.if-pred.ensures } in
+    let kept = subst (λ r. KeepsRoomOf (extract_set c.args.self.now).now.nodes r.now.nodes) (sym c.loop-key.invariant.same) (λ kind n room. room) in
     let taken = c.take_front.ensures in (
-      taken.same_map ∙ c.loop-key.invariant.same_map,
+      taken.same_map ∙ ap (λ r. r.ghost_name) c.loop-key.invariant.same,
       c.loop-key.invariant.later _ _
           (extracts-now (CalledAt g.F.FnMut) g.K.AsBytes.bytes (asking_keys s) record { keys = keys_of qs; left = keys_of new; asks = c.pred.new.self } c.in-Some.key.now _ first call c.key_of.result
           (taken-key g.K.AsBytes.bytes c.in-Some.key.now old new ps qs first c.take_front.result c.key_of.result c.key_of.ensures.ok c.key_of.ensures.outcome taken.left taken.pairs)
           (refused-key g.K.AsBytes.bytes c.in-Some.key.now old new ps qs first c.take_front.result c.key_of.result c.key_of.ensures.outcome taken.err taken.shrinks)),
+      (
+        subst (λ r. AddsNoLeaf g.K.AsBytes.bytes r.now (map_of c.take_front.new.self).now) c.loop-key.invariant.same taken.none_new,
+        subst (λ k. UsesRoom k (extract_set c.args.self.now).now.nodes (map_of c.take_front.new.self).now.nodes) (taken-as-key c.take_front.result c.key_of.result c.key_of.ensures.outcome)
+            (taken-uses (extract_set c.args.self.now).now.nodes (extract_set s).now (map_of c.take_front.new.self).now kept c.take_front.result taken.room taken.untouched),
+        subst (λ k. FreesLeaves k (extract_set c.args.self.now).now.nodes (map_of c.take_front.new.self).now.nodes) (taken-as-key c.take_front.result c.key_of.result c.key_of.ensures.outcome)
+            (taken-frees (extract_set c.args.self.now).now.nodes (extract_set s).now (map_of c.take_front.new.self).now kept c.take_front.result taken.leaf_room taken.untouched),
+      ),
     )
 
 pub returns-then-pred-clause-goes : goal.returns-then-pred-clause-goes
@@ -59,7 +72,7 @@ loop-key-preserved g c =
     let all = ap length passed in
     let fewer = c.loop-key.invariant.fewer in
     record {
-      same_map = ap (λ r. r.ghost_name) c.pass_front.ensures.same ∙ c.loop-key.invariant.same_map;
+      same = c.pass_front.ensures.same ∙ c.loop-key.invariant.same;
       can = callable-after (CalledAt g.F.FnMut) (TakesAt g.F.FnMut) s.pred c.pred.new.self c.in-Some.key.now (asking_keys s).left _ passed c.loop-key.invariant.can _ call;
       fewer = omega (arith, all, fewer);
       later = λ r t e. c.loop-key.invariant.later r t
@@ -68,7 +81,13 @@ loop-key-preserved g c =
 
 pub returns-clause-steps : goal.returns-clause-steps
 returns-clause-steps g c =
-    let s = c.loop-key.self in (
-      c.loop-key.invariant.same_map,
+    let s = c.loop-key.self in
+    let kept = subst (λ r. KeepsRoomOf (extract_set c.args.self.now).now.nodes r.now.nodes) (sym c.loop-key.invariant.same) (λ kind n room. room) in (
+      ap (λ r. r.ghost_name) c.loop-key.invariant.same,
       c.loop-key.invariant.later None (asking_keys s) (extracts-none (CalledAt g.F.FnMut) g.K.AsBytes.bytes (asking_keys s) (none-first (left_of s.extraction) c.in_default.ensures)),
+      (
+        subst (λ r. AddsNoLeaf g.K.AsBytes.bytes (extract_set c.args.self.now).now r.now) (sym c.loop-key.invariant.same) (λ slot key has. has),
+        kept-uses (extract_set c.args.self.now).now.nodes (extract_set s).now.nodes kept,
+        kept-frees (extract_set c.args.self.now).now.nodes (extract_set s).now.nodes kept,
+      ),
     )

@@ -7,7 +7,7 @@ use Rattle.art_set.proofs.iterators.extract_if.ExtractIfIterator.next.Given as g
 -- what a call does from here on is what it does
 abbrev pub invariant-loop-key : goal.invariant-loop-key
 invariant-loop-key g l = record {
-  same_map : (extract_set l.self).ghost_name ≡ (extract_set l.initial.self).ghost_name;
+  same : extract_set l.self ≡ extract_set l.initial.self;
   can : CanExtractKeys g.F.FnMut l.self;
   fewer : length (asking_keys l.self).left ≤ length (asking_keys l.initial.self).left;
   later : (r : Option (Result g.row.K.Denot AllocError)) (t : AskingKeys g.row.K.Denot g.row.F.Denot)

@@ -1,0 +1,13 @@
+use Rattle.std.proofs.Common.{Result, Ok, Err, subst}
+use Rattle.std.specs.Prelude.{OnErr}
+use Rattle.art_map.proofs.Terms.{IsFoundPart}
+use Rattle.art_map.proofs.map.TreeMap.block_with_prefix.Goals as goal
+
+on-err : {A E Q : Type 0} (r : Result A E) → Q → OnErr r Q
+on-err (Ok a) q = tt
+on-err (Err e) q = q
+
+pub returns-in_err-ready-in-Some-clause-shrinks : goal.returns-in_err-ready-in-Some-clause-shrinks
+returns-in_err-ready-in-Some-clause-shrinks g c =
+    let part = subst (IsFoundPart g.K.AsBytes.bytes g.row.PREFIX_LEN c.args.self.now c.args.prefix.now) c.in-Some.is c.part_with_prefix-found.ensures.part in
+    on-err c.from_residual.result (c.in_err-ready-in-Some.ensures.shrinks c.args.prefix.now part)
