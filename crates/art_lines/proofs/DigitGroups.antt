@@ -15,16 +15,16 @@ use Rattle.art_lines.specs.Digits.{IsValue, AreValues, are_digits, paired}
 
 -- ---- the values of digits, lane by lane
 
-abbrev plus : ℕ → ℕ → ℕ
+abbrev pub plus : ℕ → ℕ → ℕ
 plus a b = (a + b) % 2 ^ 8
 
-abbrev minus : ℕ → ℕ → ℕ
+abbrev pub minus : ℕ → ℕ → ℕ
 minus a b = (a + (2 ^ 8 - b)) % 2 ^ 8
 
-abbrev times : ℕ → ℕ → ℕ
+abbrev pub times : ℕ → ℕ → ℕ
 times a b = a * b % 2 ^ 8
 
-abbrev below : ℕ → ℕ → ℕ
+abbrev pub below : ℕ → ℕ → ℕ
 below a b = cond (ltb a b) 255 0
 
 abbrev lesser : ℕ → ℕ → ℕ

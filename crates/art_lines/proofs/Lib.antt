@@ -10,6 +10,7 @@ pub mod FullKeys
 pub mod DigitPairs
 pub mod Spelling
 pub mod DigitGroups
+pub mod Decimals
 pub mod Buffering
 pub mod Terms
 pub mod Common

@@ -8,7 +8,7 @@ use Rattle.std.proofs.lemmas.List.{take_rest, length-take}
 use Rattle.std.specs.List.{refill}
 use Rattle.std.specs.Prelude.{MatchBool, is_ok}
 use Rattle.std.proofs.Math.Seq.{take-append_seam, drop-append_seam}
-use Rattle.std.specs.Str.Parse.{digits_value, digits_value_after, AllDigits}
+use Rattle.std.specs.Str.Parse.{digits_value, AllDigits}
 use Rattle.std.specs.Char.{digit_value}
 use Rattle.std.proofs.lemmas.Bool.{lt-leb, le-leb, leb-true, true≢false, cases_lt, ltb-true, lt-ltb, le-ltb}
 use Rattle.std.proofs.lemmas.Iterator.Adapters.{option_map_id}
@@ -120,35 +120,27 @@ natural_other text i h other = no_natural (2 ^ 63 + 1) text (λ n lt e.
     let digit = digit_at (decimal n) i numeral.0.1 within in
     other (subst (λ t. (48 ≤ get_or t i 0) × (get_or t i 0 ≤ 57)) (sym e) (let low = digit.0 in let high = digit.1 in (omega arith, omega arith))))
 
-digit_is : (b : ℕ) → 48 ≤ b → b ≤ 57 → digit_value b ≡ b - 48
+pub digit_is : (b : ℕ) → 48 ≤ b → b ≤ 57 → digit_value b ≡ b - 48
 digit_is b low high = let below : b < 58 = omega arith in rw (le-ltb b 48 low, lt-ltb b 58 below) refl
 
-all_digits : (text : List ℕ) → ((k : ℕ) → k < length text → (48 ≤ get_or text k 0) × (get_or text k 0 ≤ 57)) → AllDigits 10 text
+pub all_digits : (text : List ℕ) → ((k : ℕ) → k < length text → (48 ≤ get_or text k 0) × (get_or text k 0 ≤ 57)) → AllDigits 10 text
 all_digits [] h = tt
 all_digits (x ∷ xs) h =
     let first = h 0 (omega arith) in let low = first.0 in let high = first.1 in let value = digit_is x low high in
     (omega arith, all_digits xs (λ k lt. h (suc k) (omega arith)))
 
--- the value of all digits, at the end of them
-digits_end : (text : List ℕ) (i n : ℕ) → length text ≤ i → digits_value_after 10 n (drop i text) ≡ digits_value 10 text → n ≡ digits_value 10 text
-digits_end text i n all e = ap (digits_value_after 10 n) (sym (drop_of_length-le text all)) ∙ e
-
 -- digits with no 0 before them show their value, where it is below the limit
-pub natural_read : (text : List ℕ) (i n : ℕ) → 0 < length text → (get_or text 0 0 ≡ 48 → length text ≡ 1) → length text ≤ i
-    → ((k : ℕ) → k < i → (48 ≤ get_or text k 0) × (get_or text k 0 ≤ 57)) → digits_value_after 10 n (drop i text) ≡ digits_value 10 text → n < 2 ^ 63 + 1
-    → Some n ≡ natural_in (2 ^ 63 + 1) text
+pub natural_read : (text : List ℕ) (n : ℕ) → 0 < length text → (get_or text 0 0 ≡ 48 → length text ≡ 1) → ((k : ℕ) → k < length text → (48 ≤ get_or text k 0) × (get_or text k 0 ≤ 57))
+    → digits_value 10 text ≡ n → n < 2 ^ 63 + 1 → Some n ≡ natural_in (2 ^ 63 + 1) text
 unfolding natural_in
-natural_read text i n some front all digits e small =
-    let is = digits_end text i n all e in
+natural_read text n some front digits is small =
     let wide : digits_value 10 text < 2 ^ 64 = omega arith in let within : digits_value 10 text < 2 ^ 63 + 1 = omega arith in
-    let same = decimal-digits_value (numerals_by_value (AllDigits 10) tells_digits) text (all_digits text (λ k lt. digits k (omega arith))) some front wide in
-    rw (lt-ltb (digits_value 10 text) (2 ^ 63 + 1) within, (bytes_eq-Decides text (decimal (digits_value 10 text))).1 (sym same)) (ap (λ m. Some m) is)
+    let same = decimal-digits_value (numerals_by_value (AllDigits 10) tells_digits) text (all_digits text digits) some front wide in
+    rw (lt-ltb (digits_value 10 text) (2 ^ 63 + 1) within, (bytes_eq-Decides text (decimal (digits_value 10 text))).1 (sym same)) (ap (λ m. Some m) (sym is))
 
-pub natural_wide : (text : List ℕ) (i n : ℕ) → length text ≤ i → digits_value_after 10 n (drop i text) ≡ digits_value 10 text → 2 ^ 63 < n → None ≡ natural_in (2 ^ 63 + 1) text
+pub natural_wide : (text : List ℕ) (n : ℕ) → digits_value 10 text ≡ n → 2 ^ 63 < n → None ≡ natural_in (2 ^ 63 + 1) text
 unfolding natural_in
-natural_wide text i n all e h =
-    let is = digits_end text i n all e in
-    rw (le-ltb (digits_value 10 text) (2 ^ 63 + 1) (omega arith)) refl
+natural_wide text n is h = rw (le-ltb (digits_value 10 text) (2 ^ 63 + 1) (omega arith)) refl
 
 -- a tenant is one that is below the limit
 pub tenant_none : (text : List ℕ) → None ≡ natural_in (2 ^ 63 + 1) text → None ≡ tenant_in text

@@ -2,7 +2,7 @@
 use Rattle.std.proofs.Common.{◌≡◌, ℕ, List, [], ◌∷◌, refl, ap, sym, subst, ◌∙◌, true, false, Bool, Some, None, Option, inl, inr}
 use Rattle.std.specs.Prelude.{option_copied, option_map}
 use Rattle.std.specs.Borrow.{Bor}
-use Rattle.art_lines.proofs.Terms.{Fields, Shape, Nothing, fields_of, one_in, two_in, tenant_alone_in, fields_in, command_by, ◌>>=◌, fields_after, IsRead, FieldsFor, Row, row, shape_in, made_in, row_of_word, shape_of, fields_in_place, command_of_row, command_with}
+use Rattle.art_lines.proofs.Terms.{Fields, Shape, Nothing, fields_of, one_in, two_in, tenant_alone_in, fields_in, command_by, ◌>>=◌, fields_after, HasNoFirst, IsRead, FieldsFor, Row, row, shape_in, made_in, row_of_word, shape_of, fields_in_place, command_of_row, command_with}
 use Rattle.art_lines.specs.declared.command.word.Word.{Word}
 use Rattle.art_lines.specs.Reading.{tenant_in}
 use Rattle.art_lines.proofs.LastField.{ReadsOneField, one_or_more, no_tenant}
@@ -44,18 +44,57 @@ two_last {A} {B} read then_read stops t k v = elim (one_or_more v) [
     nothing (Some n) (Some a) q h = rw h refl
     nothing o p q h = refl
 
+-- where no tenant stands first, nothing is read; nor where nothing of the kind stands second, or nothing at all
+no_tenant_and : {A : Type 0} (o : Option ℕ) (p : Option A) → None ≡ o → None ≡ one_from o p
+no_tenant_and None p h = refl
+no_tenant_and (Some n) p h = cc h
+
+no_tenant_and_two : {A B : Type 0} (o : Option ℕ) (p : Option A) (q : Option B) → None ≡ o → None ≡ two_from o p q
+no_tenant_and_two None p q h = refl
+no_tenant_and_two (Some n) p q h = cc h
+
+no_second_and : {A B : Type 0} (o : Option ℕ) (p : Option A) (q : Option B) → None ≡ p → None ≡ two_from o p q
+no_second_and None p q h = refl
+no_second_and (Some n) None q h = refl
+no_second_and (Some n) (Some a) q h = cc h
+
+pub none_first : {A : Type 0} (text : List ℕ) (read : List ℕ → Option A) → HasNoFirst tenant_in text → None ≡ one_in read (fields_of text)
+none_first {A} text read h = go (fields_of text) refl
+  where
+    go : (l : List (List ℕ)) → fields_of text ≡ l → None ≡ one_in read l
+    go [] e = refl
+    go (t ∷ []) e = refl
+    go (t ∷ k ∷ []) e = no_tenant_and (tenant_in t) (read k) (h t k [] e)
+    go (t ∷ k ∷ j ∷ l) e = refl
+
+pub none_first_of_two : {A B : Type 0} (text : List ℕ) (read : List ℕ → Option A) (then_read : List ℕ → Option B) → HasNoFirst tenant_in text → None ≡ two_in read then_read (fields_of text)
+none_first_of_two {A} {B} text read then_read h = go (fields_of text) refl
+  where
+    go : (l : List (List ℕ)) → fields_of text ≡ l → None ≡ two_in read then_read l
+    go [] e = refl
+    go (t ∷ []) e = refl
+    go (t ∷ k ∷ []) e = refl
+    go (t ∷ k ∷ v ∷ []) e = no_tenant_and_two (tenant_in t) (read k) (then_read v) (h t k (v ∷ []) e)
+    go (t ∷ k ∷ v ∷ j ∷ l) e = refl
+
+pub none_second : {A B : Type 0} (text t rest : List ℕ) (read : List ℕ → Option A) (then_read : List ℕ → Option B) → fields_of text ≡ t ∷ fields_of rest
+    → HasNoFirst read rest → None ≡ two_in read then_read (fields_of text)
+none_second {A} {B} text t rest read then_read split h = rw split (go (fields_of rest) refl)
+  where
+    go : (l : List (List ℕ)) → fields_of rest ≡ l → None ≡ two_in read then_read (t ∷ l)
+    go [] e = refl
+    go (k ∷ []) e = refl
+    go (k ∷ v ∷ []) e = no_second_and (tenant_in t) (read k) (then_read v) (h k v [] e)
+    go (k ∷ v ∷ j ∷ l) e = refl
+
+pub one_second : {A B : Type 0} (text t rest : List ℕ) (read : List ℕ → Option A) (then_read : List ℕ → Option B) → fields_of text ≡ t ∷ fields_of rest
+    → fields_of rest ≡ rest ∷ [] → None ≡ two_in read then_read (fields_of text)
+one_second text t rest read then_read split one = rw split (rw one refl)
+
 -- one after the tenant, from its two fields, where the tenant stays as it is while the other is read
 module _ (text t k : List ℕ) (split : fields_of text ≡ t ∷ fields_of k) {A : Type 0} (read : List ℕ → Option A) (stops : ReadsOneField read) where
   one_fields : one_in read (t ∷ k ∷ []) ≡ one_in read (fields_of text)
   one_fields = one_last read stops t k ∙ ap (one_in read) (sym split)
-
-  pub one_not_read : (b : Bool) (n : ℕ) → IsRead b n (tenant_in t) → b ≡ false → None ≡ one_in read (fields_of text)
-  one_not_read b n h e = go b (tenant_in t) h e ∙ one_fields
-    where
-      go : (b : Bool) (o : Option ℕ) → IsRead b n o → b ≡ false → None ≡ one_from o (read k)
-      go b None h e = refl
-      go true o h e = cc
-      go false o h e = cc
 
   pub one_read : (b d : Bool) (n m : ℕ) (a : A) → IsRead b n (tenant_in t) → b ≡ true → m ≡ n → IsRead d a (read k) → IsRead d (m, a) (one_in read (fields_of text))
   one_read b d n m a h e same last = rw (← one_fields) (go b d (tenant_in t) (read k) h e last)
@@ -69,14 +108,6 @@ module _ (text t k : List ℕ) (split : fields_of text ≡ t ∷ fields_of k) {A
 module _ (text t k v : List ℕ) (split : fields_of text ≡ t ∷ k ∷ fields_of v) {A B : Type 0} (read : List ℕ → Option A) (then_read : List ℕ → Option B) (stops : ReadsOneField then_read) where
   two_fields : two_in read then_read (t ∷ k ∷ v ∷ []) ≡ two_in read then_read (fields_of text)
   two_fields = two_last read then_read stops t k v ∙ ap (two_in read then_read) (sym split)
-
-  pub tenant_not_read : (b : Bool) (n : ℕ) → IsRead b n (tenant_in t) → b ≡ false → None ≡ two_in read then_read (fields_of text)
-  tenant_not_read b n h e = go b (tenant_in t) h e ∙ two_fields
-    where
-      go : (b : Bool) (o : Option ℕ) → IsRead b n o → b ≡ false → None ≡ two_from o (read k) (then_read v)
-      go b None h e = refl
-      go true o h e = cc
-      go false o h e = cc
 
   pub middle_not_read : (b : Bool) (a : A) → IsRead b a (read k) → b ≡ false → None ≡ two_in read then_read (fields_of text)
   middle_not_read b a h e = go b (tenant_in t) (read k) h e ∙ two_fields

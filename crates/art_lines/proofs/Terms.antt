@@ -1,7 +1,8 @@
 -- The words of this crate that its proofs and those above name, from one place.
 pub use Rattle.art_lines.specs.Commands.{Command, Spells, audit, del, drop, dump, fields_of, find, get, list, ndel, nget, nput, nput_words, nspan, of_tenant, over, put, put_words, span, words_of}
+pub use Rattle.art_lines.specs.Decimals.{AreFirstDigits, IsDigit, IsDigitAt, pairs_shown}
 pub use Rattle.art_lines.specs.Gathered.{IsHead, IsPartTaken, Puts, head_of}
-pub use Rattle.art_lines.specs.InPlace.{IsRead, fields_after}
+pub use Rattle.art_lines.specs.InPlace.{HasNoFirst, IsFirst, IsRead, fields_after}
 pub use Rattle.art_lines.specs.Keys.{full_key}
 pub use Rattle.art_lines.specs.Lines.{lines_of, lines_so_far, pieces_of}
 pub use Rattle.art_lines.specs.Parsed.{asks_all, fields_in_place, bound_in_place, changes, command_of_row, command_with, drops, key_in_place, looks_up, meaning, number_in_place, tenant_in_place, value_in_place}

@@ -11,4 +11,5 @@ pub mod InPlace
 pub mod Parsed
 pub mod Gathered
 pub mod Ends
+pub mod Decimals
 pub mod Digits

@@ -6,6 +6,7 @@ ghost use Rattle.art_lines.specs.Commands.{Command as AskedCommand, Spells};
 ghost use Rattle.art_lines.specs.Reading.{command_of};
 ghost use Rattle.art_lines.specs.Parsed.{meaning, command_with, looks_up, changes};
 
+mod decimals;
 mod digits;
 pub mod fields;
 pub mod shapes;

@@ -80,7 +80,12 @@ fn write_wide<W: Sink>(sink: &mut W, number: u128) -> Result<(), WriteFailed>
 }
 
 /// Writes a line of a word and bytes. It leaves in one piece if the bytes are few.
-pub fn write_found<W: Sink>(sink: &mut W, word: &[u8], value: &[u8]) -> Result<(), WriteFailed>
+#[inline(never)]
+pub fn write_found<W: Sink, const N: usize>(
+    sink: &mut W,
+    word: &[u8; N],
+    value: &[u8],
+) -> Result<(), WriteFailed>
     requires open { W.has_failed sink.old ≡ false }
     requires short { length word.now ≤ 4 }
     ensures { Writes result (W.taken sink.old) (W.taken sink.new)

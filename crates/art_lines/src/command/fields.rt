@@ -1,11 +1,12 @@
 //! The fields of a line: a tenant, bytes, and signed numbers, read in place of what was there.
 ghost use Rattle.std.specs.Prelude.{◌≡◌, ◌+◌, ◌/◌, ◌^◌, ◌<◌, ◌≤◌, length, take, drop, IsSome, true, FitsSigned};
-ghost use Rattle.std.specs.Int.{from_be_bytes, w32, w64};
+ghost use Rattle.std.specs.Int.{from_be_bytes, to_be_bytes, w32, w64};
 ghost use Rattle.art_bytes.specs.Laws.{pair_key};
 ghost use Rattle.art_lines.specs.Keys.{full_key as full_key_of};
-ghost use Rattle.art_lines.specs.Reading.{natural_in, tenant_in, negated as negated_by, number_in, bytes_in};
+ghost use Rattle.art_lines.specs.Reading.{tenant_in, number_in, bytes_in};
 ghost use Rattle.art_lines.specs.InPlace.{IsRead};
 
+use crate::command::decimals::{parse_number, parse_tenant};
 use crate::command::digits::decode_digits;
 use arrayvec::ArrayVec;
 use art_bytes::FixedBytes;
@@ -139,18 +140,26 @@ impl Fields {
         let Some(tenant) = parse_tenant(field) else {
             return false;
         };
-        let front = tenant.to_be_bytes();
-        let full = self.full_key.as_mut_slice();
-        full[0] = front[0];
-        full[1] = front[1];
-        full[2] = front[2];
-        full[3] = front[3];
-        let value = self.value.as_mut_slice();
-        value[0] = front[0];
-        value[1] = front[1];
-        value[2] = front[2];
-        value[3] = front[3];
+        self.set_tenant(tenant);
         true
+    }
+
+    /// Sets the tenant.
+    #[inline(always)]
+    pub(crate) fn set_tenant(&mut self, tenant: u32)
+        ensures { tenant_in_place self.new ≡ tenant }
+    {
+        set_front(&mut self.full_key, tenant);
+        set_front(&mut self.value, tenant);
+    }
+
+    /// Sets the number.
+    #[inline(always)]
+    pub(crate) fn set_number(&mut self, number: i64)
+        ensures number { number_in_place self.new ≡ number }
+        ensures tenant { tenant_in_place self.new ≡ tenant_in_place self.old }
+    {
+        self.number = number;
     }
 
     /// Reads the key, after the tenant that is there. It returns false if the field is read as no bytes.
@@ -200,6 +209,19 @@ impl Fields {
     }
 }
 
+/// Sets the first four bytes to those of a tenant.
+#[inline(always)]
+fn set_front(bytes: &mut ArrayVec<u8, FULL_KEY>, tenant: u32)
+    requires { 4 ≤ length bytes.old.items }
+    ensures front { take 4 bytes.new.items ≡ to_be_bytes w32 tenant }
+    ensures kept { drop 4 bytes.new.items ≡ drop 4 bytes.old.items }
+    ensures length { length bytes.new.items ≡ length bytes.old.items }
+{
+    if let Some(front) = bytes.as_mut_slice().first_chunk_mut() {
+        *front = tenant.to_be_bytes();
+    }
+}
+
 /// Four bytes of the tenant, the highest first, and eight of the number with its top bit flipped. They ascend by tenant
 /// and then by number.
 fn key_of_number(tenant: u32, number: i64) -> [u8; NUMBER_KEY]
@@ -224,64 +246,6 @@ fn split_of(full: &[u8]) -> &[u8]
     full
 }
 
-/// The natural number of at most 2^63 that the field is read as.
-#[inline(always)]
-fn parse_natural(field: &[u8]) -> Option<u64>
-    ensures natural { result ≡ natural_in (2 ^ 63 + 1) field.now }
-    ensures some { IsSome result → 0 < length field.now }
-{
-    if field.is_empty() {
-        return None;
-    }
-    if field.len() > 19 {
-        return None;
-    }
-    if field.len() > 1 && field[0] == b'0' {
-        return None; // `01`
-    }
-    let mut number: u64 = 0;
-    for digit in field {
-        if !digit.is_ascii_digit() {
-            return None;
-        }
-        number = number * 10 + u64::from(*digit - b'0');
-    }
-    if number > 1 << 63 {
-        return None;
-    }
-    Some(number)
-}
-
-/// The tenant that the field is read as.
-#[inline(always)]
-fn parse_tenant(field: &[u8]) -> Option<u32>
-    ensures tenant { result ≡ tenant_in field.now }
-    ensures some { IsSome result → 0 < length field.now }
-{
-    let natural = parse_natural(field)?;
-    u32::try_from(natural).ok()
-}
-
-/// The number that the field is read as.
-fn parse_number(field: &[u8]) -> Option<i64>
-    ensures { result ≡ number_in field.now }
-{
-    let (first, rest) = field.split_first()?;
-    if *first == b'-' {
-        return negated(parse_natural(rest)?);
-    }
-    i64::try_from(parse_natural(field)?).ok()
-}
-
-/// The number below 0 by so much, if that is not 0.
-fn negated(natural: u64) -> Option<i64>
-    requires { natural ≤ 2 ^ 63 }
-    ensures { result ≡ negated_by natural }
-{
-    let less = natural.checked_sub(1)?;
-    Some(-1 - less as i64)
-}
-
 /// Decodes the bytes that the field is read as, after some at the front, which stay. Returns false if the field is read
 /// as no bytes.
 #[inline(always)]
@@ -303,10 +267,23 @@ fn decode_bytes<const N: usize>(field: &[u8], bytes: &mut ArrayVec<u8, N>, front
     if field.len() % 2 != 0 {
         return false;
     }
-    // As many bytes as are decoded; what they are does not matter, since they are decoded over. Where the field before
-    // had as many, nothing is moved.
-    bytes.truncate(front + len);
-    let more = front + len - bytes.len();
-    let _ = bytes.try_extend_from_slice(&field[..more]);
+    set_length(bytes, front, front + len, field);
     decode_digits(field, &mut bytes.as_mut_slice()[front..])
+}
+
+/// Makes bytes as many as these, and keeps those at the front. What the others are does not matter: some of the filler
+/// where they were fewer. Where they were as many, nothing is moved.
+#[inline(always)]
+fn set_length<const N: usize>(bytes: &mut ArrayVec<u8, N>, front: usize, len: usize, filler: &[u8])
+    requires front_in { (front ≤ length bytes.old.items) × (front ≤ len) }
+    requires fits { len ≤ N }
+    requires filler { len ≤ front + length filler.now }
+    ensures length { length bytes.new.items ≡ len }
+    ensures kept { take front bytes.new.items ≡ take front bytes.old.items }
+{
+    bytes.truncate(len);
+    let held = bytes.len();
+    if held < len {
+        let _ = bytes.try_extend_from_slice(&filler[..len - held]);
+    }
 }

@@ -10,6 +10,7 @@ ghost use Rattle.art_lines.specs.Reading.{fields_in};
 ghost use Rattle.art_lines.specs.InPlace.{fields_after, IsRead};
 ghost use Rattle.art_lines.specs.Parsed.{fields_in_place};
 
+use crate::command::decimals::{split_number, split_tenant};
 use crate::command::fields::Fields;
 use crate::command::word::Shape;
 use memchr::memchr;
@@ -41,12 +42,10 @@ fn read_key(text: &[u8], fields: &mut Fields) -> bool
     requires { length text.now ≤ 4092 }
     ensures { IsRead result (fields_in_place Key fields.new) (fields_in Key (fields_of text.now)) }
 {
-    let Some((tenant, key)) = split_once(text) else {
+    let Some((tenant, key)) = split_tenant(text) else {
         return false;
     };
-    if !fields.read_tenant(tenant) {
-        return false;
-    }
+    fields.set_tenant(tenant);
     fields.read_key(key)
 }
 
@@ -55,12 +54,13 @@ fn read_key_and_value(text: &[u8], fields: &mut Fields) -> bool
     requires { length text.now ≤ 4092 }
     ensures { IsRead result (fields_in_place KeyAndValue fields.new) (fields_in KeyAndValue (fields_of text.now)) }
 {
-    let Some((tenant, key, value)) = split_twice(text) else {
+    let Some((tenant, rest)) = split_tenant(text) else {
         return false;
     };
-    if !fields.read_tenant(tenant) {
+    let Some((key, value)) = split_once(rest) else {
         return false;
-    }
+    };
+    fields.set_tenant(tenant);
     if !fields.read_key(key) {
         return false;
     }
@@ -71,12 +71,10 @@ fn read_key_and_value(text: &[u8], fields: &mut Fields) -> bool
 fn read_number(text: &[u8], fields: &mut Fields) -> bool
     ensures { IsRead result (fields_in_place Number fields.new) (fields_in Number (fields_of text.now)) }
 {
-    let Some((tenant, number)) = split_once(text) else {
+    let Some((tenant, number)) = split_tenant(text) else {
         return false;
     };
-    if !fields.read_tenant(tenant) {
-        return false;
-    }
+    fields.set_tenant(tenant);
     fields.read_number(number)
 }
 
@@ -86,15 +84,14 @@ fn read_number_and_value(text: &[u8], fields: &mut Fields) -> bool
     ensures { IsRead result (fields_in_place NumberAndValue fields.new)
         (fields_in NumberAndValue (fields_of text.now)) }
 {
-    let Some((tenant, number, value)) = split_twice(text) else {
+    let Some((tenant, rest)) = split_tenant(text) else {
         return false;
     };
-    if !fields.read_tenant(tenant) {
+    let Some((number, value)) = split_number(rest) else {
         return false;
-    }
-    if !fields.read_number(number) {
-        return false;
-    }
+    };
+    fields.set_tenant(tenant);
+    fields.set_number(number);
     fields.read_value(value)
 }
 
@@ -102,15 +99,14 @@ fn read_number_and_value(text: &[u8], fields: &mut Fields) -> bool
 fn read_two_numbers(text: &[u8], fields: &mut Fields) -> bool
     ensures { IsRead result (fields_in_place TwoNumbers fields.new) (fields_in TwoNumbers (fields_of text.now)) }
 {
-    let Some((tenant, low, high)) = split_twice(text) else {
+    let Some((tenant, rest)) = split_tenant(text) else {
         return false;
     };
-    if !fields.read_tenant(tenant) {
+    let Some((low, high)) = split_number(rest) else {
         return false;
-    }
-    if !fields.read_number(low) {
-        return false;
-    }
+    };
+    fields.set_tenant(tenant);
+    fields.set_number(low);
     fields.read_bound(high)
 }
 
@@ -138,18 +134,4 @@ fn split_once(text: &[u8]) -> Option<(&[u8], &[u8])>
         Some(i) => Some((&text[..i], &text[i + 1..])),
         None => None,
     }
-}
-
-/// Returns what stands before the first space, between it and the second one, and after that.
-#[inline(always)]
-fn split_twice(text: &[u8]) -> Option<(&[u8], &[u8], &[u8])>
-    ensures fields { IfSome result (λ parts.
-        fields_of text.now ≡ parts.0.now ∷ parts.1.now ∷ fields_of parts.2.now) }
-    ensures shorter { IfSome result (λ parts.
-        length parts.0.now + 1 + length parts.1.now + 1 + length parts.2.now ≡ length text.now) }
-    ensures few { IfNone result (length (fields_of text.now) < 3) }
-{
-    let (first, rest) = split_once(text)?;
-    let (second, third) = split_once(rest)?;
-    Some((first, second, third))
 }

@@ -1,8 +1,7 @@
-use Rattle.std.proofs.Common.{◌≡◌, ℕ, ◌+◌, ◌/◌, ◌-◌, List, length, take, drop, ◌∙◌, ap, Some, arith}
+use Rattle.std.proofs.Common.{◌≡◌, ℕ, ◌/◌, List, length, take, drop, ◌∙◌, ap, Some, arith}
 use Rattle.std.specs.Str.{bytes_eq}
 use Rattle.std.proofs.lemmas.List.{length-take-le}
 use Rattle.art_lines.proofs.Parsing.{bytes_dash, bytes_short, bytes_odd, decoded, drop_taken}
-use Rattle.art_lines.proofs.Parsing.{on_ok}
 use Rattle.art_lines.proofs.command.fields.decode_bytes.Goals as goal
 
 pub returns-then-eq-clause-read : goal.returns-then-eq-clause-read
@@ -21,13 +20,9 @@ returns-clause-read g c =
     let field : List ℕ = c.args.field.now in let front : ℕ = c.args.front in let half : ℕ = length field / 2 in
     let fits = c.requires.fits in let inside = c.requires.front_in in let some = c.if-len-eq0.false in
     let other = c.if-eq.ensures ∙ ap (bytes_eq field) c.as_slice.ensures in
-    let more : ℕ = front + half - c.len.result in
-    let cut = c.truncate-2.ensures.len in let had = c.len.ensures.value in
-    let added : length (take more field) ≡ more = length-take-le more field (omega arith) in
-    let e = c.try_extend_from_slice.ensures in
-    let filled = on_ok c.try_extend_from_slice.result (e.variant.1 (omega arith)) e.len in
+    let long = c.set_length.ensures.length in
     let lent = ap length c.as_mut_slice.ensures.value in
     let kept : length (take front c.as_mut_slice.result.now) ≡ front = length-take-le front c.as_mut_slice.result.now (omega arith) in
     let all = c.decode_digits.auto.bytes in
-    decoded front c.try_extend_from_slice.new.self.items c.as_mut_slice.result.now c.decode_digits.new.bytes _ kept (omega arith)
+    decoded front c.set_length.new.bytes.items c.as_mut_slice.result.now c.decode_digits.new.bytes _ kept (omega arith)
     field c.decode_digits.result c.decode_digits.ensures other (omega arith)
