@@ -1,7 +1,8 @@
 -- An audit of pairs is one of their records.
-use Rattle.std.proofs.Common.{◌≡◌, ℕ, ◌+◌, List, [], ◌∷◌, ◌++◌, length, map, refl, ap, sym, ◌∙◌, Bool, cond}
+use Rattle.std.proofs.Common.{◌≡◌, ℕ, ◌+◌, ◌<◌, ◌≤◌, ◌^◌, arith, List, [], ◌∷◌, ◌++◌, length, map, refl, ap, sym, ◌∙◌, Bool, cond}
 use Rattle.std.specs.Prelude.{nat_eq, bytes_eq, count_by, decimal}
 use Rattle.std.specs.List.{AllByRecursion, cons_option, fold}
+use Rattle.std.proofs.lemmas.Fmt.{length-decimal-le}
 use Rattle.std.proofs.lemmas.List.{length-map}
 use Rattle.art_bytes.proofs.Common.{common_prefix}
 use Rattle.art_arena.proofs.Common.{distinct, neighbour_fronts, fronts_of, byte_after, bytes_after, width_of, fronts_with}
@@ -63,3 +64,7 @@ count_parts tree s =
     ∙ ap (λ t. tree ++ (32 ∷ (decimal s.num_leaf ++ (32 ∷ t)))) (line_more b c (d ∷ e ∷ f ∷ []))
     ∙ ap (λ t. tree ++ (32 ∷ t)) (line_more a b (c ∷ d ∷ e ∷ f ∷ []))
     ∙ line_more (name tree) a (b ∷ c ∷ d ∷ e ∷ f ∷ [])
+
+-- a count has twenty digits at most
+pub count_short : (count : ℕ) → count < 2 ^ 64 → length (decimal count) ≤ 20
+count_short count small = length-decimal-le 20 count (omega arith) (omega arith) small

@@ -7,6 +7,7 @@
 //! prefetched: if a line between changes a tree, a later path may have been prefetched in vain.
 ghost use Rattle.std.specs.Prelude.{◌≡◌, ◌≤◌, ◌<◌, ◌+◌, [], IfSome, IsTrue, drop, length, option_map, take, ◌++◌, map};
 ghost use Rattle.std.specs.List.{sum_by};
+ghost use Rattle.std.specs.Prelude.{if◌then◌else◌};
 ghost use Rattle.art_arena.specs.arena.Visited.{count_of};
 ghost use Rattle.art_lines.specs.Lines.{whole_lines_of};
 ghost use Rattle.art_lines.specs.Parsed.{command_with};
@@ -62,7 +63,9 @@ pub(crate) struct Roots {
 
 impl Roots {
     /// That of the map of numbers, or that of the map of keys.
-    pub(crate) fn of(&self, number: bool) -> Option<OpaqueNodePtr> {
+    pub(crate) fn of(&self, number: bool) -> Option<OpaqueNodePtr>
+        ensures { result ≡ (if number then self.now.numbers else self.now.keys) }
+    {
         if number { self.numbers } else { self.keys }
     }
 }

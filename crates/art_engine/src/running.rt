@@ -225,6 +225,7 @@ pub fn flushed<W: Write>(
     writer: &mut ToWriter<W>,
 ) -> Result<(), RunFault>
     ensures kept { IfErr done (λ fault. result ≡ Err fault) }
+    ensures left_alone { OnErr done (writer.new ≡ writer.old) }
     ensures write { OnOk done (IfErr result (λ fault. fault ≡ RunFault.Write)) }
     ensures exact { OnOk done (is_err result ≡ has_write_failed writer.new) }
     ensures flushes { OnOk done (has_write_failed writer.old ≡ false

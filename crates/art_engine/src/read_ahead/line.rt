@@ -1,6 +1,6 @@
 //! A line that is parsed before its turn, and how far the path of its key is descended.
 ghost use Rattle.std.specs.Prelude.{◌≡◌, ◌+◌, ◌<◌, ◌≤◌, true, IsTrue, IfSome, drop, length, option_map};
-ghost use Rattle.std.specs.Prelude.{Some, nat_eq};
+ghost use Rattle.std.specs.Prelude.{Some, if◌then◌else◌, nat_eq};
 ghost use Rattle.art_arena.specs.arena.Visited.{count_of};
 ghost use Rattle.art_arena.specs.arena.Descents.{GoesOn};
 ghost use Rattle.std.specs.List.{starts_with};
@@ -128,6 +128,8 @@ impl Line {
     /// Reads a line that is short. Its path begins at the root of a map that is given, if any.
     pub(crate) fn read(&mut self, text: &[u8], roots: &Roots)
         ensures none { self.new.read ≡ 0 }
+        ensures start { 0 < self.new.left → (self.new.depth ≡ 0)
+            × ((if self.new.of_number then roots.now.numbers else roots.now.keys) ≡ Some self.new.node) }
         ensures text { length text.now ≤ 256 → self.new.text.items ≡ text.now }
     {
         self.text.clear();
