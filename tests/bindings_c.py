@@ -1,7 +1,8 @@
 #!/usr/bin/env python3
 """The library for C, as ./lib makes it: examples, scripts at random against a model, threads, names, and want of memory.
 
-    tests/bindings_c.py [--of FOLDER]   FOLDER: where libartmap.a, libartmap.so and artmap.h stand; else ./lib makes them
+    tests/bindings_c.py [--of FOLDER] [--quick]   FOLDER: where libartmap.a, libartmap.so and artmap.h stand; else ./lib
+                                                  makes them; --quick: beside no second library, which is to be proved
 The examples are compiled with -Wall -Wextra -Werror, and run alone, under valgrind and with the address sanitizer. A line
 for each case that fails; the last is 'N passed, M failed'.
 """
@@ -22,7 +23,7 @@ WARNINGS = ["-Wall", "-Wextra", "-Werror", "-g"]
 EXAMPLES = ("films", "routes")
 STEPS, SCRIPTS = 400, 40
 CALLS = 37  # of tests/bindings_refused.c
-TAKE_NO_MEMORY = {2, 14, 24, 25, 26, 27, 28, 29, 30, 34}
+TAKE_NO_MEMORY = {2, 14, 19, 24, 25, 26, 27, 28, 29, 30, 34}
 COPY_A_KEY_IN_CONFLICT = {21, 23}  # where memory for it is refused, the conflict is told all the same
 LAY_OUT = {10, 18, 35, 36}  # a map is frozen out of order, and keeps room, where memory for the rest is refused
 # A library that is no part of this repository. It asks for memory, and gives it back.
@@ -125,7 +126,7 @@ def example(name, of, room):
         told(f"{name} with the sanitizer", (ran.returncode, ran.stdout) == (0, wanted), ran.stderr[:2000])
 
 
-def names(of, room):
+def names(of, room, is_quick):
     """No other name is seen than those of the header, and none is missing; the library links beside others."""
     with open(f"{of}/artmap.h", encoding="utf-8") as file:
         wanted = sorted(set(re.findall(r"^(?:artmap_code|void|size_t|bool|const char \*) ?(artmap_\w+)\(", file.read(), re.M)))
@@ -135,8 +136,9 @@ def names(of, room):
     soname = re.findall(r"SONAME.*\[(.*)\]", run(["readelf", "-d", f"{of}/libartmap.so"]).stdout)
     told("the name in the shared library", soname == ["libartmap.so.0"], soname)
     passes("beside functions of the toolchain's names", "bindings_names", of, room)
-    beside = [second(f"{room}/second"), f"{quick.kit()}/c/liblibc_c.a"]
-    passes("beside a second library of the toolchain", "bindings_names", of, room, "-DSECOND", *beside)
+    if not is_quick:
+        beside = [second(f"{room}/second"), f"{quick.kit()}/c/liblibc_c.a"]
+        passes("beside a second library of the toolchain", "bindings_names", of, room, "-DSECOND", *beside)
 
 
 def second(top):
@@ -180,14 +182,15 @@ def refused(of, room):
 
 
 def main():
-    of = cases.library(cases.given(__doc__, "--of=FOLDER", words=0))
+    given = cases.given(__doc__, "--of=FOLDER", "--quick", words=0)
+    of = cases.library(given)
     with cases.folder() as room:
         for name in EXAMPLES:
             example(name, of, room)
         passes("NULL with a length of 0", "bindings_null", of, room, "-fsanitize=address,undefined")
         passes("the header in C++", "bindings_names", of, room, language="c++")
         passes("eight threads on a frozen map", "bindings_threads", of, room, "-fsanitize=thread", "-pthread")
-        names(of, room)
+        names(of, room, "--quick" in given)
         refused(of, room)
     lib = model.loaded(f"{of}/libartmap.so")
     texts(lib, of)

@@ -1,8 +1,9 @@
 #!/usr/bin/env python3
 """The crate for Rust (bindings/rust) over the library that ./lib makes: its tests, its examples, and want of memory.
 
-    tests/bindings_rust.py [--of FOLDER] [PART ..]   FOLDER: where libartmap.a and artmap.h stand; else out, where ./lib
-                                                     makes them if a source is newer
+    tests/bindings_rust.py [--of FOLDER] [--quick] [PART ..]   FOLDER: where libartmap.a and artmap.h stand; else out,
+                                                     where ./lib makes them if a source is newer; --quick: fewer calls
+                                                     at random
 The parts are the functions of this script, from `declared` to `without_library`; all, if none is named.
 Cargo builds below out/cargo, without the network. A line for each case; the last is 'N passed, M failed'.
 """
@@ -18,10 +19,10 @@ from cases import TOP, read
 CRATE = f"{TOP}/bindings/rust"
 EXAMPLES = ("films", "paths", "sizes")
 CALLS = 31  # of examples/refused.rs
-TAKE_NO_MEMORY = {5, 9, 20, 21}
-NEVER_FAIL = {1, 19}  # (a stored key's value is set in its place; a walk goes on in the room that it has)
+TAKE_NO_MEMORY = {1, 5, 9, 20, 21}  # (a stored key's value is set in its place)
+NEVER_FAIL = {19}  # (a walk goes on in the room that it has)
 SANITIZED = ("--lib", "--test", "differential", "--test", "panics", "--test", "map", "--test", "keys")
-SANITIZED_CALLS = 200_000  # of tests/differential.rs, which makes a million without the sanitizer
+SANITIZED_CALLS = 200_000  # of tests/differential.rs, with the sanitizer and in --quick; else it makes a million
 TYPES = {"artmap_words *": "*mut Handle", "const void *": "*const u8", "void *": "*mut u8", "size_t *": "*mut usize",
          "size_t ": "usize", "uint32_t ": "u32", "uint64_t ": "u64", "uint64_t *": "*mut u64", "bool ": "bool",
          "const artmap_span *": "*const RawSpan", "const artmap_words_pair *": "*const Pair"}
@@ -230,11 +231,14 @@ def without_library(env, room):
 
 
 def main():
-    given = cases.given(__doc__, "--of=FOLDER", words=1 << 20)
+    given = cases.given(__doc__, "--of=FOLDER", "--quick", words=1 << 20)
     if not shutil.which("cargo"):
         cases.cannot("cargo is not on the PATH: install Rust's toolchain")
     of, target = cases.library(given), f"{TOP}/out/cargo"
     env = {**os.environ, "ARTMAP_LIB_DIR": of, "CARGO_TARGET_DIR": target, "CARGO_TERM_COLOR": "never"}
+    # (what only debuggers and later builds need is left out)
+    env |= {"CARGO_PROFILE_DEV_DEBUG": "0", "CARGO_INCREMENTAL": "0"}
+    env |= {"ARTMAP_CALLS": str(SANITIZED_CALLS)} if "--quick" in given else {}
     with cases.folder() as room:
         parts = {"declared": lambda: declared(of), "tests": lambda: tests(env), "tidy": lambda: tidy(env),
                  "examples": lambda: examples(env, f"{target}/debug/examples"),

@@ -1,18 +1,21 @@
 //! Pairs are put in and taken out.
-ghost use Rattle.std.specs.Prelude.{◌≡◌, MatchResult};
+ghost use Rattle.std.specs.Prelude.{◌≡◌, [], IfErr, IfOk, MatchResult};
+ghost use Rattle.art_operations.specs.Pairs.{CanPut, with_pair_put};
 ghost use Rattle.art_c.specs.Calls.{IsBytesPut, IsPrefixRemoved, GoesIn, IsPutRefused, IsRemoved, IsWordPut};
-ghost use Rattle.art_c.specs.Calls.{IsWordRemoved};
+ghost use Rattle.art_c.specs.Calls.{IsWordRemoved, stored_value, whole};
+ghost use Rattle.art_c.specs.declared.code.Code.TheVariants.{NoMemory};
 
 use crate::bytes::Bytes;
 use crate::code::Code;
 use crate::handle::Map;
 use crate::value::{BytesPair, Value, WordsPair};
 use art_bytes::SliceKey;
+use art_operations::InsertPoint;
 use std::alloc::Global;
 
 /// Puts in the value that is told so. Returns the value that the key had. All memory is taken before anything is
-/// changed, and none where there is a conflict.
-#[tactic(auto, using(crate::proofs::Lookups::put_copies))]
+/// changed, and none where there is a conflict. For a key that is stored none is taken but the value's.
+#[tactic(auto, using(crate::proofs::Lookups::put_stored))]
 pub(super) fn put<V: Value>(
     map: &mut Map<V>,
     alloc: Global,
@@ -27,10 +30,34 @@ pub(super) fn put<V: Value>(
     let Ok(place) = map.find_place(&SliceKey(key)) else {
         return Err(Code::Conflict);
     };
-    let Ok(key) = Bytes::copied(alloc, key) else {
+    let Ok(value) = V::made(alloc, item, text) else {
         return Err(Code::NoMemory);
     };
-    let Ok(value) = V::made(alloc, item, text) else {
+    match map.replace_at(&place, value) {
+        Ok(was) => {
+            // Tells that the pairs ascend.
+            let (_nodes, _root) = map.nodes();
+            Ok(Some(was))
+        }
+        Err(value) => put_new(map, alloc, place, key, value),
+    }
+}
+
+/// Puts in a pair at the place that was found for its key.
+#[tactic(auto, using(crate::proofs::Lookups::put_copy))]
+fn put_new<V: Value>(
+    map: &mut Map<V>,
+    alloc: Global,
+    place: Option<InsertPoint>,
+    key: &[u8],
+    value: V,
+) -> Result<Option<V>, Code>
+    requires { CanPut whole 16 map.old.nodes place key.now map.old.pairs [] }
+    ensures put { IfOk result (λ was. (was ≡ stored_value key.now map.old.pairs)
+        × (map.new.pairs ≡ with_pair_put whole key.now value map.old.pairs)) }
+    ensures refused { IfErr result (λ code. (code ≡ NoMemory) × (map.new.pairs ≡ map.old.pairs)) }
+{
+    let Ok(key) = Bytes::copied(alloc, key) else {
         return Err(Code::NoMemory);
     };
     match map.insert_at(place, key, value) {
