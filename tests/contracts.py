@@ -121,6 +121,11 @@ def words_in(text):
     return words + [f"◌{it}◌" for it in words]
 
 
+def since_mark(text, end):
+    """What stands before a place, from the last `;` or brace on."""
+    return text[max(text.rfind(it, 0, end) for it in ";{}") + 1 : end]
+
+
 SPECS, CRATES = {}, []
 
 
@@ -181,6 +186,11 @@ class Source:
         top = f"crates/{crate}/src/lib.rt"
         self.files = {it: self.blanked(it) for it in sorted(glob(f"crates/{crate}/src/**/*.rt", recursive=True))}
         self.is_program = top not in self.files
+        every = "\n".join(self.files.values())
+        self.types, self.traits = {*re.findall(r"\b(?:struct|enum|trait|type) (\w+)", every)}, {}
+        for file, text in self.files.items():
+            for is_pub, name in re.findall(r"(\bpub (?:unsafe )?)?\btrait (\w+)", text):
+                self.traits.setdefault(name, []).append((file, bool(is_pub)))
         self.open = set()
         if self.is_program:
             self.shown = {*re.findall(r"\w+", " ".join(self.files.values()))}
@@ -216,18 +226,18 @@ class Source:
                 stack.append(at)
             elif it == "}" and stack:
                 pairs[stack.pop()] = at
-        self.blocks = [(a, b, re.split(r"[;{}]", text[:a])[-1].strip()) for a, b in sorted(pairs.items())]
-        uses = [(it.start(), it[0]) for it in re.finditer(r"\bghost use [^;]+;", text)]
+        self.blocks = [(a, b, since_mark(text, a).strip()) for a, b in sorted(pairs.items())]
+        # (an import holds in the blocks that it stands in)
+        inside = lambda at: [(a, b) for a, b, _ in self.blocks if a < at < b]
+        uses = [(inside(it.start()), it[0]) for it in re.finditer(r"\bghost use [^;]+;", text)]
         clause = r"\b(?:requires|ensures|invariant)\b[\s*]*\w*\s*(?=\{)|\bghost(?: \w+)?\s*[:=]\s*(?=\{)"
         for it in re.finditer(clause, text):
             around = [(a, b, h) for a, b, h in self.blocks if a < it.start() < b]
             owner = self.owner(file, text, it, around)
             if owner:
                 names, aliases, hidden = {}, {}, set()
-                for at, use in uses:
-                    # (an import holds in the block that it stands in)
-                    inner = [(a, b) for a, b, _ in self.blocks if a < at < b and not use.startswith("{")]
-                    if all(a < it.start() < b for a, b in inner):
+                for blocks, use in uses:
+                    if all(a < it.start() < b for a, b in blocks):
                         imports_of(use, names, aliases, hidden)
                 body = text[it.start() : pairs[it.end()] + 1]
                 refuse_hidden(f"{file}, {owner}", body, hidden)
@@ -246,7 +256,7 @@ class Source:
             fns = [it for it in re.finditer(r"\bfn (\w+)", text[start : clause.start()])]
             if not fns:
                 return None
-            before = re.split(r"[;{}]", text[: start + fns[-1].start()])[-1]
+            before = since_mark(text, start + fns[-1].start())
             function, is_pub = fns[-1][1], bool(re.search(r"\bpub (?!\()", f"{before} "))
         if heads:
             kind = re.match(item, heads[-1])[1]
@@ -268,9 +278,8 @@ class Source:
     def is_private_trait(self, words):
         """Whether the last of these words is a trait of the crate that it doesn't show."""
         name = re.findall(r"[A-Z]\w*", words)[-1]
-        files = [file for file, text in self.files.items() if re.search(rf"\btrait {name}\b", text)]
-        return any(not re.search(rf"\bpub (?:unsafe )?trait {name}\b", self.files[f]) or not self.is_shown(f, name) for f in files)
+        return any(not is_pub or not self.is_shown(file, name) for file, is_pub in self.traits.get(name, ()))
 
     def of_kit(self, name):
         """A type that no file of the crate declares."""
-        return not any(re.search(rf"\b(struct|enum|trait|type) {name}\b", it) for it in self.files.values())
+        return name not in self.types

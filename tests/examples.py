@@ -1,9 +1,10 @@
 #!/usr/bin/env python3
 """Runs the examples of the doc comments, and tells which public call has none.
 
-    tests/examples.py          at the top of the repository; the last line is 'N passed, M failed'
-    tests/examples.py --list   prints the calls that need an example, each with the number that it has
-    tests/examples.py --show   prints the crate that is made of the examples
+    tests/examples.py [--quick]   at the top of the repository; the last line is 'N passed, M failed'; --quick: without
+                                  the address sanitizer, and without the control that takes a build
+    tests/examples.py --list      prints the calls that need an example, each with the number that it has
+    tests/examples.py --show      prints the module that is made of the examples
 An example is a fenced block of code in a doc comment. It is the body of a test:
 
     fn example(rt: HostRuntime) -> Result<(), Fail> { .. Ok(()) }
@@ -12,20 +13,19 @@ So `rt.alloc()` is the allocator, `assert_eq!(rt; a, b)` compares, and `?` passe
 repository's libraries exports is imported if an example uses it. Traits whose methods it calls, and names of std, it
 imports itself, by lines `use`.
 
-The examples become the tests of one crate in a scratch folder. `rt try --test` builds it without proofs, under the
-address sanitizer, and runs each test in a process of its own. An example fails that doesn't compile, that returns an
-error, or whose assertion is false. So does a call that needs an example and has none. Controls show that each of these
-is told.
+The examples become tests of the crate that tests/trials.py builds, without proofs and under the address sanitizer. Each
+runs in a process of its own. An example fails that doesn't compile, that returns an error, or whose assertion is false.
+So does a call that needs an example and has none. Controls show that each of these is told.
 """
 import collections
 import os
 import re
 import shutil
-import subprocess
-import sys
 import tempfile
 
 import cases
+import quick
+import trials
 
 TOP = os.path.dirname(os.path.dirname(os.path.abspath(__file__)))
 # Libraries that a user reaches through those above them: their calls need no example. Those of all others do, so far as
@@ -33,8 +33,8 @@ TOP = os.path.dirname(os.path.dirname(os.path.abspath(__file__)))
 INNER = ("art_nodes", "art_arena", "art_operations")
 # Of these only the calls of some types do, '' for functions; the map makes the other calls.
 TYPES = {"art_walks": ("MapReader", "WellFormedChecker", "WellFormedTreeStats", "")}
-# How often the crate is built again, without the examples that did not compile; and for how many seconds each time.
-ROUNDS, LIMIT = 4, 900
+# How often the examples are built again, without those that did not compile.
+ROUNDS = 3
 MODULE = """#[cfg(test)]
 mod e{number} {{
 {uses}    use std::test::Fail;
@@ -48,6 +48,7 @@ mod e{number} {{
 """
 WRONG = "let sum = 1 + 1;\nassert_eq!(rt; sum, 3);"
 NOT_RATTLE = "let sum = 1 + nothing;\nassert_eq!(rt; sum, 3);"
+EXAMPLE = re.compile(r"(?:\w+::)?e\d+::example")
 NO_EXAMPLE = """pub use table::Table;
 
 impl<K: Drop> Table<K> {
@@ -194,9 +195,9 @@ def uses_of(example, exports):
     return "".join(f"    use {crate}::{name};\n" for name, crate in found.items() if crate)
 
 
-def crate_of(examples, exports):
-    """The text of a crate with these examples as tests, and of which example each of its lines is."""
-    lines, owners = ["#![tactic(auto)]"], [None]
+def module_of(examples, exports):
+    """The text of a module with these examples as tests, and of which example each of its lines is."""
+    lines, owners = [], []
     for number, example in examples.items():
         code = "\n".join(" " * 8 + it if it.strip() else "" for it in example.code.split("\n"))
         made = MODULE.format(number=number, uses=uses_of(example, exports), code=code).split("\n")[:-1]
@@ -205,92 +206,97 @@ def crate_of(examples, exports):
     return "\n".join(lines) + "\n", owners
 
 
-def tried(room, name, uses, text):
-    """What `rt try --test` says of a crate of this text, in a scratch repository over the libraries as they stand."""
-    with open(f"{TOP}/crates.txt", encoding="utf-8") as file:
-        rows = [it.strip() for it in file if it.split(":")[0] in uses]
-    for it in uses:
-        if not os.path.exists(f"{room}/crates/{it}"):
+def tried(name, uses, text):
+    """What is said of a crate of this text, in a scratch repository over the libraries as they stand."""
+    with tempfile.TemporaryDirectory() as room:
+        with open(f"{TOP}/crates.txt", encoding="utf-8") as file:
+            rows = [it.strip() for it in file if it.split(":")[0] in uses]
+        for it in uses:
             shutil.copytree(f"{TOP}/crates/{it}/src", f"{room}/crates/{it}/src")
-    with open(f"{room}/crates.txt", "w", encoding="utf-8") as file:
-        file.write("\n".join([*rows, f"{name}: {' '.join(uses)}"]) + "\n")
-    os.makedirs(f"{room}/crates/{name}/src", exist_ok=True)
-    with open(f"{room}/crates/{name}/src/lib.rt", "w", encoding="utf-8") as file:
-        file.write(text)
-    how = {"stdin": subprocess.DEVNULL, "stdout": subprocess.PIPE, "stderr": subprocess.STDOUT, "errors": "replace"}
-    try:
-        return subprocess.run(["rt", "try", "--test"], cwd=f"{room}/crates/{name}", timeout=LIMIT, **how).stdout
-    except subprocess.TimeoutExpired:
-        return f"it took more than {LIMIT} seconds"
+        cases.write(f"{room}/crates.txt", "\n".join([*rows, f"{name}: {' '.join(uses)}"]) + "\n")
+        cases.write(f"{room}/crates/{name}/src/lib.rt", text)
+        return quick.tested(room, name)
 
 
-def ran(room, name, uses, examples, exports):
-    """Why each example failed, by its number: '' where it passed. What doesn't compile is left out of a next round."""
-    left, why = dict(examples), {}
-    for _ in range(ROUNDS):
-        text, owners = crate_of(left, exports)
-        said = tried(room, name, uses, text)
+def ran(name, uses, examples, exports, said=None):
+    """Why each example failed, by its number: '' where it passed. What doesn't compile is left out of a next round.
+    `said` is what was said of them in a crate that has them with others, if they were tried in one."""
+    left, why, rounds = dict(examples), {}, ROUNDS
+    while left:
+        text, owners = module_of(left, exports)
+        said, file = (said, trials.EXAMPLES) if said is not None else (tried(name, uses, text), "lib")
         wrong = collections.defaultdict(list)
-        for line, reason in re.findall(r"(?m)^src/lib\.rt:(\d+):\d+: (error.*)", said):
+        for line, reason in re.findall(rf"(?m)^src/{file}\.rt:(\d+):\d+: (error.*)", said):
             wrong[owners[int(line) - 1]].append(reason)
-        if not wrong or None in wrong:
-            break
         why |= {it: "; ".join(reasons) for it, reasons in wrong.items()}
         left = {it: left[it] for it in left if it not in wrong}
-        if not left:
-            return why
-    parts = re.split(r"(?m)^test e(\d+)::example \.\.\. (\w+)$", said)
-    told = {int(number): (word, rest) for number, word, rest in zip(parts[1::3], parts[2::3], parts[3::3])}
+        found = {re.sub(r"\D", "", name): it for name, it in trials.by_name(said).items() if EXAMPLE.fullmatch(name)}
+        # (the others of that crate may not have compiled, too)
+        if rounds == 0 or not wrong and (found or file == "lib"):
+            break
+        said, rounds = None, rounds - 1
     for it in left:
-        word, rest = told.get(it, ("not run", f"\n{said[-600:]}"))
-        reason = " ".join(rest.split("test result:")[0].split())
-        why[it] = "" if word == "ok" else f"{word}: {reason}"
+        word, rest = found.get(str(it), ("not run", f"\n{said[-600:]}"))
+        why[it] = "" if word == "ok" else f"{word}: {' '.join(rest.split())}"
     return why
 
 
-def show_failures(told, why_wrong, room):
+def of_libraries():
+    """All libraries with the names that they export, the examples by numbers, and the counts of those of each call."""
+    exports = {it: exported(TOP, it) for it in libraries()}
+    found, counts = {}, {}
+    for crate in exports:
+        examples, calls = read(TOP, crate)
+        found |= dict(enumerate(examples, len(found)))
+        counts |= {} if crate in INNER else {crate: needed(crate, calls, exports)}
+    return exports, found, counts
+
+
+def with_control(found):
+    """The examples, and one whose assertion is false, with its number."""
+    control = len(found)
+    return {**found, control: Example("control", "control", WRONG)}, control
+
+
+def module():
+    """The text of the module of all examples."""
+    exports, found, _ = of_libraries()
+    return module_of(with_control(found)[0], exports)[0]
+
+
+def show_failures(told, why_wrong, is_quick):
     """Shows that this script tells what is wrong: a false assertion, what doesn't compile, a call without an example."""
     told.count("control: a false assertion fails", "" if "left: 2" in why_wrong else f"it did not: {why_wrong}")
-    why = ran(room, "control", [], {0: Example("control", "control", NOT_RATTLE)}, {})[0]
-    told.count("control: what doesn't compile fails", "" if "nothing" in why else f"it did not: {why}")
-    os.makedirs(f"{room}/none/crates/control/src")
-    cases.write(f"{room}/none/crates/control/src/lib.rt", NO_EXAMPLE)
-    needs = needed("control", read(f"{room}/none", "control")[1], {"control": exported(f"{room}/none", "control")})
+    if not is_quick:
+        why = ran("control", [], {0: Example("control", "control", NOT_RATTLE)}, {})[0]
+        told.count("control: what doesn't compile fails", "" if "nothing" in why else f"it did not: {why}")
+    with tempfile.TemporaryDirectory() as room:
+        cases.write(f"{room}/crates/control/src/lib.rt", NO_EXAMPLE)
+        needs = needed("control", read(room, "control")[1], {"control": exported(room, "control")})
     wrong = "" if needs == {"control::Table::bare": 0, "control::Table::shown": 1} else f"it needs {needs}"
     told.count("control: a call without an example is told", wrong)
 
 
 def main():
-    if not shutil.which("rt"):
-        sys.exit("examples: the toolchain's command rt is not on the PATH")
-    every_library = libraries()
-    exports = {it: exported(TOP, it) for it in every_library}
-    found, counts = {}, {}
-    for crate in every_library:
-        examples, calls = read(TOP, crate)
-        found |= dict(enumerate(examples, len(found)))
-        counts |= {} if crate in INNER else {crate: needed(crate, calls, exports)}
-    if sys.argv[1:] == ["--list"]:
+    given = cases.given(__doc__, "--quick", "--list", "--show", words=0)
+    exports, found, counts = of_libraries()
+    if "--list" in given:
         for count in counts.values():
             print("\n".join(f"{number} {title}" for title, number in count.items()))
         return
-    control = len(found)
-    every = {**found, control: Example("control", "control", WRONG)}
-    if sys.argv[1:] == ["--show"]:
-        print(crate_of(every, exports)[0], end="")
+    if "--show" in given:
+        print(module(), end="")
         return
-    if sys.argv[1:]:
-        sys.exit(__doc__)
-    told = cases.Tally()
+    told, is_quick = cases.Tally(), "--quick" in given
     for crate, count in counts.items():
         for title in (it for it, number in count.items() if not number):
             told.count(f"an example of {title}", "there is none")
         print(f"   {crate}: {sum(map(bool, count.values()))} of {len(count)} calls that need an example have one")
-    with tempfile.TemporaryDirectory() as room:
-        why = ran(room, "examples", every_library, every, exports)
-        for number, it in found.items():
-            told.count(f"{it.place} {it.item}", why[number])
-        show_failures(told, why[control], room)
+    every, control = with_control(found)
+    why = ran("examples", list(exports), every, exports, trials.said(module(), is_quick))
+    for number, it in found.items():
+        told.count(f"{it.place} {it.item}", why[number])
+    show_failures(told, why[control], is_quick)
     told.end()
 
 

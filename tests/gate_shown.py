@@ -32,7 +32,7 @@ TABLE = "| Wrong body | Edits | Tried by | Function |\n|---|---|---|---|\n| a la
 PASSES = "print('1 passed, 0 failed')\n"
 # It says what rt ci has proved, by which the wrong bodies are tried.
 CI = f"import must_fail\nmust_fail.mark_tree()\n{PASSES}"
-OWN = ("cases.py", "edits.py", "record.py", "must_fail.py", "verdicts.py", "processes.py", "proofs.py")
+OWN = ("cases.py", "edits.py", "record.py", "must_fail.py", "verdicts.py", "stubs.py", "processes.py", "proofs.py")
 OTHERS = ("words.py", "believed.py", "gate.py")
 EDITS, PROVED, LIB = "crates/tiny/edits/lib.edits", "proved.txt", "crates/tiny/src/lib.rt"
 ROWS, RUNS = "tests/wrong/table.md", "tests/wrong/programs.lines"

@@ -2,7 +2,8 @@
 """Runs art_index where memory or the stack is short: nobody dies, no reply is lost, and what was stored is dumped.
 
     tests/limits.py [--program PATH] [--quick] [WORD]    at the top of the repository, after rt ci; WORD: only what has it
-                                                         in its name; --quick: over a build without proofs
+                                                         in its name; --quick: over a build without proofs, under
+                                                         fewer limits
 The address space is limited by the page, from the least at which the program answers to where all that is put has room.
 Under each limit some thousand puts are answered `new` or `memory`, and then a line is answered, of each kind in turn; a
 dump tells exactly what was answered `new`. Where no slab can double it grows by less. And the stack is limited: 64 KiB are
@@ -23,10 +24,12 @@ PAGE = resource.getpagesize()
 PUTS, SEED = 3000, 7
 # Pages beyond the least, at each of which a dump is asked for; for other lines, each so many of them.
 PAGES, STEP = 200, 9
+# With --quick of these numbers one of so many.
+SAMPLED = 4
 # KiB.
 STACKS = (64, 96, 128)
 # Puts; the leaves of a slab that has only doubled; and spaces in MiB in which such a slab can't double once more.
-MANY, DOUBLED, SPACES = 250_000, 1 << 17, (32, 33, 34)
+MANY, DOUBLED, SPACES = 140_000, 1 << 17, (27, 28, 29, 30)
 # (Linux's ADDR_NO_RANDOMIZE: what a program takes to begin with is then the same in each run)
 IN_PLACE = 0x0040000
 LIBC = ctypes.CDLL(None)
@@ -139,11 +142,12 @@ def is_answering(program, pages):
     return run(program, b"bad\n", space=pages * PAGE) == (b"bad\n", b"", 0)
 
 
-def space_is_short(program, word):
+def space_is_short(every, program, word):
     """A line of this word is answered after the puts at each limit, or at each so many. At first most puts find no
-    memory, in the end none."""
+    memory, in the end none. Of these limits one of `every` is tried, and the last."""
     least, last = least_of(functools.partial(is_answering, program)), [LAST[word], b"dump"]
     pages = range(PAGES) if word == "dump" else range(list(LAST).index(word) % STEP, PAGES, STEP)
+    pages = sorted({*pages[::every], pages[-1]})
     refused = [is_answered(program, last, space=(least + it) * PAGE) for it in pages]
     assert refused[0] > 0, "no put finds no memory"
     assert refused[-1] == 0, "the last limit is not ample"
@@ -167,17 +171,18 @@ def stored(program, text, mib):
     return replies[b"new"]
 
 
-def slab_grows_by_less(program, mib):
-    """Where there is no memory to double a slab, it grows by less: so it holds more than one that has only doubled."""
+def slab_grows_by_less(program, spaces):
+    """Where there is no memory to double a slab, it grows by less: so it holds more than one that has only doubled, in
+    one of some spaces at least. (In another there may be no memory for anything else that a record takes.)"""
     text = b"".join(b"put 1 %08x %08x\n" % (it, it) for it in random.Random(SEED).sample(range(MANY), MANY))
-    found = stored(program, text, mib)
-    assert DOUBLED + DOUBLED // 32 < found < MANY, f"{found} are stored of {MANY}"
+    found = [stored(program, text, mib) for mib in spaces]
+    assert DOUBLED + DOUBLED // 32 < max(found), f"{found} are stored of {MANY}"
 
 
-def tests():
+def tests(every):
     named = [(f"the stack has {it} KiB", stack_is_short, it) for it in STACKS]
-    named += [(f"space is short for {it}", space_is_short, it) for it in LAST]
-    return named + [(f"a slab grows by less in {it} MiB", slab_grows_by_less, it) for it in SPACES]
+    named += [(f"space is short for {it}", functools.partial(space_is_short, every), it) for it in LAST]
+    return named + [(f"a slab grows by less in {SPACES[0]} to {SPACES[-1]} MiB", slab_grows_by_less, SPACES)]
 
 
 def main():
@@ -185,7 +190,7 @@ def main():
     told = cases.Tally(given.word)
     missing = set(WORDS) - set(LAST)
     assert not missing, f"no line of {missing}"
-    for name, test, of in tests():
+    for name, test, of in tests(SAMPLED if "--quick" in given else 1):
         for program in cases.programs(given) if told.wants(name) else ():
             told.case(f"{cases.title(program)} {name}", test, program, of)
     told.end()

@@ -9,6 +9,7 @@ The scripts of tests/maps/ are worked rows; others are made at random from fixed
 Each is played over three lengths of stored prefixes, or over the one in its name, by the player that tests/players.py
 builds. Under it tests/held.c counts the bytes that are held, for the lines that ask how many are.
 """
+import functools
 import itertools
 import os
 import random
@@ -126,6 +127,11 @@ def script(seed, kind, length):
 
 def wanted(kind, lines):
     """What the model answers to a script, for each length of stored prefixes."""
+    return answered(kind, tuple(lines))
+
+
+@functools.lru_cache(maxsize=1)
+def answered(kind, lines):
     model = model_of(kind)
     answers = [model.answer(line) for line in lines]
     return {size: "".join(f"{it.of(size) if isinstance(it, Counts) else it}\n" for it in answers) for size in PREFIX_LENS}
@@ -201,10 +207,12 @@ def extractions():
         yield from (*fill, f"extraction (0102 [0501 {steps}", "check", "iter fffffff")
 
 
-def scripts(word=""):
-    """Each script that has the word in its name: its name, the kind of its keys, and its lines; but for long ones."""
+def scripts(word="", is_wanted=lambda name, lines: True):
+    """Each script that has the word in its name: its name, the kind of its keys, and its lines; but for long ones. Rows
+    that are not wanted are left out."""
     for file in sorted(it for it in glob("tests/maps/*.lines") if word in os.path.basename(it)):
-        yield os.path.basename(file), *rows(file)
+        if is_wanted(os.path.basename(file), cases.read(file).splitlines()):
+            yield os.path.basename(file), *rows(file)
     for seed in (it for it in range(60) if word in f"random {it}"):
         kind = KINDS[seed % 3]
         yield f"random {seed}", kind, script(seed, kind, 600)

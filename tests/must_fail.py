@@ -10,7 +10,8 @@
                                           sources and by the same script
 The edits of a crate are carried out on one copy, and one `rattle check` judges their functions, each named by `--only`
 (tests/edits.py has their form; two of one function go in two checks). All other functions are taken as proved there,
-since ci proves them: a hole stands in the place of each proof. Three things are told apart:
+since ci proves them: a hole stands in the place of each proof, and `unreachable!()` in that of each body (stubs.py),
+which no proof of another function reads. Three things are told apart:
 - a goal of the function is open, which has no written answer: the edit is refused;
 - a written answer no longer fits its goal: the function is judged again without that answer. Where `search` then leaves
   the goal open the edit is refused; where it proves it, the next such answer is left out; where it proves all, the edit
@@ -42,8 +43,9 @@ from glob import glob
 import cases
 import edits
 import quick
+import stubs
 import verdicts
-from verdicts import REFUSED, Answers, Said, passed_over, said_by
+from verdicts import REFUSED, Answers, Said, blamed, passed_over, said_by
 
 TOP = os.getcwd()
 PARTS, RLIBS = ("src", "specs", "proofs"), "out/rlibs"
@@ -92,7 +94,7 @@ class Kept:
     def sum(self, crate, edit):
         if crate.name not in self.sums:
             names = [crate.name, *below(crate.libraries.crates, crate.name)]
-            self.sums[crate.name] = sum_of_tree(names, [__file__, verdicts.__file__])
+            self.sums[crate.name] = sum_of_tree(names, [__file__, verdicts.__file__, stubs.__file__])
         return f"{self.sums[crate.name]} {edit.function} {edit.pairs}"
 
     def told(self, crate, edit):
@@ -212,6 +214,7 @@ class Crate:
     def __init__(self, name, chosen, libraries, kept, opened, room):
         self.name, self.edits, self.libraries, self.kept, self.room = name, chosen, libraries, kept, f"{room}/{name}"
         self.opened, self.told, self.number, self.checks, self.spent, self.holes = opened, {}, 0, [], {}, []
+        self.bodies = None
 
     def run(self):
         """Tries all edits, and gives each with whether it is refused and by what."""
@@ -246,6 +249,7 @@ class Crate:
             if os.path.isdir(f"{TOP}/crates/{self.name}/{it}"):
                 shutil.copytree(f"{TOP}/crates/{self.name}/{it}", f"{self.room}/{it}")
         self.holes = self.proved()
+        self.bodies = stubs.Bodies(f"crates/{self.name}", self.room, self.holes)
         kept = f"{TOP}/crates/{self.name}/out/incremental"
         if os.path.isdir(kept) and not self.libraries.beside_ci:
             shutil.copytree(kept, f"{self.room}/kept", copy_function=link)
@@ -261,11 +265,12 @@ class Crate:
         return sorted(it for it in found if not re.search(r"(^|::)\+|\+\+|[{<]", it))
 
     def not_taken(self, text, tried):
-        """Whether rattle refused the hole of a function. It keeps its proof from then on, and the check is made
-        anew."""
+        """Whether rattle refused the hole of a function. It keeps its proof and its body from then on, and the check is
+        made anew."""
         errors = re.findall(r"(?m)^(?:\./)?proofs/(\S+)/Proof\.antt:\d+:\d+: error", text)
         found = {it.replace("/", "::") for it in errors} & {*self.holes} - tried
         self.holes = [it for it in self.holes if it not in found]
+        self.bodies.stay(found)
         return bool(found)
 
     def taken(self, tried):
@@ -292,7 +297,7 @@ class Crate:
         while todo:
             chosen = fitting(todo, apart)
             text, bad = self.check(chosen, left, first)
-            if self.not_taken(text, {it.function for it in chosen}):
+            if self.not_taken(text, {it.function for it in chosen}) or bad and self.bodies.must_stay(self.rattle):
                 continue
             ended = {edit: why for edit, why in bad if not first.pop(edit, None)}
             for edit, why in ended.items():
@@ -356,21 +361,25 @@ class Crate:
                 texts[path] = (texts[path] if path in texts else Answers(f"{self.room}/{path}").text) + REFUSED
         tried = dict.fromkeys(edit.function for edit in chosen)
         texts |= {path: text for path, text in self.taken(tried).items() if path not in texts}
-        was = {path: cases.read(f"{self.room}/{path}") if os.path.exists(f"{self.room}/{path}") else None for path in texts}
-        write(self.room, texts)
+        texts = self.bodies.left_out_of(texts, chosen)
         self.number += 1
-        words = [*self.libraries.words(self.name), "--incremental", "kept", "--allow-holes"]
-        for it in tried:
-            words += ["--only", it]
-        how = {"cwd": self.room, "stdin": subprocess.DEVNULL, "errors": "replace"}
         began = time.time()
-        ran, spent = run(words, how)
-        write(self.room, was)
+        ran, spent = self.rattle(texts, [word for it in tried for word in ("--only", it)])
         self.note_costs(chosen, began, spent)
         with open(f"{TOP}/out/must_fail-{self.name}-{self.number}.log", "w", encoding="utf-8") as log:
             log.write(f"{' '.join(it.name for it in chosen)}\n{ran.stdout}\n{spent:.0f} s of processor time\n")
         judged = re.search(r"(?m)^only=\d+ ", ran.stdout)
         return ran.stdout, [] if judged else blamed(ran, chosen, texts)
+
+    def rattle(self, texts, more):
+        """What rattle says of the copy with these texts, and what that took."""
+        files = {it: f"{self.room}/{it}" for it in texts}
+        was = {it: cases.read(file) if os.path.exists(file) else None for it, file in files.items()}
+        write(self.room, texts)
+        words = [*self.libraries.words(self.name), "--incremental", "kept", "--allow-holes", *more]
+        ended = run(words, {"cwd": self.room, "stdin": subprocess.DEVNULL, "errors": "replace"})
+        write(self.room, was)
+        return ended
 
     def note_costs(self, chosen, began, spent):
         """Notes what a check took, and by the times of the files that it kept near what of it each edited function
@@ -400,32 +409,6 @@ def run(words, how):
         _, status, used = os.wait4(ran.pid, 0)
         ran.returncode = os.waitstatus_to_exitcode(status)
     return subprocess.CompletedProcess(words, ran.returncode, said), used.ru_utime + used.ru_stime
-
-
-def blamed(ran, chosen, texts):
-    """The edits for which a check came to no verdict: those in whose text rattle found an error, else all."""
-    none = r"rattle: error: (?:`\w+` has no function `([^`]+)`|several functions are named `([^`]+)`).*"
-    lost = re.search(none, ran.stdout)
-    if lost:
-        name = lost[1] or lost[2]
-        return [(it, f"NO SUCH FUNCTION: {lost[0][:600]}") for it in chosen if it.function == name]
-    found = {}
-    for path, line, why in re.findall(r"(?m)^(?:\./)?(\S+?):(\d+):\d+: (error\[.*|error: .*)", ran.stdout):
-        of_file = [it for it in chosen if path in [at for at, _, _ in it.pairs]]
-        near = sorted((distance(it, path, int(line), texts), it.name) for it in of_file)
-        if near:
-            found.setdefault(near[0][1], f"IT DOES NOT COMPILE: {path}:{line}: {why[:200]}")
-    if found:
-        return [(it, found[it.name]) for it in chosen if it.name in found]
-    end = ([""] + ran.stdout.strip().split("\n"))[-1]
-    return [(it, f"NOT JUDGED: the check ended with status {ran.returncode}: {end[:200]}") for it in chosen]
-
-
-def distance(edit, path, line, texts):
-    """How many lines a line of a file stands from the edit's text in it."""
-    places = [texts[path].find(new) for at, _, new in edit.pairs if at == path]
-    lines = [texts[path][:at].count("\n") + 1 for at in places if at >= 0]
-    return min((abs(line - it) for it in lines), default=1 << 20)
 
 
 def write(folder, texts):

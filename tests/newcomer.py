@@ -1,11 +1,13 @@
 #!/usr/bin/env python3
 """Does what README.md tells a newcomer: a repository of one's own, with the map in it, whose program then runs.
 
-    tests/newcomer.py      at the top of the repository; its last line is 'N passed, M failed'
+    tests/newcomer.py [--quick]    at the top of the repository; its last line is 'N passed, M failed'
 The one block of shell of uses/README.md is run in an empty folder beside a link named art; the one block of Rust of
 README.md that is of no example of bindings/rust becomes the program's source. The program is built without proofs
-(tools/quick.py), as `rt try` builds it. What it prints is looked at.
+(tools/quick.py), as `rt try` builds it, but with nothing optimized. What it prints is looked at. With --quick what is
+built is the program over the libraries here (tests/together.py), once the repository is seen to have the same.
 """
+import filecmp
 import os
 import re
 import subprocess
@@ -13,6 +15,7 @@ from glob import glob
 
 import cases
 import quick
+import together
 
 PRINTED = """Office Space goes in: true
 Brazil goes in: true
@@ -21,29 +24,42 @@ Some((StrKey("Brazil"), 5)) is the first of 2
 """
 
 
-def block(kind, page):
-    text = cases.read(page)
-    of_bindings = [cases.read(it) for it in glob("bindings/rust/examples/*.rs")]
-    found = re.findall(rf"(?m)^```{kind}\n((?:.*\n)*?)```$", text)
-    found = [it for it in found if not any(it in example for example in of_bindings)]
-    assert len(found) == 1, f"{page} has {len(found)} blocks of {kind}, and not one"
+def shell_of(page):
+    found = re.findall(r"(?m)^```sh\n((?:.*\n)*?)```$", cases.read(page))
+    assert len(found) == 1, f"{page} has {len(found)} blocks of sh, and not one"
     return found[0]
 
 
-def a_map_of_ones_own(room):
+def has_the_libraries(mine):
+    """Fails where a repository lacks a source of a library that its program stands on, or has another."""
+    crates = quick.crates_of(mine)
+    for it in (it for it in crates["films"] if it in crates):
+        files = glob(f"{cases.TOP}/crates/{it}/src/**/*.rt", recursive=True)
+        others = [at for at in files if not filecmp.cmp(at, f"{mine}/{os.path.relpath(at, cases.TOP)}", False)]
+        assert files and not others, f"{it} is another: {others}"
+    assert [it for it in crates["films"] if it.startswith("art_")] == [*crates][:-1], f"its crates are {[*crates]}"
+
+
+def a_map_of_ones_own(room, is_quick):
     os.symlink(cases.TOP, f"{room}/art")
-    ran = subprocess.run(["sh", "-e"], input=block("sh", "uses/README.md"), text=True, cwd=room, capture_output=True)
+    ran = subprocess.run(["sh", "-e"], input=shell_of("uses/README.md"), text=True, cwd=room, capture_output=True)
     assert ran.returncode == 0, ran.stderr
-    cases.write(f"{room}/mine/crates/films/src/main.rt", block("rust", "README.md"))
-    said = quick.build(f"{room}/mine", "films", f"{room}/films")
-    assert said is None, said
-    cases.wants(cases.ended([f"{room}/films"], text=True), (PRINTED, "", 0))
+    program, source = f"{room}/program", f"{room}/mine/crates/films/src/main.rt"
+    cases.write(source, together.films())
+    if is_quick:
+        has_the_libraries(f"{room}/mine")
+        program = together.program(together.FILMS)
+    else:
+        said = quick.build(f"{room}/mine", "films", program, quick.UNEDITED)
+        assert said is None, said
+    cases.wants(cases.ended([program], text=True), (PRINTED, "", 0))
 
 
 def main():
-    told = cases.Tally(cases.given(__doc__, words=0).word)
+    given = cases.given(__doc__, "--quick", words=0)
+    told = cases.Tally()
     with cases.folder() as room:
-        told.case("a_map_of_ones_own", a_map_of_ones_own, room)
+        told.case("a_map_of_ones_own", a_map_of_ones_own, room, "--quick" in given)
     told.end()
 
 

@@ -3,7 +3,7 @@
 Each is a crate below tests/players, whose files end in .rt.in, since the gate takes no .rt file that it doesn't prove.
 tests/players/crates.lines says what each stands on. A player is built once, without proofs and without checks at run
 time (tools/quick.py), so that it plays what a proved build would: all scripts share the build, which out/players keeps
-until a source changes. For ./test --quick nothing is optimized, which takes half as long.
+until a source changes. For ./test --quick nothing is optimized, and most are built with others (tests/together.py).
 """
 import functools
 import hashlib
@@ -52,6 +52,10 @@ def path_of(taken, name, compiler=quick.UNCHECKED):
 def program(name, is_quick=False, top=quick.TOP):
     """The path of a player, as it is built from the sources as they stand; with nothing optimized, if it is to be there
     soon. Ends the script if it can't be built."""
+    import together
+
+    if is_quick and name in together.PLAYERS:
+        return together.program(name)
     compiler = quick.SOONEST if is_quick else quick.UNCHECKED
     with tempfile.TemporaryDirectory() as room:
         taken = copied(top, f"{room}/taken", name)

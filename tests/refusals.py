@@ -1,7 +1,8 @@
 #!/usr/bin/env python3
 """Refuses memory to calls of the libraries and lines of the program: each request, alone and with all later ones.
 
-    tests/refusals.py [--program PATH | --quick] [WORD]    WORD: only what has it in its name
+    tests/refusals.py [--program PATH | --quick] [--of NAME] [WORD]   WORD: only what has it in its name; NAME: only
+                                                                      what the program of that name plays
 art_index is that which rt ci has built, by both compilers; with --program that at PATH, with --quick one without
 proofs. Under tests/refuse.c, which says what a window is, it runs
 - the player `refusals` (tests/players.py), which must write tests/refusals.scenarios, and each scenario of it, a line
@@ -27,6 +28,7 @@ import map_model
 import map_words
 import maps
 import players
+import quick
 import reference
 import windows
 
@@ -68,7 +70,7 @@ TAKE_NONE |= {"shrink", "held", "less", "more", "in_order"}
 # First words of replies that list nothing.
 REPLIES = {"new", "old", "conflict", "over", "is", "none", "at", "gone", "bounds", "bytes", "dropped", "bad"}
 SHIM = os.path.abspath("out/refuse.so")
-given = cases.given(__doc__, "--program=PATH", "--quick")
+given = cases.given(__doc__, "--program=PATH", "--quick", "--of=NAME")
 tally, runs, requests = cases.Tally(given.word), 0, 0
 # Of each call and kind of keys, and of each word of the program and reply: its lines, those that made no request, the
 # most requests that one made, and the runs in which one was refused.
@@ -291,12 +293,20 @@ def made_new(first):
     assert seen == "|", f"it makes requests: {seen}"
 
 
+def title(name, at, line):
+    return f"{name}, line {at + 1}, {line[:40]}"
+
+
+def is_any_wanted(name, lines):
+    return any(tally.wants(f"{maps.PLAYER} {title(name, at, line)}") for at, line in enumerate(lines))
+
+
 def of_players():
     """The scripts of the map, and some more that are made at random."""
     for kind, size in itertools.product(maps.KINDS, maps.PREFIX_LENS):
         first = f"map {size} {kind}"
         case(maps.PLAYER, f"new, {first}", made_new, first)
-    for name, kind, lines in maps.scripts():
+    for name, kind, lines in maps.scripts("lines" if ".lines" in given.word else "", is_any_wanted):
         if 4 not in maps.sizes(name):
             continue
         at_random = name.startswith("random")
@@ -305,8 +315,8 @@ def of_players():
         for at, line in enumerate(lines):
             call = line.split(" ")[0]
             if call not in PLAYERS_OWN and (at < first or call in RARE and model.size() <= MOST):
-                title, some = f"{name}, line {at + 1}, {line[:40]}", lines[: at + 20]
-                case(maps.PLAYER, title, one_call, kind, some, at, model.again(), before)
+                some = lines[: at + 20]
+                case(maps.PLAYER, title(name, at, line), one_call, kind, some, at, model.again(), before)
             before += played(model, [line])
 
 
@@ -337,9 +347,12 @@ def table():
 resource.setrlimit(resource.RLIMIT_CORE, (0, 0))
 os.makedirs("out", exist_ok=True)
 windows.build(SHIM)
-of_scenarios()
-for path in cases.programs(given):
-    of_program(path)
-of_players()
+PARTS = {
+    SCENARIOS: of_scenarios,
+    quick.PROGRAM: lambda: [of_program(it) for it in cases.programs(given)],
+    maps.PLAYER: of_players,
+}
+for part in [given["--of"]] if "--of" in given else PARTS:
+    PARTS[part]()
 table()
 tally.end()

@@ -1,28 +1,23 @@
 #!/usr/bin/env python3
 """Runs the tests of tests/players/vectors: worked values of the libraries, and what their callers return.
 
-    tests/vectors.py [WORD]    at the top of the repository; WORD: only tests that have it in their name are told
-Each file there begins with what it shows. `rt try --test` builds all as one crate, without proofs and under the address
+    tests/vectors.py [--quick] [WORD]   at the top of the repository; WORD: only tests that have it in their name are
+                                        told; --quick: without the address sanitizer
+Each file there begins with what it shows. tests/trials.py builds all as one crate, without proofs and under the address
 sanitizer, and runs each test in a process of its own. The names of leaves are noted before and after calls there, too:
 each key that stays keeps its leaf. Before, it looks that tests/worked.lines is true, which says of each worked row
 where it is played, and writes that as a table to out/worked.md.
 """
 import os
 import re
-import subprocess
 from glob import glob
 
 import cases
+import examples
 import players
+import trials
 
-TOP, NAME, LIMIT, WORKED = cases.TOP, "vectors", 1800, "tests/worked.lines"
-
-
-def tried(room):
-    """What `rt try --test` says of the tests, over the libraries as they stand."""
-    taken = players.copied(TOP, f"{room}/vectors", NAME)
-    how = {"stdin": subprocess.DEVNULL, "stdout": subprocess.PIPE, "stderr": subprocess.STDOUT, "errors": "replace"}
-    return subprocess.run(["rt", "try", "--test"], cwd=f"{taken}/crates/{NAME}", timeout=LIMIT, **how).stdout
+TOP, NAME, WORKED = cases.TOP, trials.NAME, "tests/worked.lines"
 
 
 def wanted():
@@ -55,17 +50,17 @@ def worked():
 
 
 def main():
-    told = cases.Tally(cases.given(__doc__).word)
+    given = cases.given(__doc__, "--quick")
+    told = cases.Tally(given.word)
     for what, path, lacks in worked():
         if told.wants(what):
             told.count(what, lacks and f"{path} lacks {lacks}", told=f"ok, {path}")
-    names, said = [it for it in wanted() if told.wants(it)], ""
-    if names:
-        with cases.folder() as room:
-            said = tried(room)
-    ended = dict(re.findall(r"(?m)^test (\w+::\w+) \.\.\. (\w+)$", said))
+    names = [it for it in wanted() if told.wants(it)]
+    said = trials.said(examples.module(), "--quick" in given) if names else ""
+    ended = trials.by_name(said)
     for it in names:
-        told.count(it, None if ended.get(it) == "ok" else ended.get(it, "not run"))
+        word = ended.get(it, ("not run", ""))[0]
+        told.count(it, None if word == "ok" else word)
     if told.failed:
         print(said[-3000:])
     told.end()

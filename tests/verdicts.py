@@ -153,3 +153,29 @@ def said_by(text, crate):
     for function, error in errors:
         found.setdefault(function, Said()).errors.append(error)
     return found
+
+
+def blamed(ran, chosen, texts):
+    """The edits for which a check came to no verdict: those in whose text rattle found an error, else all."""
+    none = r"rattle: error: (?:`\w+` has no function `([^`]+)`|several functions are named `([^`]+)`).*"
+    lost = re.search(none, ran.stdout)
+    if lost:
+        name = lost[1] or lost[2]
+        return [(it, f"NO SUCH FUNCTION: {lost[0][:600]}") for it in chosen if it.function == name]
+    found = {}
+    for path, line, why in re.findall(r"(?m)^(?:\./)?(\S+?):(\d+):\d+: (error\[.*|error: .*)", ran.stdout):
+        of_file = [it for it in chosen if path in [at for at, _, _ in it.pairs]]
+        near = sorted((distance(it, path, int(line), texts), it.name) for it in of_file)
+        if near:
+            found.setdefault(near[0][1], f"IT DOES NOT COMPILE: {path}:{line}: {why[:200]}")
+    if found:
+        return [(it, found[it.name]) for it in chosen if it.name in found]
+    end = ([""] + ran.stdout.strip().split("\n"))[-1]
+    return [(it, f"NOT JUDGED: the check ended with status {ran.returncode}: {end[:200]}") for it in chosen]
+
+
+def distance(edit, path, line, texts):
+    """How many lines a line of a file stands from the edit's text in it."""
+    places = [texts[path].find(new) for at, _, new in edit.pairs if at == path]
+    lines = [texts[path][:at].count("\n") + 1 for at in places if at >= 0]
+    return min((abs(line - it) for it in lines), default=1 << 20)

@@ -166,7 +166,9 @@ def counts_of(copy, at, made, number, row, log):
         with open(it, "wb") as file:
             file.write(made.replace(RIGHT.to_bytes(8, "little"), of_it.to_bytes(8, "little")))
         os.chmod(it, 0o755)
-    words = [sys.executable, "-uB", f"tests/{runner}", *([word] if word else [])]
+    # (of the refusals of other programs nothing is made ready)
+    of = ["--of", program] if runner == "refusals.py" else []
+    words = [sys.executable, "-uB", f"tests/{runner}", *of, *([word] if word else [])]
     how = {"cwd": copy, "stdin": subprocess.DEVNULL, "stderr": subprocess.STDOUT, "preexec_fn": limit}
     with open(log, "wb") as file:
         subprocess.run(words, stdout=file, **how)
