@@ -1,5 +1,5 @@
 -- What proofs above this crate name of it, from one place: its words and its lemmas.
-pub use Rattle.art_arena.proofs.Terms.{Allocates, AreAround, AreBelow, AreHalves, AreHeld, AreLinked, AreUnder, Arena, AscendsByKey, Branches, Cell, ChangesKind, Forest, Frame, FreesRoomOf, Group, HasNoFront, HasRoom, HasRoomOf, Held, Holds, HoldsOnly, IsArenaClone, IsAtDepth, IsAtKey}
+pub use Rattle.art_arena.proofs.Terms.{Allocates, AreAround, AreBelow, AreHalves, AreHeld, AreLinked, AreUnder, Arena, AscendsByKey, Branches, Cell, ChangesKind, Forest, Frame, FreesRoomOf, Group, HasNoFront, HasNoRoom, HasNoSpare, HasNoUnusedRoom, HasRoom, HasRoomOf, Held, Holds, HoldsOnly, IsArenaClone, IsAtDepth, IsAtKey}
 pub use Rattle.art_arena.proofs.Terms.{IsBeside, IsCanonical, IsCrossing, IsHeldClone, IsIn, IsKindOf, IsLimit, IsList, IsMeant, IsNodesBeside, IsPart, IsPlace, IsPutIn, IsSubtree, IsTreeBeside, IsUnder, KeepsLinksOutside, KeepsNodes, KeepsRoom, KeepsRoomOf, KeysWithin, LandsAt, LeafAt}
 pub use Rattle.art_arena.proofs.Terms.{Links, Means, OnWayTo, ReadsPath, SameCells, SameLeaves, SameNodes, Shape, Shrinks, Step, Stores, StoresAt, StoresBelow, StoresBeside, StoresOnly, TakesFronts, Tree, UpdatesAt, UsesRoomOf, WritesLinks, add_to, as_inner, as_leaf, begins_with, branch}
 pub use Rattle.art_arena.proofs.Terms.{branches, byte_after, bytes_after, cell_of, cells, cells_after, cells_before, cells_in, child, children_at, children_of, copies, count, count_of, crossings, distinct, end_slot, erase, erase_in, fill, first_slot, found_in, frame_cell, fronts_of}

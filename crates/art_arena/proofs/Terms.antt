@@ -1,8 +1,8 @@
 -- The words of this crate that its proofs and those above name, from one place.
 pub use Rattle.art_arena.specs.Laws.{AllIsMeant, Deletion, EditKeepsOthers, FrontIsBlock, Insertion, InsertionIsFree, LimitsAreKinds, OneMeaning, OrderIsLexicographic, ShapeMeansTree, ShrinksIsKindChange}
-pub use Rattle.art_arena.specs.arena.Arena.{Allocates, Arena, HasRoom, HasRoomOf, Held, IsTrimmed, KeepsNodes, KeepsRoom, KeepsRoomOf, SameCells, SameNodes, WritesLinks, as_inner, as_leaf, cell_of, held_as, held_at, inner_held, leaf_held, leaf_capacity, leaves_held, links_at, links_of}
+pub use Rattle.art_arena.specs.arena.Arena.{Allocates, Arena, HasNoRoom, HasNoUnusedRoom, HasRoom, HasRoomOf, Held, IsTrimmed, KeepsNodes, KeepsRoom, KeepsRoomOf, SameCells, SameNodes, WritesLinks, as_inner, as_leaf, cell_of, held_as, held_at, inner_held, leaf_held, leaf_capacity, leaves_held, links_at, links_of}
 pub use Rattle.art_arena.specs.arena.Arena.{node_at, slots_of, with_leaf}
-pub use Rattle.art_arena.specs.arena.ArenaClones.{IsArenaClone, IsHeldClone}
+pub use Rattle.art_arena.specs.arena.ArenaClones.{HasNoSpare, IsArenaClone, IsHeldClone}
 pub use Rattle.art_arena.specs.arena.Cells.{AreHeld, Cell, Holds, HoldsOnly, UpdatesAt, branches, copies, leaf_name, pair, same_kind, same_name}
 pub use Rattle.art_arena.specs.arena.Context.{AreAround, AreBelow, Frame, cells_after, cells_before, fill, frame_cell, leaves_after, leaves_before, path_to, plug, root_of}
 pub use Rattle.art_arena.specs.arena.Descents.{GoesNoFurther, GoesOn, GuidesBelow, HasConflict, HasNoFront, IsGuide, LandsAt, NoConflict, OnWayTo, ReadsPath, Stops, TakesFronts, leaf_where, located_where, passing}
@@ -13,7 +13,7 @@ pub use Rattle.art_arena.specs.arena.Linked.{AreHalves, AreLinked, CanLink, IsBe
 pub use Rattle.art_arena.specs.arena.Meaning.{IsAtDepth, IsNodesBeside, IsPart, IsSubtree, IsTreeBeside, Means, MeansBeside}
 pub use Rattle.art_arena.specs.arena.Places.{IsPlace}
 pub use Rattle.art_arena.specs.arena.Prefixes.{Mismatches, prefix_of}
-pub use Rattle.art_arena.specs.arena.Reads.{IsReadAt, KeysWithin, ReadsAtLeast, ReadsExactly, ReadsToFirst, guide_cost, unguided}
+pub use Rattle.art_arena.specs.arena.Reads.{IsReadAt, IsVisitedAt, KeysWithin, ReadsAtLeast, ReadsExactly, ReadsToFirst, guide_cost, unguided}
 pub use Rattle.art_arena.specs.arena.Rooms.{FreesRoomOf, SameLeaves, UsesRoomOf}
 pub use Rattle.art_arena.specs.arena.Shapes.{AreUnder, Branches, IsBranch, IsUnder, LeafAt, Shape, branch, cells, cells_in, children_at, erase, erase_in, inner_at, join, key_of, leaf_at, leaves, leaves_in, name_of, no_branch, node_of, pairs_of, width}
 pub use Rattle.art_arena.specs.arena.Steps.{Step, steps_of, steps_to}

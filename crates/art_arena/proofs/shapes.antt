@@ -66,3 +66,4 @@ pub mod LeafValues
 pub mod ClonedArenas
 -- An arena whose slabs end with a node has as few slots as its nodes allow.
 pub mod TrimmedArenas
+pub mod UnusedRooms

@@ -68,9 +68,9 @@ impl<K, V, const PREFIX_LEN: usize> NodeArena<K, V, PREFIX_LEN> {
     ghost use Rattle.art_arena.specs.arena.Shapes.{Shape, leaves};
     ghost use Rattle.art_arena.specs.arena.Stores.{StoresOnly};
     ghost use Rattle.art_arena.specs.arena.Arena.{HasRoomOf, IsTrimmed, KeepsRoom, KeepsRoomOf, UsesRoom};
-    ghost use Rattle.art_arena.specs.arena.Arena.{leaf_capacity};
+    ghost use Rattle.art_arena.specs.arena.Arena.{leaf_capacity, HasNoUnusedRoom};
     ghost use Rattle.art_arena.specs.arena.Rooms.{FreesRoomOf, UsesRoomOf, SameLeaves};
-    ghost use Rattle.art_arena.specs.arena.ArenaClones.{IsArenaClone};
+    ghost use Rattle.art_arena.specs.arena.ArenaClones.{IsArenaClone, HasNoSpare};
 
     /// Makes an arena that holds no node. It allocates nothing.
     pub fn new(alloc: Global) -> Self
@@ -119,6 +119,7 @@ impl<K, V, const PREFIX_LEN: usize> NodeArena<K, V, PREFIX_LEN> {
         ensures empty { (n : Name) → held_at self.new n ≡ None }
         ensures room { KeepsRoom self.old self.new }
         ensures room_of { KeepsRoomOf self.old self.new }
+        ensures leaf_capacity { leaf_capacity self.new ≡ leaf_capacity self.old }
     {
         self.leaves.clear();
         self.clear_inner();
@@ -134,6 +135,7 @@ impl<K, V, const PREFIX_LEN: usize> NodeArena<K, V, PREFIX_LEN> {
         ensures vacant { (n : Name) → n.kind ≢ NodeType.Leaf → held_at self.new n ≡ None }
         ensures room { KeepsRoom self.old self.new }
         ensures room_of { KeepsRoomOf self.old self.new }
+        ensures leaf_capacity { leaf_capacity self.new ≡ leaf_capacity self.old }
     {
         if PREFIX_LEN >= PREFIX_LEN_LIMIT {
             self.nodes4.none_fits();
@@ -151,39 +153,49 @@ impl<K, V, const PREFIX_LEN: usize> NodeArena<K, V, PREFIX_LEN> {
     }
 
     /// Makes an arena with a clone of each node under the same name, so that its links lead to clones as well. It has
-    /// no room to spare that it need not have.
+    /// memory for as many nodes of each kind as this one has slots, and for no more.
     ///
     /// Fails if a key, a value or a node can't be cloned. Nothing is left of it then.
     pub fn try_clone(&self, alloc: Global) -> Result<Self, AllocError>
     where
         K: Clone,
         V: Clone,
-        ensures { IfOk result (λ copy. IsArenaClone K.is_clone V.is_clone self.now copy) }
+        ensures clones { IfOk result (λ copy. IsArenaClone K.is_clone V.is_clone self.now copy) }
+        ensures exact { IfOk result (λ copy. HasNoSpare self.now copy) }
     {
-        let leaves = self.leaves.try_clone()?;
+        let mut copy = NodeArena::new(alloc);
+        copy.put_clones(self)?;
+        Ok(copy)
+    }
+
+    // Puts clones of the nodes of another arena into this one, which has none: each under the name of its original.
+    fn put_clones(&mut self, source: &Self) -> Result<(), AllocError>
+    where
+        K: Clone,
+        V: Clone,
+        requires { (n : Name) → held_at self.old n ≡ None }
+        ensures clones { OnOk result (IsArenaClone K.is_clone V.is_clone source.now self.new) }
+        ensures exact { OnOk result (HasNoSpare source.now self.new) }
+    {
+        self.leaves.put_clones(&source.leaves)?;
         if PREFIX_LEN >= PREFIX_LEN_LIMIT {
+            source.nodes4.none_fits();
+            source.nodes16.none_fits();
+            source.nodes32.none_fits();
+            source.nodes48.none_fits();
+            source.nodes256.none_fits();
             self.nodes4.none_fits();
             self.nodes16.none_fits();
             self.nodes32.none_fits();
             self.nodes48.none_fits();
             self.nodes256.none_fits();
-            return Ok(NodeArena {
-                leaves,
-                nodes4: Nodes::new(alloc),
-                nodes16: Nodes::new(alloc),
-                nodes32: Nodes::new(alloc),
-                nodes48: Nodes::new(alloc),
-                nodes256: Nodes::new(alloc),
-            });
+            return Ok(());
         }
-        Ok(NodeArena {
-            leaves,
-            nodes4: self.nodes4.try_clone()?,
-            nodes16: self.nodes16.try_clone()?,
-            nodes32: self.nodes32.try_clone()?,
-            nodes48: self.nodes48.try_clone()?,
-            nodes256: self.nodes256.try_clone()?,
-        })
+        self.nodes4.put_clones(&source.nodes4)?;
+        self.nodes16.put_clones(&source.nodes16)?;
+        self.nodes32.put_clones(&source.nodes32)?;
+        self.nodes48.put_clones(&source.nodes48)?;
+        self.nodes256.put_clones(&source.nodes256)
     }
 
     /// Allocates so many more nodes, whatever their kinds: as many allocations then can't fail.
@@ -205,13 +217,16 @@ impl<K, V, const PREFIX_LEN: usize> NodeArena<K, V, PREFIX_LEN> {
         self.nodes256.reserve(additional)
     }
 
-    /// Allocates so many more nodes of one kind: as many allocations of that kind then can't fail.
+    /// Allocates so many more nodes of one kind, and of no other: as many allocations of that kind then can't fail.
     ///
-    /// Fails only if there is no room for so many, and no memory. Either way, room that was there stays, and no name
-    /// changes.
+    /// Fails only if there is no room for so many, and no memory. Nothing is changed then. Either way, room that was
+    /// there stays, and no name changes.
     pub fn reserve_kind(&mut self, kind: NodeType, additional: usize) -> Result<(), AllocError>
         ensures room { OnOk result (HasRoomOf self.new kind additional) }
         ensures succeeds { HasRoomOf self.old kind additional → IsOk result }
+        ensures others { (other : NodeType) → other ≢ kind → (n : ℕ) → HasRoomOf self.new other n
+            → HasRoomOf self.old other n }
+        ensures err { OnErr result (self.new ≡ self.old) }
         ensures kept_room { KeepsRoom self.old self.new }
         ensures room_of { KeepsRoomOf self.old self.new }
         ensures kept { SameNodes self.old self.new }
@@ -227,7 +242,7 @@ impl<K, V, const PREFIX_LEN: usize> NodeArena<K, V, PREFIX_LEN> {
     }
 
     /// Gives memory back: of each kind, what lies after its last node. No node moves, and no name changes. So little
-    /// goes back while the last nodes stay.
+    /// goes back while the last nodes stay. Of a kind that has no node all goes back.
     pub fn shrink_to_fit(&mut self)
     where
         K: Drop,
@@ -235,6 +250,8 @@ impl<K, V, const PREFIX_LEN: usize> NodeArena<K, V, PREFIX_LEN> {
         ensures kept { SameNodes self.old self.new }
         ensures no_more { KeepsRoomOf self.new self.old }
         ensures trimmed { PREFIX_LEN < 2 ^ 62 → IsTrimmed self.new }
+        ensures frees { HasNoUnusedRoom self.new }
+        ensures leaf_capacity { leaves_held self.old ≡ 0 → leaf_capacity self.new ≡ 0 }
     {
         self.leaves.shrink_to_fit();
         self.nodes4.shrink_to_fit();

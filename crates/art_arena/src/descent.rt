@@ -1,17 +1,17 @@
 //! The way of a key down the tree below a name: to the one leaf that can be meant, or as far as it agrees.
-ghost use Rattle.std.specs.Prelude.{◌≡◌, ◌+◌, ◌-◌, ◌^◌, ◌≤◌, ◌↔◌, ◌++◌, ◌∷◌, [], ℕ, List, drop, length, min};
-ghost use Rattle.std.specs.Prelude.{IfSome, IsTrue, MatchOption, is_some, ◌||◌};
+ghost use Rattle.std.specs.Prelude.{◌≡◌, ◌+◌, ◌-◌, ◌^◌, ◌≤◌, ◌↔◌, ◌||◌, [], ℕ, List, drop, length, min};
+ghost use Rattle.std.specs.Prelude.{IfSome, IsTrue, MatchOption, is_some};
 ghost use Rattle.art_bytes.specs.Keys.{BeginsWith};
 ghost use Rattle.art_nodes.specs.Name.{Name};
 ghost use Rattle.art_arena.specs.arena.Arena.{node_at};
-ghost use Rattle.art_arena.specs.arena.Descents.{GoesNoFurther, GoesOn, HasNoFront, IsGuide, Lands, LandsAt};
-ghost use Rattle.art_arena.specs.arena.Descents.{OnWayTo, Stops};
+ghost use Rattle.art_arena.specs.arena.Descents.{HasNoFront, IsGuide, Lands, LandsAt, OnWayTo, Stops};
 ghost use Rattle.art_arena.specs.arena.Prefixes.{prefix_of};
 ghost use Rattle.art_arena.specs.arena.Reads.{DescentReads, IsReadAt, KeysWithin, ReadsAtLeast, ReadsExactly};
 ghost use Rattle.art_arena.specs.arena.Reads.{guide_cost, unguided};
 ghost use Rattle.art_arena.specs.tree.Ways.{descent_reads, is_cut};
 ghost use Rattle.art_arena.specs.arena.Shapes.{Shape, erase, leaves};
 ghost use Rattle.art_arena.specs.arena.Stores.{Stores, StoresAt};
+ghost use Rattle.art_arena.specs.inner.Stepping.{IsGuided, StepsFrom, TakesStep};
 ghost use Rattle.art_arena.specs.arena.Visited.{arena_of, count_of};
 ghost use Rattle.art_arena.specs.tree.Paths.{path_of};
 
@@ -116,34 +116,15 @@ fn step_at<'a, K: AsBytes, V, const PREFIX_LEN: usize>(
 ) -> Option<NextStep>
     requires stands { (root : Name) × (path : List ℕ) × (s : Shape K V)
         × IsReadAt K.bytes PREFIX_LEN (arena_of reader.old) inner.now.node root depth path s
-        × (passing ≡ Passing.ByBytes → IfSome guide.old (λ leaf. IsGuide key.now (K.bytes leaf.now.key) path s)) }
+        × (passing ≡ Passing.ByBytes → IsGuided K.bytes key.now path s guide.old) }
     requires within { depth ≤ length key.now }
-    ensures goes { MatchOption result (passing ≡ Passing.ByLength → GoesNoFurther key.now depth inner.now.node)
-        (λ step. GoesOn key.now depth inner.now.node step.byte step.child step.depth) }
-    ensures by_bytes { passing ≡ Passing.ByBytes → (root : Name) (path : List ℕ) (s : Shape K V)
+    ensures goes { TakesStep passing key.now depth inner.now.node result }
+    ensures steps { (root : Name) (path : List ℕ) (s : Shape K V)
         → IsReadAt K.bytes PREFIX_LEN (arena_of reader.old) inner.now.node root depth path s
-        → IfSome guide.old (λ leaf. IsGuide key.now (K.bytes leaf.now.key) path s) → BeginsWith path key.now
-        → MatchOption result (Stops K.bytes key.now path s)
-        (λ step. BeginsWith ((path ++ prefix_of s) ++ step.byte ∷ []) key.now) }
-    ensures keeps { passing ≡ Passing.ByBytes → (root : Name) (path : List ℕ) (s : Shape K V)
-        → IsReadAt K.bytes PREFIX_LEN (arena_of reader.old) inner.now.node root depth path s
-        → IfSome guide.old (λ leaf. IsGuide key.now (K.bytes leaf.now.key) path s)
-        → IfSome guide.new (λ leaf. IsGuide key.now (K.bytes leaf.now.key) path s) }
+        → StepsFrom K.bytes PREFIX_LEN key.now depth path s passing result guide.old guide.new reader.old reader.new }
     ensures kept { arena_of reader.new ≡ arena_of reader.old }
     ensures by_length { passing ≡ Passing.ByLength → count_of reader.new ≡ count_of reader.old }
-    ensures found { passing ≡ Passing.ByBytes → (root : Name) (path : List ℕ) (s : Shape K V)
-        → IsReadAt K.bytes PREFIX_LEN (arena_of reader.old) inner.now.node root depth path s
-        → is_some guide.new ≡ (is_some guide.old || is_cut PREFIX_LEN (erase s)) }
-    ensures counts { passing ≡ Passing.ByBytes → (root : Name) (path : List ℕ) (s : Shape K V)
-        → IsReadAt K.bytes PREFIX_LEN (arena_of reader.old) inner.now.node root depth path s
-        → count_of reader.old ≤ 2 ^ 64 - 1
-        → ReadsExactly (guide_cost guide.old PREFIX_LEN (erase s) (drop depth key.now)) (count_of reader.old)
-        (count_of reader.new) }
     ensures least { ReadsAtLeast 0 (count_of reader.old) (count_of reader.new) }
-    ensures few { (root : Name) (path : List ℕ) (s : Shape K V)
-        → IsReadAt K.bytes PREFIX_LEN (arena_of reader.old) inner.now.node root depth path s
-        → (longest : ℕ) → KeysWithin K.bytes longest (leaves s)
-        → count_of reader.new + unguided guide.new longest ≤ count_of reader.old + unguided guide.old longest }
 {
     match passing {
         Passing::ByLength => inner.next_step(key, depth),

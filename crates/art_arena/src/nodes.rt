@@ -1,5 +1,5 @@
 //! The nodes of one kind, under their slab keys.
-ghost use Rattle.std.specs.Prelude.{◌≡◌, ℕ, ◌<◌, ◌≤◌, ◌^◌, ◌↔◌, ◌+◌};
+ghost use Rattle.std.specs.Prelude.{◌≡◌, ℕ, ◌<◌, ◌≤◌, ◌^◌, ◌↔◌, ◌+◌, ◌/◌, length, max};
 ghost use Rattle.std.specs.Prelude.{[], Some, None, IfOk, IfErr, IsOk, IsSome, IsTrue, OnErr, OnOk};
 ghost use Rattle.std.specs.Borrow.{sem};
 ghost use Rattle.slab.specs.Slab.{get, slab_len, EndsWithValue, HasRoomFor, SameValues, Updates, IsSlotClone};
@@ -36,6 +36,9 @@ impl<N, const PREFIX_LEN: usize> Model for Nodes<N, PREFIX_LEN> {
 #[cold]
 fn reserve_fewer<T>(slab: &mut Slots<T>, additional: usize) -> Result<(), AllocError>
     ensures room { OnOk result (HasRoomFor slab.new additional) }
+    ensures few { slab.new.capacity
+        ≤ max slab.old.capacity (slab_len slab.old + max additional (slab.old.capacity / 2)) }
+    ensures err { OnErr result (slab.new ≡ slab.old) }
     ensures capacity { slab.old.capacity ≤ slab.new.capacity }
     ensures kept { slab.new ≡ record slab.old { capacity = slab.new.capacity } }
 {
@@ -56,6 +59,8 @@ fn reserve_fewer<T>(slab: &mut Slots<T>, additional: usize) -> Result<(), AllocE
 fn reserve_in<T>(slab: &mut Slots<T>, additional: usize) -> Result<(), AllocError>
     ensures room { OnOk result (HasRoomFor slab.new additional) }
     ensures succeeds { HasRoomFor slab.old additional → IsOk result }
+    ensures err { OnErr result (slab.new ≡ slab.old) }
+    ensures enough { HasRoomFor slab.old additional → slab.new ≡ slab.old }
     ensures capacity { slab.old.capacity ≤ slab.new.capacity }
     ensures kept { slab.new ≡ record slab.old { capacity = slab.new.capacity } }
 {
@@ -83,11 +88,13 @@ impl<N, const PREFIX_LEN: usize> Nodes<N, PREFIX_LEN> {
         self.slab.len()
     }
 
-    // Where a node fits in no memory, there is none.
+    // Where a node fits in no memory, there is none, no slot for one, and no room.
     pub(crate) fn none_fits(&self)
-        ensures { 2 ^ 62 ≤ PREFIX_LEN → (slot : ℕ) → get self.now slot ≡ None }
+        ensures none { 2 ^ 62 ≤ PREFIX_LEN → (slot : ℕ) → get self.now slot ≡ None }
+        ensures slots { 2 ^ 62 ≤ PREFIX_LEN → length self.now.slots ≡ 0 }
+        ensures capacity { 2 ^ 62 ≤ PREFIX_LEN → self.now.capacity ≡ 0 }
     {
-        let _slab = &self.slab;
+        let _capacity = self.slab.capacity();
     }
 
     // Takes all nodes out. The room for them stays.
@@ -101,16 +108,18 @@ impl<N, const PREFIX_LEN: usize> Nodes<N, PREFIX_LEN> {
         self.slab.clear();
     }
 
-    // Clones of the nodes, each under the key of its original. Spare room is not copied.
-    pub(crate) fn try_clone(&self) -> Result<Self, AllocError>
+    // Puts clones of other nodes in place of these, each under the key of its original. There is room for as many as
+    // the original has slots: spare room is not copied.
+    pub(crate) fn put_clones(&mut self, source: &Self) -> Result<(), AllocError>
     where
         N: Clone,
         requires { PREFIX_LEN < 2 ^ 62 }
-        ensures { IfOk result (λ copy. (slot : ℕ) → IsSlotClone N.is_clone (get self.now slot) (get copy slot)) }
+        ensures clones { OnOk result ((slot : ℕ) → IsSlotClone N.is_clone (get source.now slot) (get self.new slot)) }
+        ensures exact { OnOk result (self.new.capacity ≡ length source.now.slots) }
     {
-        Ok(Nodes {
-            slab: self.slab.clone()?,
-        })
+        let slab = source.slab.clone()?;
+        self.slab = slab;
+        Ok(())
     }
 
     // Whether there is a node under this key.
@@ -124,6 +133,8 @@ impl<N, const PREFIX_LEN: usize> Nodes<N, PREFIX_LEN> {
     pub(crate) fn reserve(&mut self, additional: usize) -> Result<(), AllocError>
         ensures room { OnOk result (HasRoomFor self.new additional) }
         ensures succeeds { HasRoomFor self.old additional → IsOk result }
+        ensures err { OnErr result (self.new ≡ self.old) }
+        ensures enough { HasRoomFor self.old additional → self.new ≡ self.old }
         ensures capacity { self.old.capacity ≤ self.new.capacity }
         ensures kept { self.new ≡ record self.old { capacity = self.new.capacity } }
     {
@@ -144,18 +155,20 @@ impl<N, const PREFIX_LEN: usize> Nodes<N, PREFIX_LEN> {
         let _capacity = self.slab.capacity();
     }
 
-    // Gives back the memory after the last node. No key changes.
+    // Gives back the memory after the last node: all of it where there is none. No key changes.
     pub(crate) fn shrink_to_fit(&mut self)
     where
         N: Drop,
         ensures values { SameValues self.old self.new }
         ensures capacity { (n : ℕ) → HasRoomFor self.new n → HasRoomFor self.old n }
         ensures trimmed { PREFIX_LEN < 2 ^ 62 → EndsWithValue self.new }
+        ensures frees { slab_len self.old ≡ 0 → self.new.capacity ≡ 0 }
     {
+        let slab = &mut self.slab;
         if PREFIX_LEN >= PREFIX_LEN_LIMIT {
             return;
         }
-        self.slab.shrink_to_fit();
+        slab.shrink_to_fit();
     }
 
     // Stores a node, or hands it back where there is no memory.
@@ -163,10 +176,11 @@ impl<N, const PREFIX_LEN: usize> Nodes<N, PREFIX_LEN> {
         ensures was_vacant { IfOk result (λ slot. get self.old slot ≡ None) }
         ensures updates { IfOk result (λ slot. Updates self.old self.new slot (Some node)) }
         ensures len { OnOk result (slab_len self.new ≡ slab_len self.old + 1) }
-        ensures err { OnErr result (self.new ≡ record self.old { capacity = self.new.capacity }) }
+        ensures err { OnErr result (self.new ≡ self.old) }
         ensures handed_back { IfErr result (λ failed. failed.value ≡ node) }
         ensures succeeds { HasRoomFor self.old 1 → IsOk result }
         ensures capacity { self.old.capacity ≤ self.new.capacity }
+        ensures enough { HasRoomFor self.old 1 → self.new.capacity ≡ self.old.capacity }
         ensures below { IfOk result (λ slot. slot < 2 ^ 61) }
     {
         let slab = &mut self.slab;

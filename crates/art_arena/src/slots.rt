@@ -1,12 +1,14 @@
 //! Values under slab keys, as in the kit's slab, which promises no bound on a key. Here each is below 2^61, so that a
 //! word holds a key and the kind of a node.
 ghost use Rattle.std.specs.Prelude.{◌≡◌, ◌+◌, ◌<◌, ◌≤◌, ◌^◌, ◌↔◌, [], map, length};
-ghost use Rattle.std.specs.Prelude.{IsTrue, IsOk, IsSome, OnSome, OnOk, Some, None};
-ghost use Rattle.std.specs.Prelude.{count_by, option_copied, slice_set, vec_len, vec_capacity};
+ghost use Rattle.std.specs.Prelude.{IsTrue, IsOk, IsSome, IfOk, OnErr, OnSome, OnOk, Some, None};
+ghost use Rattle.std.specs.Prelude.{count_by, max, option_copied, slice_set, vec_len, vec_capacity};
+ghost use Rattle.std.specs.List.{AllZip};
 ghost use Rattle.std.specs.Option.{option_copied_mut};
 ghost use Rattle.std.specs.Borrow.{Lends, sem};
 ghost use Rattle.slab.specs.Slab.{get, ContainsKey, slab_len, HasRoomFor, EndsWithValue, Updates, SameValues};
 ghost use Rattle.art_arena.specs.inner.Entries.{value_of, is_vacant, IsVacantList, SameEntryValues, EndsOccupied};
+ghost use Rattle.art_arena.specs.inner.Entries.{IsEntryClone};
 
 use std::alloc::{AllocError, Global};
 use std::marker::Model;
@@ -51,8 +53,6 @@ impl<T> Model for Slots<T> {
 }
 
 impl<T: Clone> Clone for Entry<T> {
-    ghost use Rattle.art_arena.specs.inner.Entries.{IsEntryClone};
-
     ghost is_clone = { IsEntryClone T.is_clone };
 
     fn clone(&self) -> Result<Self, AllocError> {
@@ -89,6 +89,20 @@ fn pop_vacant<T: Drop>(slots: &mut Vec<Entry<T>>)
     while let Some(Entry::Vacant(_)) = slots.last() {
         slots.pop();
     }
+}
+
+// Clones of these entries, with memory for no more.
+fn clone_entries<T: Clone>(alloc: Global, entries: &[Entry<T>]) -> Result<Vec<Entry<T>>, AllocError>
+    ensures clones { IfOk result (λ copies. AllZip (IsEntryClone T.is_clone) entries.now copies.items) }
+    ensures exact { IfOk result (λ copies. vec_capacity copies ≡ length entries.now) }
+{
+    let mut copies = Vec::with_capacity(alloc, entries.len())?;
+    let mut key = 0;
+    'each: while key < entries.len() {
+        copies.push_reserved(entries[key].clone()?);
+        key += 1;
+    }
+    Ok(copies)
 }
 
 // Links the vacant entries by rising key, and returns the first.
@@ -135,6 +149,8 @@ impl<T> Slots<T> {
     pub(crate) fn reserve(&mut self, additional: usize) -> Result<(), AllocError>
         ensures room { OnOk result (HasRoomFor self.new additional) }
         ensures succeeds { HasRoomFor self.old additional → IsOk result }
+        ensures err { OnErr result (self.new ≡ self.old) }
+        ensures enough { HasRoomFor self.old additional → self.new ≡ self.old }
         ensures capacity { self.old.capacity ≤ self.new.capacity }
         ensures rest_kept { self.new ≡ record self.old { capacity = self.new.capacity } }
     {
@@ -151,7 +167,9 @@ impl<T> Slots<T> {
     // Makes room for so many more values, and no more.
     pub(crate) fn reserve_exact(&mut self, additional: usize) -> Result<(), AllocError>
         ensures room { OnOk result (HasRoomFor self.new additional) }
+        ensures exact { OnOk result (self.new.capacity ≡ max self.old.capacity (slab_len self.old + additional)) }
         ensures succeeds { HasRoomFor self.old additional → IsOk result }
+        ensures err { OnErr result (self.new ≡ self.old) }
         ensures capacity { self.old.capacity ≤ self.new.capacity }
         ensures rest_kept { self.new ≡ record self.old { capacity = self.new.capacity } }
     {
@@ -165,7 +183,8 @@ impl<T> Slots<T> {
         self.entries.reserve_exact(need_add)
     }
 
-    // Drops the vacant entries past the last value, and gives back the memory that is not needed. No key changes.
+    // Drops the vacant entries past the last value, and gives back the memory that is not needed: all of it where there
+    // is no value. No key changes.
     pub(crate) fn shrink_to_fit(&mut self)
     where
         T: Drop,
@@ -173,6 +192,7 @@ impl<T> Slots<T> {
         ensures len { slab_len self.new ≡ slab_len self.old }
         ensures trimmed { EndsWithValue self.new }
         ensures capacity { self.new.capacity ≤ self.old.capacity }
+        ensures frees { slab_len self.old ≡ 0 → self.new.capacity ≡ 0 }
     {
         let len_before = self.entries.len();
         pop_vacant(&mut self.entries);
@@ -302,13 +322,13 @@ impl<T> Slots<T> {
 }
 
 impl<T: Clone> Clone for Slots<T> {
-    ghost use Rattle.slab.specs.Slab.{IsSlabClone};
+    ghost use Rattle.art_arena.specs.inner.Entries.{IsSlotsClone};
 
-    ghost is_clone = { IsSlabClone T.is_clone };
+    ghost is_clone = { IsSlotsClone T.is_clone };
 
     fn clone(&self) -> Result<Self, AllocError> {
         Ok(Slots {
-            entries: self.entries.clone()?,
+            entries: clone_entries(*self.entries.allocator(), self.entries.as_slice())?,
             len: self.len,
             next: self.next,
         })

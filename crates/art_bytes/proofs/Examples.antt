@@ -1,6 +1,6 @@
 -- Worked examples of the words on byte strings, computed by the checker.
 use Rattle.std.proofs.Common.{◌≡◌, ℕ, List, [], ◌∷◌, true, false, refl, inl, inr, lit<}
-use Rattle.std.specs.declared.cmp.Ordering.TheVariants.{Less, Equal, Greater}
+use Rattle.std.specs.declared.cmp.Ordering.TheVariants.{Less}
 use Rattle.art_bytes.proofs.Terms.{bytes_cmp, is_below, is_proper_front, conflicts, BeginsWith, IsProperFront, IsBefore, common_prefix, shared_prefix, agreeing}
 
 -- the first pair of different bytes decides, however long the keys are

@@ -21,10 +21,6 @@ slots-cloned R (x ∷ xs) [] h n = absurd h
 slots-cloned R (x ∷ xs) (y ∷ ys) h zero = h.0
 slots-cloned R (x ∷ xs) (y ∷ ys) h (suc n) = slots-cloned R xs ys h.1 n
 
--- no slot has a value, before and after
-pub empty-cloned : {T : Type 0} (R : T → T → Type 0) (s copy : Slab T) → ((slot : ℕ) → get s slot ≡ None) → copy.slots ≡ [] → (slot : ℕ) → IsSlotClone R (get s slot) (get copy slot)
-empty-cloned R s copy none e slot = rw (none slot) (ap (λ xs. slice_index_or xs slot None) e)
-
 module _ {K V : Type 0} (KeyClone : K → K → Type 0) (ValueClone : V → V → Type 0) where
   leaf-cloned : (o c : Option (LeafNode K V)) → IsSlotClone (IsLeafClone KeyClone ValueClone) o c → IsHeldClone KeyClone ValueClone (as_leaf o) (as_leaf c)
   leaf-cloned None c h = ap as_leaf h
@@ -35,6 +31,14 @@ module _ {K V : Type 0} (KeyClone : K → K → Type 0) (ValueClone : V → V �
   inner-cloned None c h = ap (as_inner {K = K} {V = V}) h
   inner-cloned (Some node) None h = absurd h
   inner-cloned (Some node) (Some twin) h = ap (λ m. as_inner {K = K} {V = V} (Some m)) h
+
+  inner-vacant : (o : Option InnerNode) → as_inner {K = K} {V = V} o ≡ None → o ≡ None
+  inner-vacant None e = refl
+  inner-vacant (Some node) e = absurd (cc)
+
+  -- no slot has a node, in the original and in the copy
+  pub vacant-cloned : (s copy : Slab InnerNode) → ((slot : ℕ) → get s slot ≡ None) → ((slot : ℕ) → as_inner {K = K} {V = V} (get copy slot) ≡ None) → (slot : ℕ) → IsSlotClone SameInner (get s slot) (get copy slot)
+  vacant-cloned s copy none vacant slot = rw (none slot) (inner-vacant (get copy slot) (vacant slot))
 
   pub arena-cloned : (arena copy : Arena K V) → ((slot : ℕ) → IsSlotClone (IsLeafClone KeyClone ValueClone) (get arena.leaves slot) (get copy.leaves slot))
       → ((slot : ℕ) → IsSlotClone SameInner (get arena.nodes4 slot) (get copy.nodes4 slot)) → ((slot : ℕ) → IsSlotClone SameInner (get arena.nodes16 slot) (get copy.nodes16 slot))

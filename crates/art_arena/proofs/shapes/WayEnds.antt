@@ -1,5 +1,5 @@
 -- Where a key's way by all its bytes stands, and where it ends.
-use Rattle.std.proofs.Common.{◌≡◌, ℕ, ◌+◌, ◌-◌, ◌^◌, ◌||◌, min, List, [], ◌∷◌, ◌++◌, drop, length, is_some, Option, None, Some, refl, sym, ap, subst, ◌∙◌, ◌≤◌, arith}
+use Rattle.std.proofs.Common.{◌≡◌, ℕ, ◌+◌, ◌-◌, ◌^◌, ◌||◌, min, List, [], ◌∷◌, ◌++◌, drop, is_some, Option, None, Some, refl, ap, subst, ◌∙◌, ◌≤◌, arith}
 use Rattle.art_bytes.proofs.Common.{BeginsWith}
 use Rattle.art_nodes.proofs.Common.{InnerNode, Name}
 use Rattle.art_arena.proofs.Terms.{Cell, branches, pair, GoesOn, IsAtDepth, IsSubtree, Shape, Stops, descent_reads, erase, guide_cost, is_cut, prefix_of, ReadsExactly, way_of}

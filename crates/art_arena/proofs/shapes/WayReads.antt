@@ -1,11 +1,10 @@
 -- What is left of a key's way by all its bytes, and how much of it is read.
-use Rattle.std.proofs.Common.{◌≡◌, ℕ, suc, ◌+◌, ◌-◌, ◌^◌, ◌||◌, min, true, false, List, [], ◌∷◌, ◌++◌, length, drop, is_some, Option, Some, None, refl, sym, ap, subst, ◌∙◌, inl, inr, arith, append_assoc, eq-eqb}
+use Rattle.std.proofs.Common.{◌≡◌, ℕ, ◌+◌, ◌-◌, ◌^◌, ◌||◌, min, true, false, List, [], ◌∷◌, ◌++◌, length, drop, is_some, Option, Some, None, refl, sym, ap, ◌∙◌, inl, inr, arith, append_assoc, eq-eqb}
 use Rattle.std.proofs.lemmas.Bool.{cond-true}
 use Rattle.std.proofs.lemmas.Bool.Decides.{eqb_tells}
 use Rattle.art_bytes.proofs.Common.{BeginsWith}
 use Rattle.art_nodes.proofs.Common.{Name}
-use Rattle.art_arena.proofs.Terms.{Shape, Branches, leaf_at, inner_at, no_branch, branch, join, erase, erase_in, children_at, AreBelow, Tree, Stops, pass, passes, ends, differs, is_cut, guide_cost, guide_reads, descent_reads, path_to_guide, way_in, way_of, ReadsExactly}
-use Rattle.art_arena.specs.tree.Trees as tree
+use Rattle.art_arena.proofs.Terms.{Shape, Branches, leaf_at, inner_at, no_branch, branch, join, erase, erase_in, AreBelow, Tree, Stops, pass, passes, is_cut, guide_cost, guide_reads, descent_reads, path_to_guide, way_in, way_of, ReadsExactly}
 use Rattle.art_arena.proofs.tree.Landing.{Passed, pass_says, end, other, on}
 use Rattle.art_arena.proofs.shapes.Finding.{Avoid, avoid-missing}
 use Rattle.art_arena.proofs.shapes.Passing.{following}

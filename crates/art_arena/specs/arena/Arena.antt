@@ -119,6 +119,15 @@ module _ {K V : Type 0} where
   HasRoomOf arena Node48 n = HasRoomFor arena.nodes48 n
   HasRoomOf arena Node256 n = HasRoomFor arena.nodes256 n
 
+  -- there is no room for a node of any kind
+  abbrev pub HasNoRoom : Arena K V → Type 0
+  HasNoRoom arena = (kind : NodeType) → HasRoomOf arena kind 1 → ⊥
+
+  -- there is no room for a node of a kind of which none is held
+  abbrev pub HasNoUnusedRoom : Arena K V → Type 0
+  HasNoUnusedRoom arena =
+      (kind : NodeType) → ((slot : ℕ) → held_as arena kind slot ≡ None) → HasRoomOf arena kind 1 → ⊥
+
   -- what room there was of each kind stays
   abbrev pub KeepsRoomOf : Arena K V → Arena K V → Type 0
   KeepsRoomOf old new = (kind : NodeType) (n : ℕ) → HasRoomOf old kind n → HasRoomOf new kind n

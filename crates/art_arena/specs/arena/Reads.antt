@@ -4,7 +4,7 @@ use Rattle.std.specs.List.{AllByRecursion}
 use Rattle.art_nodes.specs.Name.{Name}
 use Rattle.art_nodes.specs.InnerNode.{InnerNode}
 use Rattle.art_nodes.specs.declared.leaf.LeafNode.{LeafNode}
-use Rattle.art_arena.specs.arena.Arena.{Arena, held_at, inner_held, leaf_held}
+use Rattle.art_arena.specs.arena.Arena.{Arena, Held, held_at, inner_held, leaf_held}
 use Rattle.art_arena.specs.arena.Cells.{leaf_name}
 use Rattle.art_arena.specs.arena.Linked.{first_slot}
 use Rattle.art_arena.specs.arena.Shapes.{Shape, LeafAt, erase, leaves}
@@ -52,8 +52,12 @@ module _ {K V : Type 0} (bytes : K → List ℕ) where
       → held_at arena (leaf_name slot) ≡ Some (leaf_held leaf)
       → ReadsAfter (drop (length path) (bytes leaf.key)) s old new
 
-  module _ (P : ℕ) (arena : Arena K V) (node : InnerNode) where
-    -- this inner node was read, and is the root of this part, which is canonical under a path of so many bytes
-    pub record IsReadAt (root : Name) (depth : ℕ) (path : List ℕ) (s : Shape K V) : Type 0 where
+  module _ (P : ℕ) (arena : Arena K V) where
+    -- this node was read, and is the root of this part, which is canonical under a path of so many bytes
+    pub record IsVisitedAt (node : Held K V) (root : Name) (depth : ℕ) (path : List ℕ) (s : Shape K V) : Type 0 where
       pub stands : StoresAt bytes P arena root depth path s
-      pub held : held_at arena root ≡ Some (inner_held node)
+      pub held : held_at arena root ≡ Some node
+
+    -- so was this inner node
+    abbrev pub IsReadAt : InnerNode → Name → ℕ → List ℕ → Shape K V → Type 0
+    IsReadAt node root depth path s = IsVisitedAt (inner_held node) root depth path s

@@ -1,6 +1,7 @@
 -- How the values of a slab lie in its entries, and how the vacant ones are linked.
 use Rattle.std.specs.Prelude.{◌≡◌, ℕ, Bool, true, false, zero, suc, ◌+◌, ◌-◌, ◌^◌, ◌<◌, ◌≤◌, List, map, length}
 use Rattle.std.specs.Prelude.{Option, Some, None, is_some, IsSome, count_by, slice_get, slice_index_or}
+use Rattle.slab.specs.Slab.{Slab, IsSlabClone}
 use Rattle.art_arena.specs.declared.slots.Entry.{Entry}
 use Rattle.art_arena.specs.declared.slots.Entry.TheVariants.{Vacant, Occupied}
 
@@ -45,3 +46,8 @@ module _ {T : Type 0} where
   abbrev pub EndsOccupied : List (Entry T) → Type 0
   EndsOccupied es =
       0 < length es → IsSome (slice_index_or (map value_of es) (length es - 1) None)
+
+  -- the copy is a clone, and has memory for its slots and for no more
+  pub record IsSlotsClone (is_clone : T → T → Type 0) (slots copy : Slab T) : Type 0 where
+    pub clones : IsSlabClone is_clone slots copy
+    pub exact : copy.capacity ≡ length slots.slots

@@ -1,9 +1,9 @@
 -- Names, words and links: each tells what the other does. Nothing here is a definition.
-use Rattle.std.proofs.Common.{◌≡◌, ℕ, zero, suc, ◌+◌, ◌*◌, ◌/◌, ◌%◌, ◌<◌, Option, refl, arith}
+use Rattle.std.proofs.Common.{◌≡◌, ℕ, zero, suc, ◌+◌, ◌*◌, ◌/◌, ◌%◌, ◌<◌, refl, arith}
 use Rattle.art_nodes.specs.declared.kind.NodeType.{NodeType}
 use Rattle.art_nodes.specs.declared.kind.NodeType.TheVariants.{Node4, Node16, Node32, Node48, Node256, Leaf}
-use Rattle.art_nodes.specs.Name.{Name, code_of, kind_coded, word_of, name_in, IsWord, name_in_place, place_word, IsPlaceWord}
-use Rattle.art_nodes.specs.Name.{linked_by, above_of}
+use Rattle.art_nodes.specs.Name.{code_of, kind_coded, word_of, name_in, IsWord}
+use Rattle.art_nodes.specs.Name.{name_in_place, place_word, IsPlaceWord, linked_by, above_of}
 
 code_of-kind_coded : (code : ℕ) → 0 < code → code < 7 → code_of (kind_coded code) ≡ code
 code_of-kind_coded zero coded below = absurd (omega arith)

@@ -99,10 +99,10 @@ returns-in-None-clause-stops g c = λ mode path s at begins.
     let arena_is = c.visit.ensures.kept ∙ c.down.invariant.kept in
     let way = c.down.invariant.way c.requires.tree.0 c.requires.tree.1 in
     let sub = way-subtree g.K.AsBytes.bytes c.args.key.now c.requires.tree.0 c.args.reader.now.count g.row.PREFIX_LEN (node_at c.args.reader.now.arena.now) c.args.root c.requires.tree.1 c.down.current c.down.search c.down.depth way.0 way.1.0 in
-    c.in-None.ensures.by_bytes mode c.down.current path s (record {
+    ((c.in-None.ensures.steps c.down.current path s (record {
       stands = subst (λ a. IsAtDepth g.K.AsBytes.bytes g.row.PREFIX_LEN (node_at a) c.down.current c.down.depth path s) (sym arena_is) at;
       held = ap (λ a. held_at a c.down.current) c.visit.ensures.kept ∙ c.visit.ensures.value ∙ ap Some c.in-Err.ensures.0;
-    }) (some_weaker c.down.guide _ _ (λ leaf. guide_any g.K.AsBytes.bytes g.row.PREFIX_LEN (node_at c.args.reader.now.arena.now) c.args.key.now c.down.current c.down.depth (path_to way.1.0.ctx) path way.1.0.part s
+    })).by_bytes mode).goes (some_weaker c.down.guide _ _ (λ leaf. guide_any g.K.AsBytes.bytes g.row.PREFIX_LEN (node_at c.args.reader.now.arena.now) c.args.key.now c.down.current c.down.depth (path_to way.1.0.ctx) path way.1.0.part s
     (record { subtree = sub; path_len = way.1.0.depth_is }) at (way.1.1 mode) begins (g.K.AsBytes.bytes leaf.now.key)) (way.1.2 mode)) begins
 
 -- what was found stands for this part too
@@ -126,10 +126,10 @@ pub returns-in-None-clause-reads : goal.returns-in-None-clause-reads
 returns-in-None-clause-reads g c = λ mode s tree.
     let d = (goal.at.returns-in-None-clause-reads g c).In-Err in
     let left = c.down.invariant.left mode s tree in
-    let read = read_along g d left.path left.part left.stands in
+    let step = (c.in-None.ensures.steps c.down.current left.path left.part (read_along g d left.path left.part left.stands)).by_bytes mode in
     (way-ended g.K.AsBytes.bytes g.row.PREFIX_LEN (node_at c.args.reader.now.arena.now) c.args.key.now s c.args.reader.now.count c.down.guide c.down.current c.down.depth c.down.reader.count left
-    c.visit.new.self.count c.step_at.new.reader.count c.visit.ensures.counts (c.in-None.ensures.counts mode c.down.current left.path left.part read (omega arith))
-    (c.in-None.ensures.by_bytes mode c.down.current left.path left.part read (guided g d mode left.path left.part left.stands left.begins) left.begins))
+    c.visit.new.self.count c.step_at.new.reader.count c.visit.ensures.counts (step.counts (omega arith))
+    (step.goes (guided g d mode left.path left.part left.stands left.begins) left.begins))
 
 pub returns-in-Ok-clause-reads : goal.returns-in-Ok-clause-reads
 returns-in-Ok-clause-reads g c = λ mode s tree.
@@ -145,7 +145,7 @@ returns-in-None-clause-few g c = λ s tree longest short.
     let d = (goal.at.returns-in-None-clause-few g c).In-Err in
     let way = c.down.invariant.way s tree in
     let within = part_within g.K.AsBytes.bytes longest s way.1.0.ctx way.1.0.part way.1.0.place.is short in
-    let more = c.in-None.ensures.few c.down.current (path_to way.1.0.ctx) way.1.0.part (is_read g d s tree way.0 way.1.0) longest within in
+    let more = (c.in-None.ensures.steps c.down.current (path_to way.1.0.ctx) way.1.0.part (is_read g d s tree way.0 way.1.0)).few longest within in
     omega (arith, c.down.invariant.reads s tree longest short, more, c.visit.ensures.counts)
 
 pub down-preserved : goal.down-preserved
@@ -158,27 +158,27 @@ down-preserved g c =
       kept = c.in-Some.ensures.kept ∙ c.visit.ensures.kept ∙ c.down.invariant.kept;
       way = λ s tree.
           let way = c.down.invariant.way s tree in
-          let read = is_read g d s tree way.0 way.1.0 in (
+          let steps = c.in-Some.ensures.steps c.down.current (path_to way.1.0.ctx) way.1.0.part (is_read g d s tree way.0 way.1.0) in (
             _,
             rw c.go_down.ensures
                 (way-steps g.K.AsBytes.bytes c.args.key.now s c.args.reader.now.count g.row.PREFIX_LEN (node_at c.args.reader.now.arena.now) c.args.root tree
                 c.down.current c.down.search c.down.depth way.0 way.1.0 c.in-Err.inner.node there _ _ _ c.in-Some.step.byte c.in-Some.step.child c.in-Some.step.depth goes
-                (λ mode. c.in-Some.ensures.by_bytes mode c.down.current (path_to way.1.0.ctx) way.1.0.part read (way.1.2 mode) (way.1.1 mode))
-                (λ mode. c.in-Some.ensures.keeps mode c.down.current (path_to way.1.0.ctx) way.1.0.part read (way.1.2 mode))),
+                (λ mode. (steps.by_bytes mode).goes (way.1.2 mode) (way.1.1 mode))
+                (λ mode. (steps.by_bytes mode).keeps (way.1.2 mode))),
             λ mode. c.in-Some.ensures.by_length mode ∙ c.visit.ensures.counts ∙ ap (λ m. min (m + 1) (2 ^ 64 - 1)) (way.2 mode),
           );
       left = λ mode s tree.
           let left = c.down.invariant.left mode s tree in
-          let read = read_along g d left.path left.part left.stands in
+          let step = (c.in-Some.ensures.steps c.down.current left.path left.part (read_along g d left.path left.part left.stands)).by_bytes mode in
           way-on g.K.AsBytes.bytes g.row.PREFIX_LEN (node_at c.args.reader.now.arena.now) c.args.key.now s c.args.reader.now.count c.down.guide c.down.current c.down.depth c.down.reader.count left
-          c.visit.new.self.count c.step_at.new.reader.count c.visit.ensures.counts (c.in-Some.ensures.counts mode c.down.current left.path left.part read (omega arith)) c.step_at.new.guide c.in-Err.inner.node there c.in-Some.step.byte c.in-Some.step.child c.in-Some.step.depth goes
-          (c.in-Some.ensures.by_bytes mode c.down.current left.path left.part read (guided g d mode left.path left.part left.stands left.begins) left.begins)
-          (c.in-Some.ensures.found mode c.down.current left.path left.part read);
+          c.visit.new.self.count c.step_at.new.reader.count c.visit.ensures.counts (step.counts (omega arith)) c.step_at.new.guide c.in-Err.inner.node there c.in-Some.step.byte c.in-Some.step.child c.in-Some.step.depth goes
+          (step.goes (guided g d mode left.path left.part left.stands left.begins) left.begins)
+          step.found;
       least = omega (arith, c.in-Some.ensures.least, c.visit.ensures.counts, c.down.invariant.least);
       reads = λ s tree longest short.
           let way = c.down.invariant.way s tree in
           let within = part_within g.K.AsBytes.bytes longest s way.1.0.ctx way.1.0.part way.1.0.place.is short in
-          let step = c.in-Some.ensures.few c.down.current (path_to way.1.0.ctx) way.1.0.part (is_read g d s tree way.0 way.1.0) longest within in
+          let step = (c.in-Some.ensures.steps c.down.current (path_to way.1.0.ctx) way.1.0.part (is_read g d s tree way.0 way.1.0)).few longest within in
           omega (arith, c.down.invariant.reads s tree longest short, c.visit.ensures.counts, step, goes.next_is);
     }
 

@@ -1,14 +1,54 @@
+use Rattle.std.proofs.Common.{ℕ, List, Option, Some, None, MatchOption, arith}
+use Rattle.art_nodes.proofs.Common.{InnerNode}
+use Rattle.art_arena.proofs.Terms.{GoesNoFurther, GoesOn}
+use Rattle.art_arena.specs.declared.descent.Passing.{Passing}
 use Rattle.art_arena.specs.declared.inner_ref.NextStep.{NextStep}
+use Rattle.art_arena.specs.inner.Stepping.{TakesStep}
 use Rattle.art_arena.proofs.shapes.Passing.{passed, mismatch_stops}
 use Rattle.art_arena.proofs.descent.step_at.Goals as goal
 
-pub returns-then-passes_prefix-clause-by_bytes : goal.returns-then-passes_prefix-clause-by_bytes
-returns-then-passes_prefix-clause-by_bytes g c = λ mode root path s at guided begins.
-    passed g.K.AsBytes.bytes g.row.PREFIX_LEN c.args.reader.now.arena.now root c.args.inner.now.node at.held path c.args.key.now c.args.depth s at.stands begins
-    ((c.passes_prefix.ensures.passes root path s at guided).0 c.if-passes_prefix.true)
-    c.next_step-then-passes_prefix.result (λ (step : NextStep). step.byte) (λ (step : NextStep). step.depth) (λ (step : NextStep). step.child) c.next_step-then-passes_prefix.ensures
+-- the step by the lengths of prefixes
+step_is : (passing : Passing) (key : List ℕ) (depth : ℕ) (node : InnerNode) (r : Option NextStep) → MatchOption r (GoesNoFurther key depth node) (λ step. GoesOn key depth node step.byte step.child step.depth)
+    → TakesStep passing key depth node r
+step_is passing key depth node None is = λ _. is
+step_is passing key depth node (Some step) is = is
 
-pub returns-else-passes_prefix-clause-by_bytes : goal.returns-else-passes_prefix-clause-by_bytes
-returns-else-passes_prefix-clause-by_bytes g c = λ mode root path s at guided begins.
-    mismatch_stops g.K.AsBytes.bytes g.row.PREFIX_LEN c.args.reader.now.arena.now root c.args.inner.now.node at.held path c.args.key.now c.args.depth s at.stands begins
-    (λ front. let yes = (c.passes_prefix.ensures.passes root path s at guided).1 front in let no = c.if-passes_prefix.false in cc)
+pub returns-in-ByLength-clause-goes : goal.returns-in-ByLength-clause-goes
+returns-in-ByLength-clause-goes g c = step_is _ c.args.key.now c.args.depth c.args.inner.now.node c.next_step.result c.next_step.ensures
+
+pub returns-in-ByLength-clause-steps : goal.returns-in-ByLength-clause-steps
+returns-in-ByLength-clause-steps g c = λ root path s at. record { by_bytes = λ mode. absurd (cc); few = λ longest short. omega (arith) }
+
+pub returns-then-passes_prefix-clause-goes : goal.returns-then-passes_prefix-clause-goes
+returns-then-passes_prefix-clause-goes g c = step_is _ c.args.key.now c.args.depth c.args.inner.now.node c.next_step-then-passes_prefix.result c.next_step-then-passes_prefix.ensures
+
+pub returns-then-passes_prefix-clause-steps : goal.returns-then-passes_prefix-clause-steps
+returns-then-passes_prefix-clause-steps g c = λ root path s at.
+    let p = c.passes_prefix.ensures in
+    record {
+      by_bytes = λ mode. record {
+        goes = λ guided begins.
+            passed g.K.AsBytes.bytes g.row.PREFIX_LEN c.args.reader.now.arena.now root c.args.inner.now.node at.held path c.args.key.now c.args.depth s at.stands begins
+            ((p.passes root path s at guided).0 c.if-passes_prefix.true)
+            c.next_step-then-passes_prefix.result (λ (step : NextStep). step.byte) (λ (step : NextStep). step.depth) (λ (step : NextStep). step.child) c.next_step-then-passes_prefix.ensures;
+        keeps = p.keeps root path s at;
+        found = p.found root path s at;
+        counts = p.counts root path s at;
+      };
+      few = p.few root path s at;
+    }
+
+pub returns-else-passes_prefix-clause-steps : goal.returns-else-passes_prefix-clause-steps
+returns-else-passes_prefix-clause-steps g c = λ root path s at.
+    let p = c.passes_prefix.ensures in
+    record {
+      by_bytes = λ mode. record {
+        goes = λ guided begins.
+            mismatch_stops g.K.AsBytes.bytes g.row.PREFIX_LEN c.args.reader.now.arena.now root c.args.inner.now.node at.held path c.args.key.now c.args.depth s at.stands begins
+            (λ front. let yes = (p.passes root path s at guided).1 front in let no = c.if-passes_prefix.false in cc);
+        keeps = p.keeps root path s at;
+        found = p.found root path s at;
+        counts = p.counts root path s at;
+      };
+      few = p.few root path s at;
+    }

@@ -1,10 +1,10 @@
-use Rattle.std.proofs.Common.{◌≡◌, ◌-◌, ◌≤◌}
+use Rattle.std.proofs.Common.{◌≡◌, ◌-◌, ◌/◌, ◌≤◌}
 use Rattle.art_arena.proofs.nodes.reserve_fewer.Given as goal
 
 abbrev pub invariant-halves : goal.invariant-halves
 invariant-halves g l = record {
-  capacity : l.fn.slab.capacity ≤ l.slab.capacity;
-  kept : l.slab ≡ record l.fn.slab { capacity = l.slab.capacity };
+  kept : l.slab ≡ l.fn.slab;
+  few : l.more ≤ l.fn.slab.capacity / 2;
 }
 
 abbrev pub decreases-halves : goal.decreases-halves

@@ -1,7 +1,6 @@
 use Rattle.std.proofs.Common.{◌≡◌, ℕ, [], sym, ap, subst, arith}
 use Rattle.std.specs.Prelude.{count_by, is_some}
 use Rattle.slab.specs.Slab.{Slab, slab_len, HasRoomFor}
-use Rattle.art_nodes.specs.declared.leaf.LeafNode.{LeafNode}
 use Rattle.art_arena.proofs.Terms.{Arena, HasRoom}
 use Rattle.art_arena.proofs.arena.NodeArena.clear.Goals as goal
 
