@@ -5,7 +5,7 @@ use Rattle.std.specs.List.{AllByRecursion, onto_first}
 use Rattle.std.specs.Str.Parse.{digits_value, digits_value_after}
 use Rattle.std.proofs.lemmas.Bool.{cases_lt, ne_eqb}
 use Rattle.std.proofs.lemmas.Int.Digits.{digits_value-lt}
-use Rattle.std.proofs.lemmas.List.{length-take-le, length-drop, length-take, take_all, take_more, get_or-take, get_or-drop, take-take}
+use Rattle.std.proofs.lemmas.List.{length-take-le, length-drop, take_all, take_more, get_or-take, get_or-drop}
 use Rattle.std.proofs.Math.Nat.{pow-le-pow_right}
 use Rattle.std.specs.Char.{digit_value}
 use Rattle.std.specs.Result.{OkIff, result_ok}
@@ -130,32 +130,7 @@ eight_digits text len n m h fits e = record {
         let is : get_or (chunk len 8 text) (k - len) 0 ≡ get_or text k 0 = get_or-take 8 (drop len text) (k - len) 0 near ∙ get_or-drop len text (k - len) 0 ∙ ap (λ i. get_or text i 0) same in
         (omega arith, subst IsDigit is digit)
 
--- ---- the first nineteen bytes of a text
-
-pub cut_read : (text : List ℕ) (m len n : ℕ) → AreFirstDigits text len n → len ≤ m → AreFirstDigits (take m text) len n
-cut_read text m len n h few =
-    let long = length-take m text in
-    let within : len ≤ length (take m text) = let all = h.within in omega arith in
-    record {
-      within = within;
-      digits = λ k lt. let inside : k < m = omega arith in (omega arith, subst IsDigit (sym (get_or-take m text k 0 inside)) (h.digits k lt).1);
-      shown = ap (digits_value 10) (take-take len m text few) ∙ h.shown;
-    }
-
-pub whole_read : (text : List ℕ) (m len n : ℕ) → AreFirstDigits (take m text) len n → AreFirstDigits text len n
-whole_read text m len n h =
-    let long = length-take m text in let all = h.within in
-    let few : len ≤ m = omega arith in
-    record {
-      within = omega arith;
-      digits = λ k lt. let inside : k < m = omega arith in (omega arith, subst IsDigit (get_or-take m text k 0 inside) (h.digits k lt).1);
-      shown = ap (digits_value 10) (sym (take-take len m text few)) ∙ h.shown;
-    }
-
-pub cut_digit : (text : List ℕ) (m at : ℕ) → at < m → IsDigitAt text at → IsDigitAt (take m text) at
-cut_digit text m at low h =
-    let long = length-take m text in let within = h.0 in
-    (omega arith, subst IsDigit (sym (get_or-take m text at 0 low)) h.1)
+-- ---- the first field of a text
 
 -- a byte that is no space, nor any before it, stands in the first field
 first_longer : (text field : List ℕ) (rest : List (List ℕ)) (i : ℕ) → fields_of text ≡ field ∷ rest → i < length text → ((k : ℕ) → k ≤ i → get_or text k 0 ≡ 32 → ⊥)

@@ -63,21 +63,21 @@ module _ {K V : Type 0} (bytes : K → List ℕ) where
   AreUnder-closed path low byte no_branch g before below less after = lower path low (byte + 1) g less after
   AreUnder-closed path low byte (branch c s f) g before below less after = (before.0, before.1, AreUnder-closed path (c + 1) byte f g before.2 below.1 (omega (arith, below.0)) after)
 
-  module _ (P : ℕ) {rest : List (Name × Cell K V)} (old new : Arena K V) (f : Frame K V) (outer : List (Frame K V)) (part : Shape K V) (at : IsHeldAt bytes P old rest (f ∷ outer) part) where
-    -- the node above the part without it, under whichever name
-    pub taken : (other : Name)
-        → Moves old new f.name other (inner_held (with_children (frame_node P f (name_of part)) (without_child (frame_node P f (name_of part)).children f.byte)))
-        → IsKindOf other.kind (width f.before + width f.after) → StandsFor bytes P new rest f outer part other
-    taken other moves kind =
-        let left = without_child-frame bytes f.byte (name_of part) f.before (children_at f.after) at.around.2 ∙ sym (children_at-join f.before f.after) in
-        let moved = Holds-move old new f.name other _ moves _ (cells_before P outer f.name) _ (set_apart P (node_at old) rest f outer part at.holds) in
-        record {
-          remains = inner_at other f.prefix (join f.before f.after);
-          named = refl;
-          holds = subst (λ kids. Holds (node_at new) (cells_before P outer f.name ++ ((other, branches (with_children (frame_node P f (name_of part)) kids)) ∷ (cells_in P (join f.before f.after) ++ (cells_after P outer ++ (cells P part ++ rest)))))) left moved;
-          under = (
-            subst (IsKindOf other.kind) (sym (width-join f.before f.after)) kind,
-            AreUnder-closed (path_to outer ++ f.prefix) 0 f.byte f.before f.after at.around.1 at.around.2 (omega arith) at.around.3,
-          );
-          left = leaves_in-join f.before f.after;
-        }
+module _ {K V : Type 0} {bytes : K → List ℕ} {P : ℕ} {rest : List (Name × Cell K V)} {old : Arena K V} (new : Arena K V) {f : Frame K V} {outer : List (Frame K V)} {part : Shape K V} (at : IsHeldAt bytes P old rest (f ∷ outer) part) where
+  -- the node above the part without it, under whichever name
+  pub taken : (other : Name)
+      → Moves old new f.name other (inner_held (with_children (frame_node P f (name_of part)) (without_child (frame_node P f (name_of part)).children f.byte)))
+      → IsKindOf other.kind (width f.before + width f.after) → StandsFor bytes P new rest f outer part other
+  taken other moves kind =
+      let left = without_child-frame bytes f.byte (name_of part) f.before (children_at f.after) at.around.2 ∙ sym (children_at-join f.before f.after) in
+      let moved = Holds-move old new f.name other _ moves _ (cells_before P outer f.name) _ (set_apart P (node_at old) rest f outer part at.holds) in
+      record {
+        remains = inner_at other f.prefix (join f.before f.after);
+        named = refl;
+        holds = subst (λ kids. Holds (node_at new) (cells_before P outer f.name ++ ((other, branches (with_children (frame_node P f (name_of part)) kids)) ∷ (cells_in P (join f.before f.after) ++ (cells_after P outer ++ (cells P part ++ rest)))))) left moved;
+        under = (
+          subst (IsKindOf other.kind) (sym (width-join f.before f.after)) kind,
+          AreUnder-closed bytes (path_to outer ++ f.prefix) 0 f.byte f.before f.after at.around.1 at.around.2 (omega arith) at.around.3,
+        );
+        left = leaves_in-join f.before f.after;
+      }

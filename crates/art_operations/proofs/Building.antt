@@ -1,6 +1,5 @@
 -- A tree that is built of ascending pairs: from the pairs taken to the ways nodes, and back with one pair more.
-use Rattle.std.proofs.Common.{◌≡◌, ℕ, suc, ◌<◌, ◌≤◌, cond, List, [], ◌∷◌, ◌++◌, length, take, slice_index, refl, sym, ap, ap₂, subst, ◌∙◌, inl, inr, arith, append_assoc, append-nil, length-append, zero-le, Option, Some, None, IsSome, is_some}
-use Rattle.std.specs.List.{AllByRecursion}
+use Rattle.std.proofs.Common.{◌≡◌, ℕ, suc, ◌<◌, ◌≤◌, List, [], ◌∷◌, ◌++◌, length, take, slice_index, refl, sym, ap, ap₂, subst, ◌∙◌, inl, inr, arith, append_assoc, append-nil, length-append, zero-le, Some, None, IsSome}
 use Rattle.std.proofs.lemmas.Bool.Decides.{leb_tells}
 use Rattle.std.proofs.lemmas.List.{take-append-le}
 use Rattle.std.proofs.Math.ListN.{get_or-append}
@@ -8,15 +7,14 @@ use Rattle.std.proofs.Math.Seq.{take-suc, get_or-append_seam}
 use Rattle.art_bytes.proofs.Common.{IsBefore, IsProperFront, Conflict, before_at, before_trans, before_not_self, conflict_not_before, conflict_turned}
 use Rattle.art_nodes.proofs.Common.{IsAscending, Name}
 use Rattle.art_nodes.specs.declared.leaf.LeafNode.{LeafNode}
-use Rattle.art_arena.proofs.Common.{Arena, leaf_held, cell_of, links_of, held_at, node_at, links_at, Allocates, SameCells, SameLeaves, Cell, leaf_name, copies, Holds, AreBelow, AreLinked, times, IsBeside, Shape, Branches, LeafAt, no_branch, branch, name_of, children_at, join, leaves}
-use Rattle.art_arena.proofs.Common.{leaves_in, cells, cells_in, pairs_of, key_of, IsUnder, AreUnder, AscendsByKey, Holds-add, Holds-same, copies-append, copies-vacant, AreUnder-join, times-append, AreLinked-frame, AreLinked-same, times-leaves_in, HoldsPair, nodes-update, links-update}
-use Rattle.art_arena.proofs.Common.{all_append, all_right, all_weaker, ascending_append}
-use Rattle.art_operations.proofs.Terms.{Builds, BuildsTo, BuildsUpTo, IsAfterAll, PartAt, HasPairs, Open, Spine, TreeBuilder, Parted, Meets, lone_leaf, RebuildsUpTo, Level, begin, begin_of, opened, open_children, open_leaves, open_cells, open_at, AddsChild, IsOpen, AreOpen, IsSpine}
+use Rattle.art_arena.proofs.Common.{Arena, leaf_held, cell_of, links_of, held_at, node_at, links_at, SameLeaves, Cell, leaf_name, Holds, AreBelow, Shape, Branches, LeafAt, no_branch, branch, name_of, children_at, join, leaves}
+use Rattle.art_arena.proofs.Common.{leaves_in, cells, cells_in, pairs_of, key_of, IsUnder, AreUnder, AscendsByKey, AreUnder-join, AreLinked-same, HoldsPair}
+use Rattle.art_arena.proofs.Common.{all_append, all_right, all_weaker}
+use Rattle.art_operations.proofs.Terms.{Builds, BuildsTo, BuildsUpTo, IsAfterAll, PartAt, HasPairs, Open, Spine, TreeBuilder, Parted, Meets, RebuildsUpTo, Level, begin, begin_of, opened, open_children, open_leaves, open_cells, open_at, AddsChild, IsOpen, AreOpen, IsSpine}
 use Rattle.art_operations.proofs.Terms.{HasSpine, IsEmptySpine}
 use Rattle.art_operations.specs.declared.meeting.Meeting.{Meeting}
 use Rattle.art_operations.specs.declared.meeting.Meeting.TheVariants as meeting
 use Rattle.art_operations.proofs.InnerRooms.{no-room}
-use Rattle.art_operations.proofs.HeldPairs.{first-leaf}
 use Rattle.art_operations.proofs.KeyedLists.{before}
 use Rattle.art_operations.proofs.LeafPairs.{pairs-parts}
 use Rattle.art_operations.proofs.Rebuilding.{last-there, last-is-held, last-read, last-stands, whole}

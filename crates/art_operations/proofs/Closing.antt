@@ -23,9 +23,6 @@ module _ {K V : Type 0} (bytes : K → List ℕ) (P : ℕ) (arena : Arena K V) (
   pub depth-is : top.child_depth - 1 ≡ top-is.level.depth
   depth-is = let following = top-is.child_depth_is in omega (arith, following)
 
-  pub some-after : 1 ≤ top.child_depth
-  some-after = let following = top-is.child_depth_is in omega (arith, following)
-
   pub inside : top.child_depth - 1 < length key
   inside = subst (λ n. n < length key) (sym depth-is) ways.0.inside
 

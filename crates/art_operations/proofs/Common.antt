@@ -13,6 +13,7 @@ pub use Rattle.art_operations.proofs.NamedLeaves.{bytes-held, held-some, leaf-he
 pub use Rattle.art_operations.proofs.Nearest.{turned}
 pub use Rattle.art_operations.proofs.Overlaps.{before_no_overlap, after_no_overlap, overlaps_conflict, overlaps_same}
 pub use Rattle.art_operations.proofs.RangeEnds.{tree_ascends}
+pub use Rattle.art_operations.proofs.Results.{from_err, from_ok, map_ok, on-err}
 pub use Rattle.art_operations.proofs.Spines.{last-same}
 pub use Rattle.art_operations.proofs.Stretches.{IsConvex, between_convex, from_later, front_convex, leaves_ascend, stretch}
 pub use Rattle.art_operations.proofs.Unmade.{around-room, fresh-around}

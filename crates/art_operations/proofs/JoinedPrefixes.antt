@@ -1,6 +1,6 @@
 -- What headers store of prefixes that are joined.
 use Rattle.std.proofs.Common.{◌≡◌, ℕ, suc, zero, ◌+◌, ◌≤◌, List, [], ◌∷◌, ◌++◌, length, take, min, refl, sym, ap, ◌∙◌, arith, length-append, append_assoc}
-use Rattle.std.proofs.lemmas.List.{length-take, take_all}
+use Rattle.std.proofs.lemmas.List.{length-take}
 use Rattle.art_nodes.proofs.Common.{Header}
 
 -- the front of a list is that of its front and the rest
@@ -24,16 +24,6 @@ take_less (suc n) m (x ∷ xs) ys less = ap (λ zs. x ∷ zs) (take_less n m xs 
 pub joined : (P : ℕ) (a : List ℕ) (b : ℕ) (q : List ℕ) → take P (take P a ++ b ∷ take P q) ≡ take P (a ++ b ∷ q)
 joined P a b q =
     take_front P a (b ∷ take P q) ∙ ap (take P) (sym (append_assoc a (b ∷ []) (take P q))) ∙ take_less P P (a ++ b ∷ []) q (omega arith) ∙ ap (take P) (append_assoc a (b ∷ []) q)
-
--- the header of two prefixes with a byte in between
-pub joined_header : (P : ℕ) (above below start first whole : Header) (b q : ℕ) (bytes : List ℕ) → length below.stored ≡ min below.prefix_len P
-    → start ≡ record above { num_children = 0 } → first ≡ record start { prefix_len = start.prefix_len + 1; stored = take P (start.stored ++ b ∷ []) }
-    → bytes ≡ below.stored → q ≡ below.prefix_len → whole ≡ record first { prefix_len = first.prefix_len + q; stored = take P (first.stored ++ take q bytes) }
-    → whole ≡ record { num_children = 0; prefix_len = above.prefix_len + 1 + below.prefix_len; stored = take P (above.stored ++ b ∷ below.stored) }
-joined_header P above below start first whole b q bytes stores is_start is_first is_bytes is_q is_whole =
-    let front : take below.prefix_len below.stored ≡ below.stored = take_all below.prefix_len below.stored (omega (arith, stores)) in
-    rw (is_whole, is_first, is_start, is_bytes, is_q, front)
-    (ap (λ s. record { num_children = 0; prefix_len = above.prefix_len + 1 + below.prefix_len; stored = s }) (take_front P (above.stored ++ b ∷ []) below.stored ∙ ap (take P) (append_assoc above.stored (b ∷ []) below.stored)))
 
 -- the bytes at hand cover what it stores
 pub covered : (P : ℕ) (above below start first : Header) (b q : ℕ) (bytes : List ℕ) → length above.stored ≡ min above.prefix_len P → length below.stored ≡ min below.prefix_len P

@@ -108,36 +108,36 @@ module _ {K V : Type 0} (bytes : K → List ℕ) where
   one_left path (branch c t no_branch) byte n (branch d u rest) below under one = absurd (omega (arith, one))
   one_left path (branch c t (branch d u rest)) byte n after below under one = absurd (omega (arith, one))
 
-  module _ (P : ℕ) {rest : List (Name × Cell K V)} (old : Arena K V) (f : Frame K V) (outer : List (Frame K V)) (part : Shape K V) (at : IsHeldAt bytes P old rest (f ∷ outer) part) (one : OneLeft f.before f.byte (name_of part) f.after) where
-    -- the other child stands after this path
-    abbrev pub other_path : List ℕ
-    other_path = (path_to outer ++ f.prefix) ++ one.edge ∷ []
+module _ {K V : Type 0} {bytes : K → List ℕ} {P : ℕ} {rest : List (Name × Cell K V)} {old : Arena K V} {f : Frame K V} {outer : List (Frame K V)} {part : Shape K V} (at : IsHeldAt bytes P old rest (f ∷ outer) part) (one : OneLeft f.before f.byte (name_of part) f.after) where
+  -- the other child stands after this path
+  abbrev pub other_path : List ℕ
+  other_path = (path_to outer ++ f.prefix) ++ one.edge ∷ []
 
-    other_under : IsUnder bytes other_path one.here
-    other_under =
-        let closed = AreUnder-closed bytes (path_to outer ++ f.prefix) 0 f.byte f.before f.after at.around.1 at.around.2 (omega arith) at.around.3 in
-        (subst (AreUnder bytes (path_to outer ++ f.prefix) 0) one.is closed).1
+  other_under : IsUnder bytes other_path one.here
+  other_under =
+      let closed = AreUnder-closed bytes (path_to outer ++ f.prefix) 0 f.byte f.before f.after at.around.1 at.around.2 (omega arith) at.around.3 in
+      (subst (AreUnder bytes (path_to outer ++ f.prefix) 0) one.is closed).1
 
-    other_cells : Holds (node_at old) (cells_before P outer f.name ++ (frame_cell P f (name_of part) ∷ (cells P one.here ++ (cells_after P outer ++ (cells P part ++ rest)))))
-    other_cells =
-        let listed = ap (cells_in P) one.is ∙ append-nil (cells P one.here) in
-        subst (λ cs. Holds (node_at old) (cells_before P outer f.name ++ (frame_cell P f (name_of part) ∷ (cs ++ (cells_after P outer ++ (cells P part ++ rest)))))) listed (set_apart P (node_at old) rest f outer part at.holds)
+  other_cells : Holds (node_at old) (cells_before P outer f.name ++ (frame_cell P f (name_of part) ∷ (cells P one.here ++ (cells_after P outer ++ (cells P part ++ rest)))))
+  other_cells =
+      let listed = ap (cells_in P) one.is ∙ append-nil (cells P one.here) in
+      subst (λ cs. Holds (node_at old) (cells_before P outer f.name ++ (frame_cell P f (name_of part) ∷ (cs ++ (cells_after P outer ++ (cells P part ++ rest)))))) listed (set_apart P (node_at old) rest f outer part at.holds)
 
-    -- the arena has the other child there
-    pub other_subtree : IsSubtree bytes P (node_at old) (name_of one.here) other_path one.here
-    other_subtree = record { part = part_of P (node_at old) one.here (cells_before P outer f.name) (frame_cell P f (name_of part)) (cells_after P outer ++ (cells P part ++ rest)) other_cells; under = other_under }
+  -- the arena has the other child there
+  pub other_subtree : IsSubtree bytes P (node_at old) (name_of one.here) other_path one.here
+  other_subtree = record { part = part_of P (node_at old) one.here (cells_before P outer f.name) (frame_cell P f (name_of part)) (cells_after P outer ++ (cells P part ++ rest)) other_cells; under = other_under }
 
-    -- under another name than the node
-    pub other_apart : name_of one.here ≢ f.name
-    other_apart = root_apart P (node_at old) one.here (cells_before P outer f.name) f.name _ (cells_after P outer ++ (cells P part ++ rest)) other_cells
+  -- under another name than the node
+  pub other_apart : name_of one.here ≢ f.name
+  other_apart = root_apart P (node_at old) one.here (cells_before P outer f.name) f.name _ (cells_after P outer ++ (cells P part ++ rest)) other_cells
 
-    -- it stands for the node, lengthened
-    pub merged : (mid new : Arena K V) → Lengthens P old mid (frame_node P f (name_of part)) one.edge (name_of one.here) → UpdatesAt (held_at mid) (held_at new) f.name None
-        → StandsFor bytes P new rest f outer part (name_of one.here)
-    merged mid new lengthens gone = record {
-      remains = after_more f.prefix one.edge one.here;
-      named = same_name_of f.prefix one.edge one.here;
-      holds = merge_cells P old mid new f.name f.prefix (children_at f.before ++ (f.byte, name_of part) ∷ children_at f.after) one.edge gone one.here other_path bytes other_under lengthens _ (cells_before P outer f.name) (cells_after P outer ++ (cells P part ++ rest)) other_cells;
-      under = under_more (path_to outer) f.prefix one.edge one.here other_under;
-      left = same_leaves f.prefix one.edge one.here ∙ sym (append-nil (leaves one.here)) ∙ sym (ap leaves_in one.is) ∙ leaves_in-join f.before f.after;
-    }
+  -- it stands for the node, lengthened
+  pub merged : (mid new : Arena K V) → Lengthens P old mid (frame_node P f (name_of part)) one.edge (name_of one.here) → UpdatesAt (held_at mid) (held_at new) f.name None
+      → StandsFor bytes P new rest f outer part (name_of one.here)
+  merged mid new lengthens gone = record {
+    remains = after_more f.prefix one.edge one.here;
+    named = same_name_of f.prefix one.edge one.here;
+    holds = merge_cells P old mid new f.name f.prefix (children_at f.before ++ (f.byte, name_of part) ∷ children_at f.after) one.edge gone one.here other_path bytes other_under lengthens _ (cells_before P outer f.name) (cells_after P outer ++ (cells P part ++ rest)) other_cells;
+    under = under_more bytes (path_to outer) f.prefix one.edge one.here other_under;
+    left = same_leaves f.prefix one.edge one.here ∙ sym (append-nil (leaves one.here)) ∙ sym (ap leaves_in one.is) ∙ leaves_in-join f.before f.after;
+  }

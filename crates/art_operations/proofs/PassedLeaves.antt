@@ -1,5 +1,5 @@
 -- Leaves over which a tree is made are passed one by one: the first of them, the next one, and what is so after it.
-use Rattle.std.proofs.Common.{◌≡◌, ℕ, suc, ◌+◌, ◌-◌, ◌<◌, ◌≤◌, List, [], ◌∷◌, ◌++◌, length, refl, sym, ap, subst, ◌∙◌, inl, inr, arith, append_assoc, Option, Some, None, IsSome, Result, Ok, Err, IsOk, OnErr}
+use Rattle.std.proofs.Common.{◌≡◌, ℕ, suc, ◌+◌, ◌-◌, ◌<◌, ◌≤◌, List, [], ◌∷◌, ◌++◌, length, refl, sym, ap, subst, ◌∙◌, inl, inr, arith, append_assoc, Option, Some, None, IsSome}
 use Rattle.std.proofs.lemmas.Bool.Decides.{leb_tells}
 use Rattle.art_bytes.proofs.Common.{IsBefore}
 use Rattle.art_nodes.proofs.Common.{Name}
@@ -12,21 +12,6 @@ use Rattle.art_operations.specs.declared.meeting.Meeting.TheVariants as meeting
 use Rattle.art_operations.proofs.NodesRead.{links-are}
 use Rattle.art_operations.proofs.Building.{Added, added, not-after}
 use Rattle.art_operations.proofs.Rebuilding.{last_of, passed, next-later, whole}
-
--- what succeeds has no other outcome
-pub never : {A E : Type 0} (r : Result A E) → IsOk r → ((x : A) → r ≡ Ok x → ⊥) → ⊥
-never (Ok x) ok other = other x refl
-never (Err e) ok other = absurd (cc)
-
--- and one that failed did not succeed
-pub failed : {A E : Type 0} (r : Result A E) (e : E) → r ≡ Err e → IsOk r → ⊥
-failed (Ok x) e is ok = absurd (cc)
-failed (Err f) e is ok = absurd (cc)
-
--- what is so is so of an error
-pub on-err : {A E : Type 0} (r : Result A E) (Then : Type 0) → Then → OnErr r Then
-on-err (Ok x) Then so = tt
-on-err (Err e) Then so = so
 
 -- two keys part where the first comes before the second, and the second goes on by the greater byte
 module _ (old new : List ℕ) (first : IsBefore old new) where

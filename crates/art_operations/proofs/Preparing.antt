@@ -15,22 +15,22 @@ module _ {K V : Type 0} (bytes : K → List ℕ) (P : ℕ) {rest : List (Name ×
   there = child_part bytes P arena root s point.subtree (steps_of point.path) (record { node = step.0; byte = step.1 }) more some step.0 refl nodes is.at
 
   pub parent_inner : step.0.kind ≢ Leaf
-  parent_inner = node_inner bytes P arena step.0 step.1 point.subtree there
+  parent_inner = node_inner there
 
   abbrev pub parent_node : InnerNode
-  parent_node = node bytes P arena step.0 step.1 point.subtree there
+  parent_node = node there
 
   pub parent_there : held_at arena step.0 ≡ Some (inner_held parent_node)
-  parent_there = node_there bytes P arena step.0 step.1 point.subtree there
+  parent_there = node_there there
 
   -- it has a child
   pub parent_some : 1 ≤ length parent_node.children
-  parent_some = let all = node_count bytes P arena step.0 step.1 point.subtree there in omega (arith, all)
+  parent_some = let all = node_count there in omega (arith, all)
 
   -- where it shrinks without one, the prefix tells so
   pub parent_shrinks : ((n : InnerNode) → HasInner arena step.0 n → CanShrink step.0.kind (length n.children - 1)) → ShrinksWithout (λ l. bytes l.key) (leaves s) front
   parent_shrinks can =
-      let less = one_less bytes P arena step.0 step.1 point.subtree there parent_node parent_there in
-      let changes = limit_kind bytes P arena step.0 step.1 point.subtree there (subst (CanShrink step.0.kind) (sym less) (can parent_node parent_there)) in
+      let less = one_less there parent_node parent_there in
+      let changes = limit_kind there (subst (CanShrink step.0.kind) (sym less) (can parent_node parent_there)) in
       part_shrinks bytes front s nodes.under point is
       (loses_kind bytes P arena root s point.subtree (steps_of point.path) (record { node = step.0; byte = step.1 }) more some step.0 refl nodes is.at changes)

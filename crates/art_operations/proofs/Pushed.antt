@@ -1,9 +1,8 @@
 -- A pair that a builder takes: its leaf is stored after the last one, and then that one is passed.
-use Rattle.std.proofs.Common.{◌≡◌, ℕ, ◌+◌, List, [], ◌∷◌, ◌++◌, Option, None, Some, IsSome, take, refl, sym, ap, subst, ◌∙◌, inl, inr, arith, append_assoc, append-nil}
+use Rattle.std.proofs.Common.{◌≡◌, ℕ, List, [], ◌∷◌, ◌++◌, Option, None, Some, IsSome, take, refl, sym, ap, subst, ◌∙◌, inl, inr, arith, append_assoc, append-nil}
 use Rattle.std.specs.List.{AllByRecursion}
 use Rattle.std.proofs.lemmas.Bool.Decides.{eqb_tells}
 use Rattle.art_bytes.proofs.Common.{IsBefore}
-use Rattle.art_nodes.proofs.Common.{Name}
 use Rattle.art_nodes.specs.declared.kind.NodeType.TheVariants.{Leaf}
 use Rattle.art_arena.proofs.Common.{Arena, Allocates, SameNodes, WritesLinks, cell_of, leaf_held, links_of, node_at, links_at, SameLeaves, UsesRoomOf, Cell, leaf_name, pair, copies, Holds, UpdatesAt, AreLinked, Links, first_slot, last_slot, times, LeafAt, leaves_in, cells_in, pairs_of}
 use Rattle.art_arena.proofs.Common.{key_of, AscendsByKey, Holds-add, Holds-same, copies-append, same_name_tells, times-append, last_slot-append, last-apart, empty-first, end_there, relink_end, some_of, AreLinked-frame, AreLinked-join, AreLinked-same, times-leaves_in, links-update}

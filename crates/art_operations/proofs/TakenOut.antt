@@ -20,10 +20,10 @@ changes_kind Node48 n is can = (Node48, Node32, is, record { two = omega (arith,
 changes_kind Node256 n is can = (Node256, Node48, is, record { two = omega (arith, is.fewest); fewest = omega (arith, is.fewest); most = omega (arith, can) }, λ e. absurd (cc))
 changes_kind Leaf n is can = absurd can
 
-module _ {K V : Type 0} (bytes : K → List ℕ) (P : ℕ) {rest : List (Name × Cell K V)} (old : Arena K V) (parent : Name) (byte : ℕ) (child : Name) (there : IsChildPart bytes P old rest parent byte child) where
+module _ {K V : Type 0} {bytes : K → List ℕ} {P : ℕ} {rest : List (Name × Cell K V)} {old : Arena K V} {parent : Name} {byte : ℕ} {child : Name} (there : IsChildPart bytes P old rest parent byte child) where
   -- the node above the part
   abbrev pub node : InnerNode
-  node = above bytes P old there.frame there.outer there.part there.held
+  node = above there.held
 
   -- how many other children there are
   abbrev pub others : ℕ
@@ -31,7 +31,7 @@ module _ {K V : Type 0} (bytes : K → List ℕ) (P : ℕ) {rest : List (Name ×
 
   -- the arena has it under the name, which is that of an inner node of its kind
   pub node_there : held_at old parent ≡ Some (inner_held node)
-  node_there = ap (held_at old) (sym there.named) ∙ above_there bytes P old there.frame there.outer there.part there.held
+  node_there = ap (held_at old) (sym there.named) ∙ above_there there.held
 
   pub node_kind : IsKindOf parent.kind (suc others)
   node_kind = subst (λ (n : Name). IsKindOf n.kind (suc others)) there.named there.held.around.0
@@ -41,10 +41,10 @@ module _ {K V : Type 0} (bytes : K → List ℕ) (P : ℕ) {rest : List (Name ×
 
   -- its header counts the part and the others
   pub node_count : node.header.num_children ≡ suc others
-  node_count = all_length bytes P old there.frame there.outer there.part there.held
+  node_count = all_length there.held
 
   rest_length : length (without_child node.children byte) ≡ others
-  rest_length = ap (λ b. length (without_child node.children b)) (sym there.under) ∙ others_length bytes P old there.frame there.outer there.part there.held
+  rest_length = ap (λ b. length (without_child node.children b)) (sym there.under) ∙ others_length there.held
 
   -- so many are left of whatever inner node stands there
   pub one_less : (n : InnerNode) → held_at old parent ≡ Some (inner_held n) → length (without_child n.children byte) ≡ length n.children - 1
@@ -55,7 +55,7 @@ module _ {K V : Type 0} (bytes : K → List ℕ) (P : ℕ) {rest : List (Name ×
   pub puts_part_back : PutsBack node byte child
   puts_part_back =
       subst (λ b. PutsBack node b child) there.under
-      (subst (PutsBack node there.frame.byte) there.child_is (puts_back bytes P old there.frame there.outer there.part there.held))
+      (subst (PutsBack node there.frame.byte) there.child_is (puts_back there.held))
 
   pub has_room_for_part : length (without_child node.children byte) < (row_of parent.kind).most
   has_room_for_part = omega (arith, rest_length, node_kind.most)
@@ -72,7 +72,7 @@ module _ {K V : Type 0} (bytes : K → List ℕ) (P : ℕ) {rest : List (Name ×
     -- what is left of it stands for it
     pub taken_out : StandsFor bytes P new rest there.frame there.outer there.part other
     taken_out =
-        taken bytes P old new there.frame there.outer there.part there.held other
+        taken new there.held other
         (subst (λ b. Moves old new there.frame.name other (inner_held (with_children node (without_child node.children b)))) (sym there.under)
         (subst (λ n. Moves old new n other (inner_held (with_children node (without_child node.children byte)))) (sym there.named) moves))
         other_kind
@@ -96,17 +96,17 @@ module _ {K V : Type 0} (bytes : K → List ℕ) (P : ℕ) {rest : List (Name ×
     one_other = subst (λ b. IsOther node.children b (one.edge, name_of one.here)) there.under one.other
 
     -- and stands after more bytes than the prefix of the node
-    pub shorter : node.header.prefix_len < length (other_path bytes P old there.frame there.outer there.part there.held one)
+    pub shorter : node.header.prefix_len < length (other_path there.held one)
     shorter = omega (arith, length-append (path_to there.outer ++ there.frame.prefix) (one.edge ∷ []), length-append (path_to there.outer) there.frame.prefix)
 
     module _ (mid new : Arena K V) (lengthens : Lengthens P old mid node one.edge (name_of one.here)) (gone : UpdatesAt (held_at mid) (held_at new) parent None) where
       -- after the longer prefix it stands for the node
       pub merged_out : StandsFor bytes P new rest there.frame there.outer there.part (name_of one.here)
       merged_out =
-          merged bytes P old there.frame there.outer there.part there.held one mid new lengthens (subst (λ n. UpdatesAt (held_at mid) (held_at new) n None) (sym there.named) gone)
+          merged there.held one mid new lengthens (subst (λ n. UpdatesAt (held_at mid) (held_at new) n None) (sym there.named) gone)
 
       -- and no link has changed
       pub merged_links : (s : ℕ) → links_at new s ≡ links_at old s
       merged_links s =
           links-kept mid new parent None gone node_inner s
-          ∙ lengthens_links bytes P old mid node one.edge (name_of one.here) _ one.here (other_subtree bytes P old there.frame there.outer there.part there.held one) lengthens s
+          ∙ lengthens_links bytes P old mid node one.edge (name_of one.here) _ one.here (other_subtree there.held one) lengthens s

@@ -1,11 +1,11 @@
 -- Room for the nodes that are open, of which each is to be made: what a step of a builder leaves of it.
-use Rattle.std.proofs.Common.{◌≡◌, ◌≢◌, ℕ, suc, ◌+◌, ◌-◌, ◌<◌, ◌≤◌, List, [], ◌∷◌, ◌++◌, length, length-append, nat_le, if◌then◌else◌, true, false, refl, sym, ap, ap₂, subst, ◌∙◌, inl, inr, arith}
+use Rattle.std.proofs.Common.{◌≡◌, ◌≢◌, ℕ, suc, ◌+◌, ◌-◌, ◌<◌, ◌≤◌, List, [], ◌∷◌, ◌++◌, length, length-append, nat_le, true, false, refl, sym, ap, ap₂, subst, ◌∙◌, inl, inr, arith}
 use Rattle.std.proofs.lemmas.Bool.Decides.{leb_tells}
-use Rattle.art_nodes.proofs.Common.{row_of, Name}
+use Rattle.art_nodes.proofs.Common.{Name}
 use Rattle.art_nodes.specs.declared.kind.NodeType.{NodeType}
 use Rattle.art_nodes.specs.declared.kind.NodeType.TheVariants.{Node4, Node16, Node32, Node48, Node256, Leaf}
-use Rattle.art_arena.proofs.Common.{Arena, HasRoom, HasRoomOf, KeepsRoomOf, UsesRoomOf, IsKindOf, same_kind, same_kind_tells}
-use Rattle.art_operations.proofs.Terms.{Open, Spine, AddsChild, IsEmptySpine, begin_of, open_at, kind_over, one_of, noted_before, unmade, HasRoomAround}
+use Rattle.art_arena.proofs.Common.{Arena, HasRoom, HasRoomOf, KeepsRoomOf, UsesRoomOf, IsKindOf, same_kind_tells}
+use Rattle.art_operations.proofs.Terms.{Open, Spine, AddsChild, IsEmptySpine, begin_of, kind_over, one_of, unmade, HasRoomAround}
 
 -- a comparison that holds, and one that fails
 at-most : (a b : ℕ) → a ≤ b → nat_le a b ≡ true

@@ -1,9 +1,9 @@
 -- Where a key's way by all its bytes ends, told of a place in the tree, and what is read from there.
-use Rattle.std.proofs.Common.{◌≡◌, ◌≢◌, ℕ, suc, ◌+◌, ◌<◌, ◌≤◌, ◌||◌, nat_lt, bytes_eq, filter, inl, inr, if◌then◌else◌, Bool, true, false, List, [], ◌∷◌, ◌++◌, length, drop, Option, Some, None, refl, sym, ap, subst, ◌∙◌, arith, append_assoc, eq-eqb, ne_eqb, lt-ltb, le-ltb}
+use Rattle.std.proofs.Common.{◌≡◌, ◌≢◌, ℕ, suc, ◌+◌, ◌<◌, ◌≤◌, ◌||◌, nat_lt, bytes_eq, filter, inl, inr, if◌then◌else◌, Bool, true, false, List, [], ◌∷◌, ◌++◌, length, drop, Some, None, refl, sym, ap, subst, ◌∙◌, arith, append_assoc, eq-eqb, ne_eqb, lt-ltb, le-ltb}
 use Rattle.std.proofs.lemmas.Bool.{cond-true, cond-false}
 use Rattle.art_bytes.proofs.Common.{BeginsWith, Conflict}
 use Rattle.art_nodes.proofs.Common.{child_at}
-use Rattle.art_arena.proofs.Common.{AreAround, AreBelow, AreUnder, Shape, Branches, Frame, Tree, drop-front, fill, plug, path_to, join, branch, no_branch, inner_at, leaf_at, erase, erase_in, children_at, one_byte, is_before, IsPlace, LeafAt, key_of, leaves, leaves_after, leaves_before}
+use Rattle.art_arena.proofs.Common.{AreAround, AreBelow, Shape, Branches, Frame, Tree, drop-front, fill, plug, path_to, join, branch, no_branch, inner_at, erase, erase_in, children_at, one_byte, is_before, IsPlace, LeafAt, key_of, leaves, leaves_after, leaves_before}
 use Rattle.art_arena.proofs.Common.{leaves-plug, items, items-erase, some_leaf, all_left, all_right, pairs_of, passing, begins_with, begins_true, begins_false, bytes_from_same}
 use Rattle.art_arena.proofs.tree.Distinct.{same_bytes}
 use Rattle.art_arena.specs.declared.ends.End.TheVariants.{First, Last}

@@ -13,4 +13,5 @@ pub mod LeafParts
 pub mod Spines
 pub mod Rebuilding
 pub mod Reopening
+pub mod Closing
 pub mod Cursors

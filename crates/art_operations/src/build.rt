@@ -4,7 +4,7 @@
 ghost use Rattle.std.specs.Prelude.{◌≡◌, ◌≤◌, ◌+◌, ◌∷◌, ◌++◌, ℕ, suc, List, [], None, IfErr, IsOk, OnErr, OnOk};
 ghost use Rattle.art_nodes.specs.declared.kind.NodeType.TheVariants.{Leaf};
 ghost use Rattle.art_arena.specs.arena.Arena.{HasRoom, HasRoomOf, KeepsRoomOf, SameNodes};
-ghost use Rattle.art_arena.specs.arena.Rooms.{SameLeaves, UsesRoomOf};
+ghost use Rattle.art_arena.specs.arena.Rooms.{SameLeaves};
 ghost use Rattle.art_operations.specs.Builders.{Builds, IsAfterAll, HasRoomBeside, HasRoomToPush};
 ghost use Rattle.art_operations.specs.Builders.{IsPushRefused};
 ghost use Rattle.art_operations.specs.LeafNames.{HasLeavesOf};
@@ -104,7 +104,16 @@ impl TreeBuilder {
         ensures leaf_room { (n : ℕ) → HasRoomOf arena.old Leaf (n + 1) → HasRoomOf arena.new Leaf n }
     {
         let Some(last) = self.last else {
-            return self.push_first(arena, key, value);
+            return match store_last(arena, None, key, value) {
+                Ok(first) => {
+                    self.last = Some(first);
+                    Ok(())
+                }
+                Err(refused) => Err(PushRefused::Memory {
+                    key: refused.key,
+                    value: refused.value,
+                }),
+            };
         };
         let met = meet(arena.as_key_ref(last).as_bytes(), key.as_bytes());
         let Meeting::Parts(parted) = met else {
@@ -121,43 +130,6 @@ impl TreeBuilder {
                 pass_at(arena, &mut self.spine, last, leaf, parted);
                 self.last = Some(leaf);
                 self.room -= 1;
-                Ok(())
-            }
-            Err(refused) => Err(PushRefused::Memory {
-                key: refused.key,
-                value: refused.value,
-            }),
-        }
-    }
-
-    // Takes the first pair.
-    fn push_first<K: AsBytes + Drop, V: Drop, const PREFIX_LEN: usize>(
-        &mut self,
-        arena: &mut NodeArena<K, V, PREFIX_LEN>,
-        key: K,
-        value: V,
-    ) -> Result<(), PushRefused<K, V>>
-        requires last { self.old.last ≡ None }
-        requires builds { (pairs : List (K × V)) × Builds K.bytes PREFIX_LEN arena.old self.old pairs }
-        ensures ok { OnOk result ((pairs : List (K × V)) → Builds K.bytes PREFIX_LEN arena.old self.old pairs
-            → Builds K.bytes PREFIX_LEN arena.new self.new (pairs ++ (key, value) ∷ [])) }
-        ensures refused { IfErr result (λ e. (pairs : List (K × V)) → Builds K.bytes PREFIX_LEN arena.old self.old pairs
-            → IsPushRefused key value (IsAfterAll K.bytes (K.bytes key) pairs) e) }
-        ensures kept { OnErr result (SameNodes arena.old arena.new) }
-        ensures left { OnErr result ((pairs : List (K × V)) → Builds K.bytes PREFIX_LEN arena.old self.old pairs
-            → Builds K.bytes PREFIX_LEN arena.new self.new pairs) }
-        ensures names { HasLeavesOf K.bytes arena.new arena.old }
-        ensures succeeds { HasRoomOf arena.old Leaf 1 → IsOk result }
-        ensures uses { self.new.room ≡ self.old.room }
-        ensures room { (n : ℕ) → HasRoomBeside arena.old self.old (n + 2) → HasRoomBeside arena.new self.new n }
-        ensures kept_room { OnErr result ((n : ℕ) → 1 ≤ n → HasRoomBeside arena.old self.old n
-            → HasRoomBeside arena.new self.new n) }
-        ensures room_of { UsesRoomOf Leaf arena.old arena.new }
-        ensures refused_room { OnErr result (KeepsRoomOf arena.old arena.new) }
-    {
-        match store_last(arena, None, key, value) {
-            Ok(leaf) => {
-                self.last = Some(leaf);
                 Ok(())
             }
             Err(refused) => Err(PushRefused::Memory {

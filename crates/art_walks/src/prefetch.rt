@@ -13,7 +13,7 @@ use std::marker::Model;
 use std::ops::Bound;
 
 /// How many leaves an arena has at least where a walk reads ahead. Where there are fewer, they are near anyway.
-const MIN_LEAVES: usize = 131_072;
+const MIN_LEAVES: usize = 65_536;
 
 /// How many leaves a walk goes along before it reads ahead, so that a short one pays nothing for it.
 const FIRST_LEAVES: usize = 128;

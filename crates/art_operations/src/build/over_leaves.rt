@@ -2,7 +2,7 @@
 //! builder, but the leaves are there already.
 ghost use Rattle.std.specs.Prelude.{◌≡◌, ◌+◌, ◌-◌, ◌^◌, ◌<◌, ◌≤◌, ℕ, suc, List, [], length, Some, OnOk, IfOk};
 ghost use Rattle.art_bytes.specs.Keys.{IsBefore};
-ghost use Rattle.art_arena.specs.arena.Arena.{KeepsRoomOf, SameNodes};
+ghost use Rattle.art_arena.specs.arena.Arena.{KeepsRoomOf, SameNodes, UsesRoom};
 ghost use Rattle.art_arena.specs.arena.Rooms.{SameLeaves};
 ghost use Rattle.art_arena.specs.arena.Shapes.{LeafAt, pairs_of};
 ghost use Rattle.art_operations.specs.Meetings.{PartAt};
@@ -10,6 +10,7 @@ ghost use Rattle.art_operations.specs.Pairs.{HasPairs};
 ghost use Rattle.art_operations.specs.Rebuilds.{HasInnerRoom, HoldsInOrder, KeepsLeafRoom};
 ghost use Rattle.art_operations.specs.inner.Rebuilding.{CanPass, HasNodeRoom, HasSpineRoom, IsFresh, RebuildsUpTo};
 ghost use Rattle.art_operations.specs.inner.Spines.{IsEmptySpine};
+ghost use Rattle.art_operations.specs.inner.Unmade.{HasRoomAround};
 ghost use Rattle.art_operations.specs.Whichever.{HasSome, OfEach};
 
 use crate::build::spine::{Spine, close, pass_at};
@@ -128,6 +129,7 @@ fn pass_to<K: AsBytes, V, const PREFIX_LEN: usize>(
     ensures leaves { SameLeaves arena.old arena.new }
     ensures room { (more : ℕ) → HasSpineRoom arena.old spine.old (suc more) → HasSpineRoom arena.new spine.new more }
     ensures nodes { (more : ℕ) → HasNodeRoom arena.old spine.old (suc more) → HasNodeRoom arena.new spine.new more }
+    ensures around { (n : ℕ) → HasRoomAround arena.old spine.old (suc n) → HasRoomAround arena.new spine.new n }
     ensures leaf_room { KeepsLeafRoom arena.old arena.new }
 {
     let parted = parting(
@@ -154,6 +156,8 @@ fn pass_all<K: AsBytes, V, const PREFIX_LEN: usize>(
     ensures nodes { (ls : List (LeafAt K V)) → HoldsInOrder K.bytes arena.old (Some first) ls → length ls ≤ leaves
         → (more : ℕ) → HasNodeRoom arena.old spine.old (length ls + more)
         → HasNodeRoom arena.new spine.new (suc more) }
+    ensures around { (ls : List (LeafAt K V)) → HoldsInOrder K.bytes arena.old (Some first) ls → length ls ≤ leaves
+        → (n : ℕ) → HasRoomAround arena.old spine.old (n + (length ls - 1)) → HasRoomAround arena.new spine.new n }
     ensures leaf_room { KeepsLeafRoom arena.old arena.new }
 {
     let mut last = first;
@@ -172,7 +176,8 @@ fn pass_all<K: AsBytes, V, const PREFIX_LEN: usize>(
 /// It returns the name of the root, or `None` if there is no leaf. No leaf moves, and none is linked anew.
 ///
 /// The caller allocated room for as many leaves or more, by `SpineRoom::new`. So it never fails, and allocates nothing.
-/// Of the room for inner nodes it takes that of a tree of these leaves, and room for leaves stays.
+/// Of the room for inner nodes it takes that of a tree of these leaves, so one less than they are of each kind at most.
+/// Room for leaves stays.
 pub fn rebuild<K: AsBytes, V, const PREFIX_LEN: usize>(
     arena: &mut NodeArena<K, V, PREFIX_LEN>,
     room: SpineRoom,
@@ -185,6 +190,8 @@ pub fn rebuild<K: AsBytes, V, const PREFIX_LEN: usize>(
     ensures leaves { SameLeaves arena.old arena.new }
     ensures inner_room { (ls : List (LeafAt K V)) → HoldsInOrder K.bytes arena.old first ls → length ls ≤ room
         → (more : ℕ) → HasInnerRoom arena.old (length ls - 1 + more) → HasInnerRoom arena.new more }
+    ensures room { (ls : List (LeafAt K V)) → HoldsInOrder K.bytes arena.old first ls → length ls ≤ room
+        → UsesRoom (length ls - 1) arena.old arena.new }
     ensures leaf_room { KeepsLeafRoom arena.old arena.new }
 {
     let Some(start) = first else {

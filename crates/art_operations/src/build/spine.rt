@@ -8,6 +8,7 @@ ghost use Rattle.art_arena.specs.arena.Rooms.{SameLeaves};
 ghost use Rattle.art_arena.specs.arena.Shapes.{LeafAt};
 ghost use Rattle.art_arena.specs.arena.Cells.{Cell, leaf_name};
 ghost use Rattle.art_operations.specs.Rebuilds.{HasInnerRoom, KeepsLeafRoom};
+ghost use Rattle.art_operations.specs.inner.Closing.{KeepsSpineRoom};
 ghost use Rattle.art_operations.specs.inner.Rebuilding.{CanPassAt, HasNodeRoom, HasPlaces, HasSpineRoom, RebuildsUpTo};
 ghost use Rattle.art_operations.specs.inner.Spines.{begin_of, AddsChild, OpensAt, IsEmptySpine, HasSpine};
 ghost use Rattle.art_operations.specs.inner.Unmade.{HasRoomAround};
@@ -173,13 +174,7 @@ fn close_top<K: AsBytes, V, const PREFIX_LEN: usize>(
     ensures fewer { OnOk result (suc (length spine.new.stack.items) ≡ length spine.old.stack.items) }
     ensures leaves { SameLeaves arena.old arena.new }
     ensures succeeds { (more : ℕ) → HasSpineRoom arena.old spine.old (suc more) → IsOk result }
-    ensures room { OnOk result ((more : ℕ) → HasSpineRoom arena.old spine.old (suc more)
-        → HasSpineRoom arena.new spine.new (suc more)) }
-    ensures around { OnOk result ((n : ℕ) → HasRoomAround arena.old spine.old n
-        → HasRoomAround arena.new spine.new n) }
-    ensures nodes { OnOk result ((more : ℕ) → HasNodeRoom arena.old spine.old (suc more)
-        → HasNodeRoom arena.new spine.new (suc more)) }
-    ensures leaf_room { OnOk result (KeepsLeafRoom arena.old arena.new) }
+    ensures room { OnOk result (KeepsSpineRoom arena.old spine.old arena.new spine.new) }
 {
     let Some(top) = spine.stack.pop() else {
         unreachable!();
@@ -213,13 +208,7 @@ pub(super) fn close_from<K: AsBytes, V, const PREFIX_LEN: usize>(
     ensures closed { OnOk result (begin_of low spine.new.stack.items ≡ low) }
     ensures leaves { SameLeaves arena.old arena.new }
     ensures succeeds { (more : ℕ) → HasSpineRoom arena.old spine.old (suc more) → IsOk result }
-    ensures room { OnOk result ((more : ℕ) → HasSpineRoom arena.old spine.old (suc more)
-        → HasSpineRoom arena.new spine.new (suc more)) }
-    ensures around { OnOk result ((n : ℕ) → HasRoomAround arena.old spine.old n
-        → HasRoomAround arena.new spine.new n) }
-    ensures nodes { OnOk result ((more : ℕ) → HasNodeRoom arena.old spine.old (suc more)
-        → HasNodeRoom arena.new spine.new (suc more)) }
-    ensures leaf_room { OnOk result (KeepsLeafRoom arena.old arena.new) }
+    ensures room { OnOk result (KeepsSpineRoom arena.old spine.old arena.new spine.new) }
 {
     let mut part = start;
     'close: loop {
@@ -246,13 +235,7 @@ pub(super) fn close<K: AsBytes, V, const PREFIX_LEN: usize>(
     ensures closed { OnOk result (begin_of low spine.new.stack.items ≡ low) }
     ensures leaves { SameLeaves arena.old arena.new }
     ensures succeeds { (more : ℕ) → HasSpineRoom arena.old spine.old (suc more) → IsOk result }
-    ensures room { OnOk result ((more : ℕ) → HasSpineRoom arena.old spine.old (suc more)
-        → HasSpineRoom arena.new spine.new (suc more)) }
-    ensures around { OnOk result ((n : ℕ) → HasRoomAround arena.old spine.old n
-        → HasRoomAround arena.new spine.new n) }
-    ensures nodes { OnOk result ((more : ℕ) → HasNodeRoom arena.old spine.old (suc more)
-        → HasNodeRoom arena.new spine.new (suc more)) }
-    ensures leaf_room { OnOk result (KeepsLeafRoom arena.old arena.new) }
+    ensures room { OnOk result (KeepsSpineRoom arena.old spine.old arena.new spine.new) }
 {
     close_from(arena, spine, last, low, last.to_opaque())
 }

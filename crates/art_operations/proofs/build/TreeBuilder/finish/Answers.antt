@@ -1,8 +1,8 @@
-use Rattle.std.proofs.Common.{[], ◌-◌, ◌+◌, suc, Some, None, refl, subst, ap, sym, ◌∙◌, arith}
+use Rattle.std.proofs.Common.{[], ◌-◌, Some, refl, subst, ap, sym, arith}
 use Rattle.art_arena.proofs.Common.{leaf_name}
 use Rattle.art_operations.proofs.Terms.{HasPairs, HasSpineRoom, begin_of}
 use Rattle.art_operations.proofs.Building.{builds-none, builds-some, finished, none-held, spine-of}
-use Rattle.art_operations.proofs.PassedLeaves.{never}
+use Rattle.art_operations.proofs.Results.{never}
 use Rattle.art_operations.proofs.Unmade.{around-room}
 use Rattle.art_operations.proofs.build.TreeBuilder.finish.Goals as goal
 
@@ -41,4 +41,4 @@ pub returns-then-self-eq0-clause-room : goal.returns-then-self-eq0-clause-room
 returns-then-self-eq0-clause-room g c = around-room c.args.arena.now c.args.self.spine
 
 pub returns-clause-room : goal.returns-clause-room
-returns-clause-room g c = λ n room. around-room c.close.new.arena c.close.new.spine n (c.in-Ok.ensures.around n room)
+returns-clause-room g c = λ n room. around-room c.close.new.arena c.close.new.spine n (c.in-Ok.ensures.room.around n room)

@@ -5,7 +5,7 @@ use Rattle.art_operations.proofs.Terms.{HasSpineRoom, begin_of}
 use Rattle.art_operations.specs.inner.Reopening.{OpensTo}
 use Rattle.art_operations.proofs.InnerRooms.{no-room}
 use Rattle.art_operations.proofs.OpenRooms.{many-leaves, fresh-to-open}
-use Rattle.art_operations.proofs.PassedLeaves.{never}
+use Rattle.art_operations.proofs.Results.{never}
 use Rattle.art_operations.proofs.Reopening.{below-root, leaf-is-held, leaf-there, made-again, opens-start, reopened-pairs, spine-of}
 use Rattle.art_operations.proofs.Unmade.{around-room, fresh-around}
 use Rattle.art_operations.proofs.build.TreeBuilder.reopen.Goals as goal
@@ -119,7 +119,7 @@ returns-in_default-clause-leaf_alone g c = λ alone. let leaf = c.is.ensures.1 (
 
 pub returns-in_default-clause-room : goal.returns-in_default-clause-room
 returns-in_default-clause-room g c = λ n room.
-    around-room c.close_from.new.arena c.close_from.new.spine n (c.in-Ok-close_from.ensures.around n (c.in_default.ensures.kept.around n (c.open.invariant.around n room)))
+    around-room c.close_from.new.arena c.close_from.new.spine n (c.in-Ok-close_from.ensures.room.around n (c.in_default.ensures.kept.around n (c.open.invariant.around n room)))
 
 pub open-preserved : goal.open-preserved
 open-preserved g c = record {
@@ -143,4 +143,4 @@ pub returns-then-ready-eq0-clause-leaf_room : goal.returns-then-ready-eq0-clause
 returns-then-ready-eq0-clause-leaf_room g c = λ n room. c.in_default.ensures.kept.room_of Leaf n (c.open.invariant.room_of Leaf n room)
 
 pub returns-in_default-clause-leaf_room : goal.returns-in_default-clause-leaf_room
-returns-in_default-clause-leaf_room g c = λ n room. c.in-Ok-close_from.ensures.leaf_room n (c.in_default.ensures.kept.room_of Leaf n (c.open.invariant.room_of Leaf n room))
+returns-in_default-clause-leaf_room g c = λ n room. c.in-Ok-close_from.ensures.room.leaves n (c.in_default.ensures.kept.room_of Leaf n (c.open.invariant.room_of Leaf n room))

@@ -1,6 +1,6 @@
 use Rattle.std.proofs.Common.{◌-◌, suc, List, length, Some, ap, sym, subst, ◌∙◌, refl, arith, lit<}
 use Rattle.art_arena.proofs.Common.{LeafAt}
-use Rattle.art_operations.proofs.Terms.{HasNodeRoom}
+use Rattle.art_operations.proofs.Terms.{HasNodeRoom, HasRoomAround}
 use Rattle.art_operations.proofs.InnerRooms.{fewer-to-come}
 use Rattle.art_operations.proofs.PassedLeaves.{all-passed, can-pass, few-left, follows, none-left, one-passed, starts}
 use Rattle.art_operations.proofs.Rebuilding.{last-is-held}
@@ -13,6 +13,7 @@ walk-init g c = record {
   room = c.requires.room;
   within = omega arith;
   nodes = λ more room. subst (HasNodeRoom c.args.arena.now c.args.spine.now) (omega arith) room;
+  around = λ n room. subst (HasRoomAround c.args.arena.now c.args.spine.now) (omega arith) room;
   leaf_room = λ n room. room;
 }
 
@@ -42,6 +43,16 @@ returns-in_default-clause-nodes g c = λ ls order most more room.
     let count = are.count most in
     let within = c.walk.invariant.within in
     c.walk.invariant.nodes (suc more) (subst (HasNodeRoom c.args.arena.now c.args.spine.now) (omega (arith, none, count, within)) room)
+
+pub returns-in_default-clause-around : goal.returns-in_default-clause-around
+returns-in_default-clause-around g c = λ ls order most n room.
+    let are = c.walk.invariant.passed ls order in
+    let all = none-left g.K.AsBytes.bytes g.row.PREFIX_LEN are.rest (sym (follows g.K.AsBytes.bytes g.row.PREFIX_LEN c.args.arena.now c.walk.arena c.walk.spine c.walk.last c.walk.left c.args.leaves (Some c.args.first) ls order c.walk.invariant.leaves are c.as_ref.result.now c.as_ref.ensures)
+    ∙ (sym c.next.ensures ∙ c.in_default.is)) in
+    let none = ap (λ (rest : List (LeafAt g.row.K.Denot g.row.V.Denot)). length rest) all in
+    let count = are.count most in
+    let within = c.walk.invariant.within in
+    c.walk.invariant.around n (subst (HasRoomAround c.args.arena.now c.args.spine.now) (omega (arith, none, count, within)) room)
 
 pub pass_to-requires : goal.pass_to-requires
 pass_to-requires g c =
@@ -77,6 +88,9 @@ walk-preserved g c =
       nodes = λ more room.
           let within = c.walk.invariant.within in
           c.pass_to.ensures.nodes more (c.walk.invariant.nodes (suc more) (subst (HasNodeRoom c.args.arena.now c.args.spine.now) (omega (arith, few, within)) room));
+      around = λ n room.
+          let within = c.walk.invariant.within in
+          c.pass_to.ensures.around n (c.walk.invariant.around (suc n) (subst (HasRoomAround c.args.arena.now c.args.spine.now) (omega (arith, few, within)) room));
       leaf_room = λ n room. c.pass_to.ensures.leaf_room n (c.walk.invariant.leaf_room n room);
     }
 

@@ -1,6 +1,6 @@
 use Rattle.std.proofs.Common.{ℕ, ◌+◌, ◌-◌, ◌≤◌, List, Some}
 use Rattle.art_arena.proofs.Common.{SameLeaves, LeafAt}
-use Rattle.art_operations.proofs.Terms.{HoldsInOrder, HasNodeRoom, HasSpineRoom, KeepsLeafRoom}
+use Rattle.art_operations.proofs.Terms.{HoldsInOrder, HasNodeRoom, HasRoomAround, HasSpineRoom, KeepsLeafRoom}
 use Rattle.art_operations.proofs.PassedLeaves.{ArePassed}
 use Rattle.art_operations.proofs.build.over_leaves.pass_all.Given as goal
 
@@ -11,6 +11,7 @@ invariant-walk g l = record {
   room : HasSpineRoom l.arena l.spine l.left;
   within : l.left ≤ l.fn.leaves;
   nodes : (more : ℕ) → HasNodeRoom l.fn.arena l.fn.spine (more + (l.fn.leaves - l.left)) → HasNodeRoom l.arena l.spine more;
+  around : (n : ℕ) → HasRoomAround l.fn.arena l.fn.spine (n + (l.fn.leaves - l.left)) → HasRoomAround l.arena l.spine n;
   leaf_room : KeepsLeafRoom l.fn.arena l.arena;
 }
 

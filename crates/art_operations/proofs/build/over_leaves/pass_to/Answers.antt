@@ -1,4 +1,4 @@
-use Rattle.std.proofs.Common.{◌+◌, ◌<◌, ℕ, List, All, sym, subst, arith}
+use Rattle.std.proofs.Common.{◌<◌, ℕ, List, All, sym, subst, arith}
 use Rattle.std.proofs.lemmas.List.Elements.{All-get_or}
 use Rattle.art_bytes.proofs.Common.{IsBefore}
 use Rattle.art_arena.proofs.Common.{LeafAt}
@@ -51,3 +51,6 @@ pass_at-requires g c =
 
 pub returns-clause-passes : goal.returns-clause-passes
 returns-clause-passes g c = λ rest ls can. c.pass_at.ensures.passes rest ls (parts g (goal.at.returns-clause-passes g c).After-parting-parted rest ls can)
+
+pub returns-clause-around : goal.returns-clause-around
+returns-clause-around g c = c.pass_at.ensures.around

@@ -1,8 +1,11 @@
 use Rattle.std.proofs.Common.{◌+◌, ◌-◌, ◌≤◌, length, [], Some, sym, ap, subst, arith}
 use Rattle.art_operations.proofs.Terms.{HasInnerRoom, HoldsInOrder}
 use Rattle.art_operations.proofs.InnerRooms.{fewer-leaves, fresh-room, made-all}
-use Rattle.art_operations.proofs.PassedLeaves.{never, none-rebuilt, rebuilt, some-left}
+use Rattle.art_operations.proofs.NewNodes.{fewer}
+use Rattle.art_operations.proofs.PassedLeaves.{none-rebuilt, rebuilt, some-left}
+use Rattle.art_operations.proofs.Results.{never}
 use Rattle.art_operations.proofs.Rebuilding.{last-stands}
+use Rattle.art_operations.proofs.Unmade.{around-room, fresh-around}
 use Rattle.art_operations.proofs.build.over_leaves.rebuild.Goals as goal
 
 pub returns-in_default-clause-tree : goal.returns-in_default-clause-tree
@@ -46,7 +49,16 @@ returns-clause-inner_room g c = λ ls order most more room.
     let long = ap length start.is in
     let view = c.room.view_is in
     let passed = c.pass_all-last.ensures.nodes ls here (subst (λ n. length ls ≤ n) (sym view) most) in
-    made-all c.args.arena.now c.pass_all-last.new.arena c.close.new.arena c.room.inside.spine c.pass_all-last.new.spine c.close.new.spine (length ls) c.room.invariant.empty (omega (arith, long)) passed c.in-Ok.ensures.nodes more room
+    made-all c.args.arena.now c.pass_all-last.new.arena c.close.new.arena c.room.inside.spine c.pass_all-last.new.spine c.close.new.spine (length ls) c.room.invariant.empty (omega (arith, long)) passed c.in-Ok.ensures.room.nodes more room
 
 pub returns-clause-leaf_room : goal.returns-clause-leaf_room
-returns-clause-leaf_room g c = λ n room. c.in-Ok.ensures.leaf_room n (c.pass_all-last.ensures.leaf_room n room)
+returns-clause-leaf_room g c = λ n room. c.in-Ok.ensures.room.leaves n (c.pass_all-last.ensures.leaf_room n room)
+
+pub returns-in_default-clause-room : goal.returns-in_default-clause-room
+returns-in_default-clause-room g c = λ ls order most n room. fewer c.args.arena.now n (n + (length ls - 1)) (omega arith) room
+
+pub returns-clause-room : goal.returns-clause-room
+returns-clause-room g c = λ ls order most n room.
+    let here = subst (λ f. HoldsInOrder g.K.AsBytes.bytes c.args.arena.now f ls) c.in-Some.is order in
+    let passed = c.pass_all-last.ensures.around ls here (subst (λ k. length ls ≤ k) (sym c.room.view_is) most) n in
+    around-room c.close.new.arena c.close.new.spine n (c.in-Ok.ensures.room.around n (passed (fresh-around c.args.arena.now c.room.inside.spine (n + (length ls - 1)) c.room.invariant.empty room)))

@@ -4,7 +4,7 @@ use Rattle.art_arena.proofs.Common.{IsKindOf, LeafAt, leaf_name}
 use Rattle.art_operations.proofs.Terms.{HasSpineRoom, Open, begin_of}
 use Rattle.art_operations.specs.inner.Reopening.{OpensTo}
 use Rattle.art_operations.proofs.OpenRooms.{around-opened, still-to-open}
-use Rattle.art_operations.proofs.PassedLeaves.{on-err}
+use Rattle.art_operations.proofs.Results.{on-err}
 use Rattle.art_operations.proofs.PutBack.{same_inner}
 use Rattle.art_operations.proofs.Reopening.{inner, opened-room, opens-child, opens-same, seen-inside, seen-kind, seen-room, seen-two}
 use Rattle.art_operations.proofs.Spines.{begin-after}
@@ -63,7 +63,7 @@ pub returns-in_err-reserve-clause-err : goal.returns-in_err-reserve-clause-err
 returns-in_err-reserve-clause-err g c =
     let other = c.requires.inner in
     let seen = c.inner.result.node in
-    on-err c.from_residual.result _ (record {
+    on-err c.from_residual.result (record {
       stands = λ leaf ls is. opens-same g.K.AsBytes.bytes g.row.PREFIX_LEN c.args.arena.now c.reserve.new.arena c.args.spine.now c.reserve.new.self c.args.part leaf ls c.reserve.ensures.kept c.reserve.ensures.stack c.reserve.ensures.children is;
       short = λ leaf ls is room.
           let two = seen-two g.K.AsBytes.bytes g.row.PREFIX_LEN c.args.arena.now c.args.spine.now c.args.part leaf ls is other seen c.inner.ensures.value in

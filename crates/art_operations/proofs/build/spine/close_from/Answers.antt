@@ -17,14 +17,16 @@ close_top-requires g c =
 pub close-preserved : goal.close-preserved
 close-preserved g c = record {
   stands = λ rest key ls has. c.in_ok-part.ensures.ok rest key ls (c.close.invariant.stands rest key ls has);
-  room = λ more room. c.in_ok-part.ensures.room more (c.close.invariant.room more room);
-  around = λ n room. c.in_ok-part.ensures.around n (c.close.invariant.around n room);
-  nodes = λ more room. c.in_ok-part.ensures.nodes more (c.close.invariant.nodes more room);
-  leaf_room = λ n room. c.in_ok-part.ensures.leaf_room n (c.close.invariant.leaf_room n room);
+  room = record {
+    spine = λ more room. c.in_ok-part.ensures.room.spine more (c.close.invariant.room.spine more room);
+    around = λ n room. c.in_ok-part.ensures.room.around n (c.close.invariant.room.around n room);
+    nodes = λ more room. c.in_ok-part.ensures.room.nodes more (c.close.invariant.room.nodes more room);
+    leaves = λ n room. c.in_ok-part.ensures.room.leaves n (c.close.invariant.room.leaves n room);
+  };
   leaves = λ slot. c.in_ok-part.ensures.leaves slot ∙ c.close.invariant.leaves slot;
 }
 
 pub returns-in_err-part-clause-succeeds : goal.returns-in_err-part-clause-succeeds
 returns-in_err-part-clause-succeeds g c = λ more room.
-    let ok = c.in_err-part.ensures.succeeds more (c.close.invariant.room more room) in
+    let ok = c.in_err-part.ensures.succeeds more (c.close.invariant.room.spine more room) in
     absurd (cc)

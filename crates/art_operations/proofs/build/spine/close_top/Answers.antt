@@ -90,7 +90,7 @@ returns-clause-ok g c = λ rest key ls has.
     c.in_ok-node.ensures.leaves
 
 pub returns-clause-room : goal.returns-clause-room
-returns-clause-room g c = λ more room.
+returns-clause-room g c =
     let d = (goal.at.returns-clause-room g c).After-as_slice in
     let r = c.requires.stands in
     let has = r.1.2 in
@@ -109,53 +109,20 @@ returns-clause-room g c = λ more room.
     (byte-fits g d r.0 r.1.0 r.1.1 has)
     (c.truncate.ensures.items ∙ ap (take c.in-Some.top.first) c.in-Ok.ensures.items) in
     let popped = ap length c.in-Some.ensures.items ∙ length-append c.pop.new.self.items (c.in-Some.top ∷ []) in
-    closed-room c.args.arena.now c.store_over.new.arena c.args.spine.now (record { stack = c.pop.new.self; children = c.truncate.new.self }) c.in-Some.top.first (length own_list) more
-    (subst (λ n. (k : ℕ) → HasInnerRoom c.args.arena.now (n + k) → HasInnerRoom c.store_over.new.arena (suc k)) own_is c.in_ok-node.ensures.room)
-    (omega (arith, two)) count (omega (arith, popped)) left (omega arith) (omega arith) room
-
-pub returns-clause-nodes : goal.returns-clause-nodes
-returns-clause-nodes g c = λ more room.
-    let d = (goal.at.returns-clause-nodes g c).After-as_slice in
-    let r = c.requires.stands in
-    let has = r.1.2 in
-    let own_is = ap (λ (cs : List (ℕ × Name)). length cs) (children-read g d r.0 r.1.0 r.1.1 has) in
-    let own_list = own g.K.AsBytes.bytes g.row.PREFIX_LEN c.args.arena.now c.args.spine.now r.0 c.args.last c.args.low c.args.part r.1.0 r.1.1 has
-    c.pop.new.self.items c.in-Some.top c.in-Some.ensures.items c.requires.above (byte g d r.0 r.1.0 r.1.1 has) (byte-is g d r.0 r.1.0 r.1.1 has)
-    (byte-fits g d r.0 r.1.0 r.1.1 has) in
-    let count = all-count g.K.AsBytes.bytes g.row.PREFIX_LEN c.args.arena.now c.args.spine.now r.0 c.args.last c.args.low c.args.part r.1.0 r.1.1 has
-    c.pop.new.self.items c.in-Some.top c.in-Some.ensures.items c.requires.above (byte g d r.0 r.1.0 r.1.1 has) (byte-is g d r.0 r.1.0 r.1.1 has)
-    (byte-fits g d r.0 r.1.0 r.1.1 has) in
-    let left = left-count g.K.AsBytes.bytes g.row.PREFIX_LEN c.args.arena.now c.args.spine.now r.0 c.args.last c.args.low c.args.part r.1.0 r.1.1 has
-    c.pop.new.self.items c.in-Some.top c.in-Some.ensures.items c.requires.above (byte g d r.0 r.1.0 r.1.1 has) (byte-is g d r.0 r.1.0 r.1.1 has)
-    (byte-fits g d r.0 r.1.0 r.1.1 has)
-    (c.truncate.ensures.items ∙ ap (take c.in-Some.top.first) c.in-Ok.ensures.items) in
-    closed-nodes c.args.arena.now c.store_over.new.arena c.args.spine.now (record { stack = c.pop.new.self; children = c.truncate.new.self }) c.in-Some.top.first (length own_list) more
-    (subst (λ n. (k : ℕ) → HasInnerRoom c.args.arena.now (n + k) → HasInnerRoom c.store_over.new.arena (suc k)) own_is c.in_ok-node.ensures.room) count left room
-
-pub returns-clause-leaf_room : goal.returns-clause-leaf_room
-returns-clause-leaf_room g c = λ n room.
     let kind = c.in_ok-node.node.kind in
-    (c.in_ok-node.ensures.uses kind c.in_ok-node.ensures.kind).others Leaf (not-leaf kind _ c.in_ok-node.ensures.kind) n room
-
-pub returns-clause-around : goal.returns-clause-around
-returns-clause-around g c = λ n room.
-    let d = (goal.at.returns-clause-around g c).After-as_slice in
-    let r = c.requires.stands in
-    let has = r.1.2 in
-    let own_is = ap (λ (cs : List (ℕ × Name)). length cs) (children-read g d r.0 r.1.0 r.1.1 has) in
-    let own_list = own g.K.AsBytes.bytes g.row.PREFIX_LEN c.args.arena.now c.args.spine.now r.0 c.args.last c.args.low c.args.part r.1.0 r.1.1 has
-    c.pop.new.self.items c.in-Some.top c.in-Some.ensures.items c.requires.above (byte g d r.0 r.1.0 r.1.1 has) (byte-is g d r.0 r.1.0 r.1.1 has)
-    (byte-fits g d r.0 r.1.0 r.1.1 has) in
-    let count = all-count g.K.AsBytes.bytes g.row.PREFIX_LEN c.args.arena.now c.args.spine.now r.0 c.args.last c.args.low c.args.part r.1.0 r.1.1 has
-    c.pop.new.self.items c.in-Some.top c.in-Some.ensures.items c.requires.above (byte g d r.0 r.1.0 r.1.1 has) (byte-is g d r.0 r.1.0 r.1.1 has)
-    (byte-fits g d r.0 r.1.0 r.1.1 has) in
-    let left = left-count g.K.AsBytes.bytes g.row.PREFIX_LEN c.args.arena.now c.args.spine.now r.0 c.args.last c.args.low c.args.part r.1.0 r.1.1 has
-    c.pop.new.self.items c.in-Some.top c.in-Some.ensures.items c.requires.above (byte g d r.0 r.1.0 r.1.1 has) (byte-is g d r.0 r.1.0 r.1.1 has)
-    (byte-fits g d r.0 r.1.0 r.1.1 has)
-    (c.truncate.ensures.items ∙ ap (take c.in-Some.top.first) c.in-Ok.ensures.items) in
-    let kind = c.in_ok-node.node.kind in
-    around-closed c.args.arena.now c.store_over.new.arena c.args.spine.now (record { stack = c.pop.new.self; children = c.truncate.new.self }) c.in-Some.top kind (length own_list) n (subst (IsKindOf kind) own_is c.in_ok-node.ensures.kind)
-    (c.in_ok-node.ensures.uses kind c.in_ok-node.ensures.kind) c.in-Some.ensures.items count left room
+    record {
+      spine = λ more room.
+          closed-room c.args.arena.now c.store_over.new.arena c.args.spine.now (record { stack = c.pop.new.self; children = c.truncate.new.self }) c.in-Some.top.first (length own_list) more
+          (subst (λ n. (k : ℕ) → HasInnerRoom c.args.arena.now (n + k) → HasInnerRoom c.store_over.new.arena (suc k)) own_is c.in_ok-node.ensures.room)
+          (omega (arith, two)) count (omega (arith, popped)) left (omega arith) (omega arith) room;
+      around = λ n room.
+          around-closed c.args.arena.now c.store_over.new.arena c.args.spine.now (record { stack = c.pop.new.self; children = c.truncate.new.self }) c.in-Some.top kind (length own_list) n (subst (IsKindOf kind) own_is c.in_ok-node.ensures.kind)
+          (c.in_ok-node.ensures.uses kind c.in_ok-node.ensures.kind) c.in-Some.ensures.items count left room;
+      nodes = λ more room.
+          closed-nodes c.args.arena.now c.store_over.new.arena c.args.spine.now (record { stack = c.pop.new.self; children = c.truncate.new.self }) c.in-Some.top.first (length own_list) more
+          (subst (λ n. (k : ℕ) → HasInnerRoom c.args.arena.now (n + k) → HasInnerRoom c.store_over.new.arena (suc k)) own_is c.in_ok-node.ensures.room) count left room;
+      leaves = λ n room. (c.in_ok-node.ensures.uses kind c.in_ok-node.ensures.kind).others Leaf (not-leaf kind _ c.in_ok-node.ensures.kind) n room;
+    }
 
 pub returns-in_err-node-clause-succeeds : goal.returns-in_err-node-clause-succeeds
 returns-in_err-node-clause-succeeds g c = λ more room.

@@ -1,6 +1,7 @@
 use Rattle.std.proofs.Common.{◌+◌, suc, arith}
 use Rattle.art_operations.proofs.InnerRooms.{added-nodes, added-room}
-use Rattle.art_operations.proofs.PassedLeaves.{never, passes}
+use Rattle.art_operations.proofs.PassedLeaves.{passes}
+use Rattle.art_operations.proofs.Results.{never}
 use Rattle.art_operations.proofs.Rebuilding.{last-stands}
 use Rattle.art_operations.proofs.Unmade.{around-added}
 use Rattle.art_operations.proofs.build.spine.pass_at.Goals as goal
@@ -18,20 +19,20 @@ unreachable-requires g c =
 pub unreachable-requires-in_default-add_child : goal.unreachable-requires-in_default-add_child
 unreachable-requires-in_default-add_child g c =
     let r = c.requires.room in
-    never c.add_child.result (c.add_child.ensures.succeeds r.0 (c.in-Ok.ensures.room r.0 r.1).places) (λ x e. c.in_default-add_child.not-Ok x e)
+    never c.add_child.result (c.add_child.ensures.succeeds r.0 (c.in-Ok.ensures.room.spine r.0 r.1).places) (λ x e. c.in_default-add_child.not-Ok x e)
 
 pub returns-clause-room : goal.returns-clause-room
 returns-clause-room g c = λ more room.
-    let left = c.in-Ok.ensures.room more room in
+    let left = c.in-Ok.ensures.room.spine more room in
     added-room c.close.new.arena c.close.new.spine c.add_child.new.self (c.args.parted.matched + 1) more (c.args.parted.old_byte, c.in-Ok.part) c.in-Ok-add_child.ensures.ok (c.in-Ok-add_child.ensures.places more left.places) left
 
 pub returns-clause-nodes : goal.returns-clause-nodes
 returns-clause-nodes g c = λ more room.
-    added-nodes c.close.new.arena c.close.new.spine c.add_child.new.self (c.args.parted.matched + 1) more (c.args.parted.old_byte, c.in-Ok.part) c.in-Ok-add_child.ensures.ok (c.in-Ok.ensures.nodes more room)
+    added-nodes c.close.new.arena c.close.new.spine c.add_child.new.self (c.args.parted.matched + 1) more (c.args.parted.old_byte, c.in-Ok.part) c.in-Ok-add_child.ensures.ok (c.in-Ok.ensures.room.nodes more room)
 
 pub returns-clause-around : goal.returns-clause-around
 returns-clause-around g c = λ n room.
-    around-added c.close.new.arena c.close.new.spine c.add_child.new.self (c.args.parted.matched + 1) n (c.args.parted.old_byte, c.in-Ok.part) c.in-Ok-add_child.ensures.ok (c.in-Ok.ensures.around (suc n) room)
+    around-added c.close.new.arena c.close.new.spine c.add_child.new.self (c.args.parted.matched + 1) n (c.args.parted.old_byte, c.in-Ok.part) c.in-Ok-add_child.ensures.ok (c.in-Ok.ensures.room.around (suc n) room)
 
 pub returns-clause-passes : goal.returns-clause-passes
 returns-clause-passes g c = λ rest ls at.

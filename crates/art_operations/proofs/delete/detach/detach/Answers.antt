@@ -4,7 +4,7 @@ use Rattle.art_nodes.specs.declared.kind.NodeType.TheVariants.{Leaf}
 use Rattle.art_arena.proofs.Common.{steps_of}
 use Rattle.art_operations.proofs.Terms.{CanLoseChild}
 use Rattle.art_operations.proofs.Detaching.{lone, child_part, loses_kind, apart_of_root, grand_node, grand_there, grand_child, grand_inner, apart_below, links_below}
-use Rattle.art_operations.proofs.Results.{always_err}
+use Rattle.art_operations.proofs.Results.{on-err}
 use Rattle.art_operations.proofs.delete.detach.detach.Goals as goal
 
 pub returns-in-Root-clause-ok : goal.returns-in-Root-clause-ok
@@ -24,7 +24,7 @@ take_out-requires g c =
 
 pub returns-in_err-left-in-ChildOfRoot-clause-shrinks : goal.returns-in_err-left-in-ChildOfRoot-clause-shrinks
 returns-in_err-left-in-ChildOfRoot-clause-shrinks g c =
-    always_err c.from_residual.result _ (λ s rest nodes place.
+    on-err c.from_residual.result (λ s rest nodes place.
     loses_kind g.K.AsBytes.bytes g.row.PREFIX_LEN c.args.arena.now c.args.root s c.args.part (steps_of c.args.path)
     (record { node = inner_name_of c.in-ChildOfRoot.parent; byte = c.in-ChildOfRoot.child_key_byte }) [] (ap steps_of c.in-ChildOfRoot.is)
     c.to_opaque.result (sym c.to_opaque.ensures) nodes place
@@ -55,7 +55,7 @@ take_out-requires-in-Normal g c =
 
 pub returns-in_err-left-in-Normal-clause-shrinks : goal.returns-in_err-left-in-Normal-clause-shrinks
 returns-in_err-left-in-Normal-clause-shrinks g c =
-    always_err c.from_residual-in_err-left-in-Normal.result _ (λ s rest nodes place.
+    on-err c.from_residual-in_err-left-in-Normal.result (λ s rest nodes place.
     loses_kind g.K.AsBytes.bytes g.row.PREFIX_LEN c.args.arena.now c.args.root s c.args.part (steps_of c.args.path)
     (record { node = inner_name_of c.in-Normal.parent; byte = c.in-Normal.child_key_byte })
     ((record { node = inner_name_of c.in-Normal.grandparent; byte = c.in-Normal.parent_key_byte }) ∷ []) (ap steps_of c.in-Normal.is)

@@ -12,111 +12,63 @@ use Rattle.art_operations.proofs.delete.detach.take_out.Goals as goal
 use Rattle.art_operations.proofs.delete.detach.take_out.Goals.{After-num_children}
 
 pub inner-requires : goal.inner-requires
-inner-requires g c = (lit< tt, (lit< tt, (rw (node_there g.K.AsBytes.bytes g.row.PREFIX_LEN c.args.arena.now c.args.parent c.args.byte c.args.child c.requires.1) refl, node_inner g.K.AsBytes.bytes g.row.PREFIX_LEN c.args.arena.now c.args.parent c.args.byte c.args.child c.requires.1)))
+inner-requires g c = (lit< tt, (lit< tt, (rw (node_there c.requires.1) refl, node_inner c.requires.1)))
 
 -- how many children the node was seen to have
 count : (g : _) (c : After-num_children g) {rest : List (Name × Cell g.row.K.Denot g.row.V.Denot)}
-    (t : IsChildPart g.K.AsBytes.bytes g.row.PREFIX_LEN c.args.arena.now rest c.args.parent c.args.byte c.args.child) → c.num_children.result
-    ≡ suc (others g.K.AsBytes.bytes g.row.PREFIX_LEN c.args.arena.now c.args.parent c.args.byte c.args.child t)
-count g c t = read_at (λ m. length m.children) _ (node g.K.AsBytes.bytes g.row.PREFIX_LEN c.args.arena.now c.args.parent c.args.byte c.args.child t) _
-    (node_there g.K.AsBytes.bytes g.row.PREFIX_LEN c.args.arena.now c.args.parent c.args.byte c.args.child t) c.inner.ensures.value _ c.num_children.ensures
-    ∙ node_count g.K.AsBytes.bytes g.row.PREFIX_LEN c.args.arena.now c.args.parent c.args.byte c.args.child t
+    (t : IsChildPart g.K.AsBytes.bytes g.row.PREFIX_LEN c.args.arena.now rest c.args.parent c.args.byte c.args.child) → c.num_children.result ≡ suc (others t)
+count g c t = read_at (λ m. length m.children) _ (node t) _ (node_there t) c.inner.ensures.value _ c.num_children.ensures ∙ node_count t
 
 pub merge-requires : goal.merge-requires
 merge-requires g c =
     let t = c.requires.1 in
-    let two : suc (others g.K.AsBytes.bytes g.row.PREFIX_LEN c.args.arena.now c.args.parent c.args.byte c.args.child t) ≡ 2 = sym (count g ((goal.at.merge-requires g c).After-num_children) t) ∙ c.if-num_children-eq2.true in
-    let o = one g.K.AsBytes.bytes g.row.PREFIX_LEN c.args.arena.now c.args.parent c.args.byte c.args.child t two in (
-      lit< tt,
-      (
-        node_inner g.K.AsBytes.bytes g.row.PREFIX_LEN c.args.arena.now c.args.parent c.args.byte c.args.child t,
-        (
-          node g.K.AsBytes.bytes g.row.PREFIX_LEN c.args.arena.now c.args.parent c.args.byte c.args.child t,
-          (o.edge, name_of o.here),
-          node_there g.K.AsBytes.bytes g.row.PREFIX_LEN c.args.arena.now c.args.parent c.args.byte c.args.child t,
-          one_other g.K.AsBytes.bytes g.row.PREFIX_LEN c.args.arena.now c.args.parent c.args.byte c.args.child t two,
-          other_path g.K.AsBytes.bytes g.row.PREFIX_LEN c.args.arena.now t.frame t.outer t.part t.held o,
-          o.here,
-          other_subtree g.K.AsBytes.bytes g.row.PREFIX_LEN c.args.arena.now t.frame t.outer t.part t.held o,
-          shorter g.K.AsBytes.bytes g.row.PREFIX_LEN c.args.arena.now c.args.parent c.args.byte c.args.child t two,
-          λ e. other_apart g.K.AsBytes.bytes g.row.PREFIX_LEN c.args.arena.now t.frame t.outer t.part t.held o (e ∙ sym t.named),
-        ),
-      ),
-    )
+    let two : suc (others t) ≡ 2 = sym (count g ((goal.at.merge-requires g c).After-num_children) t) ∙ c.if-num_children-eq2.true in
+    let o = one t two in
+    (lit< tt, (node_inner t, (node t, (o.edge, name_of o.here), node_there t, one_other t two, other_path t.held o, o.here, other_subtree t.held o, shorter t two, λ e. other_apart t.held o (e ∙ sym t.named))))
 
 pub returns-then-num_children-eq2-clause-ok : goal.returns-then-num_children-eq2-clause-ok
 returns-then-num_children-eq2-clause-ok g c = λ rest t.
-    let two : suc (others g.K.AsBytes.bytes g.row.PREFIX_LEN c.args.arena.now c.args.parent c.args.byte c.args.child t) ≡ 2 = sym (count g ((goal.at.returns-then-num_children-eq2-clause-ok g c).After-num_children) t) ∙ c.if-num_children-eq2.true in
-    let o = one g.K.AsBytes.bytes g.row.PREFIX_LEN c.args.arena.now c.args.parent c.args.byte c.args.child t two in
-    let m = c.merge.ensures.merges (node g.K.AsBytes.bytes g.row.PREFIX_LEN c.args.arena.now c.args.parent c.args.byte c.args.child t) (o.edge, name_of o.here)
-    (node_there g.K.AsBytes.bytes g.row.PREFIX_LEN c.args.arena.now c.args.parent c.args.byte c.args.child t)
-    (one_other g.K.AsBytes.bytes g.row.PREFIX_LEN c.args.arena.now c.args.parent c.args.byte c.args.child t two) in
-    let is = c.merge.ensures.value (node g.K.AsBytes.bytes g.row.PREFIX_LEN c.args.arena.now c.args.parent c.args.byte c.args.child t) (o.edge, name_of o.here)
-    (node_there g.K.AsBytes.bytes g.row.PREFIX_LEN c.args.arena.now c.args.parent c.args.byte c.args.child t)
-    (one_other g.K.AsBytes.bytes g.row.PREFIX_LEN c.args.arena.now c.args.parent c.args.byte c.args.child t two) in
-    subst (λ n. StandsFor g.K.AsBytes.bytes g.row.PREFIX_LEN c.merge.new.arena rest t.frame t.outer t.part n) (sym is) (merged_out g.K.AsBytes.bytes g.row.PREFIX_LEN c.args.arena.now c.args.parent c.args.byte c.args.child t two m.0 c.merge.new.arena m.1 m.2)
+    let two : suc (others t) ≡ 2 = sym (count g ((goal.at.returns-then-num_children-eq2-clause-ok g c).After-num_children) t) ∙ c.if-num_children-eq2.true in
+    let o = one t two in
+    let m = c.merge.ensures.merges (node t) (o.edge, name_of o.here) (node_there t) (one_other t two) in
+    let is = c.merge.ensures.value (node t) (o.edge, name_of o.here) (node_there t) (one_other t two) in
+    subst (λ n. StandsFor g.K.AsBytes.bytes g.row.PREFIX_LEN c.merge.new.arena rest t.frame t.outer t.part n) (sym is) (merged_out t two m.0 c.merge.new.arena m.1 m.2)
 
 pub returns-then-num_children-eq2-clause-links : goal.returns-then-num_children-eq2-clause-links
 returns-then-num_children-eq2-clause-links g c =
     let t = c.requires.1 in
-    let two : suc (others g.K.AsBytes.bytes g.row.PREFIX_LEN c.args.arena.now c.args.parent c.args.byte c.args.child t) ≡ 2 = sym (count g ((goal.at.returns-then-num_children-eq2-clause-links g c).After-num_children) t) ∙ c.if-num_children-eq2.true in
-    let o = one g.K.AsBytes.bytes g.row.PREFIX_LEN c.args.arena.now c.args.parent c.args.byte c.args.child t two in
-    let m = c.merge.ensures.merges (node g.K.AsBytes.bytes g.row.PREFIX_LEN c.args.arena.now c.args.parent c.args.byte c.args.child t) (o.edge, name_of o.here)
-    (node_there g.K.AsBytes.bytes g.row.PREFIX_LEN c.args.arena.now c.args.parent c.args.byte c.args.child t)
-    (one_other g.K.AsBytes.bytes g.row.PREFIX_LEN c.args.arena.now c.args.parent c.args.byte c.args.child t two) in
-    merged_links g.K.AsBytes.bytes g.row.PREFIX_LEN c.args.arena.now c.args.parent c.args.byte c.args.child t two m.0 c.merge.new.arena m.1 m.2
+    let two : suc (others t) ≡ 2 = sym (count g ((goal.at.returns-then-num_children-eq2-clause-links g c).After-num_children) t) ∙ c.if-num_children-eq2.true in
+    let o = one t two in
+    let m = c.merge.ensures.merges (node t) (o.edge, name_of o.here) (node_there t) (one_other t two) in
+    merged_links t two m.0 c.merge.new.arena m.1 m.2
 
 pub returns-then-num_children-eq2-clause-room : goal.returns-then-num_children-eq2-clause-room
 returns-then-num_children-eq2-clause-room g c = λ n room. c.merge.ensures.room n (fewer c.args.arena.now n (n + 1) (omega arith) room)
 
 pub take_child-requires : goal.take_child-requires
-take_child-requires g c =
-    let t = c.requires.1 in (
-      lit< tt,
-      (
-        node_inner g.K.AsBytes.bytes g.row.PREFIX_LEN c.args.arena.now c.args.parent c.args.byte c.args.child t,
-        (
-          node g.K.AsBytes.bytes g.row.PREFIX_LEN c.args.arena.now c.args.parent c.args.byte c.args.child t,
-          node_there g.K.AsBytes.bytes g.row.PREFIX_LEN c.args.arena.now c.args.parent c.args.byte c.args.child t,
-          puts_part_back g.K.AsBytes.bytes g.row.PREFIX_LEN c.args.arena.now c.args.parent c.args.byte c.args.child t,
-          has_room_for_part g.K.AsBytes.bytes g.row.PREFIX_LEN c.args.arena.now c.args.parent c.args.byte c.args.child t,
-        ),
-      ),
-    )
+take_child-requires g c = let t = c.requires.1 in (lit< tt, (node_inner t, (node t, node_there t, puts_part_back t, has_room_for_part t)))
 
 pub returns-clause-ok : goal.returns-clause-ok
 returns-clause-ok g c =
     both_ok c.take_child.result _ _ _ c.take_child.ensures.ok c.take_child.ensures.kind (λ other moves kind rest t.
-    let more : suc (others g.K.AsBytes.bytes g.row.PREFIX_LEN c.args.arena.now c.args.parent c.args.byte c.args.child t) ≢ 2 = λ e. c.if-num_children-eq2.false (count g ((goal.at.returns-clause-ok g c).After-num_children) t ∙ e) in
-    taken_out g.K.AsBytes.bytes g.row.PREFIX_LEN c.args.arena.now c.args.parent c.args.byte c.args.child t c.take_child.new.arena other
-    (moves (node g.K.AsBytes.bytes g.row.PREFIX_LEN c.args.arena.now c.args.parent c.args.byte c.args.child t)
-    (node_there g.K.AsBytes.bytes g.row.PREFIX_LEN c.args.arena.now c.args.parent c.args.byte c.args.child t))
-    (kind (node g.K.AsBytes.bytes g.row.PREFIX_LEN c.args.arena.now c.args.parent c.args.byte c.args.child t)
-    (node_there g.K.AsBytes.bytes g.row.PREFIX_LEN c.args.arena.now c.args.parent c.args.byte c.args.child t)) more)
+    let more : suc (others t) ≢ 2 = λ e. c.if-num_children-eq2.false (count g ((goal.at.returns-clause-ok g c).After-num_children) t ∙ e) in
+    taken_out t c.take_child.new.arena other (moves (node t) (node_there t)) (kind (node t) (node_there t)) more)
 
 pub returns-clause-links : goal.returns-clause-links
 returns-clause-links g c =
     let t = c.requires.1 in
-    let more : suc (others g.K.AsBytes.bytes g.row.PREFIX_LEN c.args.arena.now c.args.parent c.args.byte c.args.child t) ≢ 2 = λ e. c.if-num_children-eq2.false (count g ((goal.at.returns-clause-links g c).After-num_children) t ∙ e) in
+    let more : suc (others t) ≢ 2 = λ e. c.if-num_children-eq2.false (count g ((goal.at.returns-clause-links g c).After-num_children) t ∙ e) in
     either_way c.take_child.result _ _ _ ((slot : ℕ) → links_at c.take_child.new.arena slot ≡ links_at c.args.arena.now slot) c.take_child.ensures.ok c.take_child.ensures.kind c.take_child.ensures.err
-    (λ other moves kind. taken_links g.K.AsBytes.bytes g.row.PREFIX_LEN c.args.arena.now c.args.parent c.args.byte c.args.child t c.take_child.new.arena other
-    (moves (node g.K.AsBytes.bytes g.row.PREFIX_LEN c.args.arena.now c.args.parent c.args.byte c.args.child t)
-    (node_there g.K.AsBytes.bytes g.row.PREFIX_LEN c.args.arena.now c.args.parent c.args.byte c.args.child t))
-    (kind (node g.K.AsBytes.bytes g.row.PREFIX_LEN c.args.arena.now c.args.parent c.args.byte c.args.child t)
-    (node_there g.K.AsBytes.bytes g.row.PREFIX_LEN c.args.arena.now c.args.parent c.args.byte c.args.child t)) more)
+    (λ other moves kind. taken_links t c.take_child.new.arena other (moves (node t) (node_there t)) (kind (node t) (node_there t)) more)
     (λ same. links-same c.args.arena.now c.take_child.new.arena same)
 
 pub returns-clause-shrinks : goal.returns-clause-shrinks
-returns-clause-shrinks g c = from_err c.take_child.result _ _ c.take_child.ensures.shrinks
-    (λ can rest t. limit_kind g.K.AsBytes.bytes g.row.PREFIX_LEN c.args.arena.now c.args.parent c.args.byte c.args.child t
-    (can (node g.K.AsBytes.bytes g.row.PREFIX_LEN c.args.arena.now c.args.parent c.args.byte c.args.child t)
-    (node_there g.K.AsBytes.bytes g.row.PREFIX_LEN c.args.arena.now c.args.parent c.args.byte c.args.child t)))
+returns-clause-shrinks g c = from_err c.take_child.result (λ can rest t. limit_kind t (can (node t) (node_there t))) c.take_child.ensures.shrinks
 
 pub returns-clause-has_room : goal.returns-clause-has_room
 returns-clause-has_room g c = λ room.
     let t = c.requires.1 in
-    c.take_child.ensures.has_room (λ n there can.
-    room n there (subst (CanShrink c.args.parent.kind) (one_less g.K.AsBytes.bytes g.row.PREFIX_LEN c.args.arena.now c.args.parent c.args.byte c.args.child t n there) can))
+    c.take_child.ensures.has_room (λ n there can. room n there (subst (CanShrink c.args.parent.kind) (one_less t n there) can))
 
 pub returns-then-num_children-eq2-clause-leaf_room : goal.returns-then-num_children-eq2-clause-leaf_room
 returns-then-num_children-eq2-clause-leaf_room g c = λ n room. c.merge.ensures.room_of Leaf n room

@@ -3,7 +3,7 @@ use Rattle.art_nodes.specs.declared.kind.NodeType.TheVariants.{Leaf}
 use Rattle.art_operations.proofs.delete.point.DeletePoint.apply.Given.{Over}
 use Rattle.art_arena.proofs.Common.{links_at, leaves_before, leaves_after, leaf_at, LeafAt, steps_of, kept-around}
 use Rattle.art_operations.proofs.Deleted.{part_place, still_listed, all_are, others_left, kept_beside, held_leaf, leaf_freed, leaf_gone, deleted}
-use Rattle.art_operations.proofs.Results.{always_err}
+use Rattle.art_operations.proofs.Results.{on-err}
 use Rattle.art_operations.proofs.Shrinking.{shrinks_below}
 use Rattle.art_operations.proofs.delete.point.DeletePoint.apply.Goals as goal
 
@@ -14,7 +14,7 @@ detach-requires g c =
 
 pub returns-in_err-new_root-clause-shrinks : goal.returns-in_err-new_root-clause-shrinks
 returns-in_err-new_root-clause-shrinks g c =
-    always_err c.from_residual.result _ (λ s rest tree place.
+    on-err c.from_residual.result (λ s rest tree place.
     shrinks_below g.K.AsBytes.bytes s tree.nodes.under c.args.self.leaf_node_ptr place.key place.value place.ctx place.place.is place.place.around place.place.under
     (c.in_err-new_root.ensures.shrinks s rest tree.nodes (part_place g.K.AsBytes.bytes s c.args.self.leaf_node_ptr (steps_of c.args.self.path) _ c.to_opaque.ensures place)))
 

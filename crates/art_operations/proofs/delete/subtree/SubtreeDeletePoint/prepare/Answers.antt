@@ -2,7 +2,7 @@ use Rattle.std.proofs.Common.{lit<}
 use Rattle.art_arena.proofs.Common.{steps_of}
 use Rattle.art_operations.proofs.Edits.{last-is}
 use Rattle.art_operations.proofs.Preparing.{parent_inner, parent_node, parent_there, parent_some, parent_shrinks}
-use Rattle.art_operations.proofs.Results.{always_err}
+use Rattle.art_operations.proofs.Results.{on-err}
 use Rattle.art_operations.proofs.delete.subtree.SubtreeDeletePoint.prepare.Goals as goal
 
 pub reserve_smaller-requires : goal.reserve_smaller-requires
@@ -22,6 +22,6 @@ reserve_smaller-requires g c =
 
 pub returns-in_err-reserve_smaller-clause-shrinks : goal.returns-in_err-reserve_smaller-clause-shrinks
 returns-in_err-reserve_smaller-clause-shrinks g c =
-    always_err c.from_residual.result _ (λ front s rest tree is.
+    on-err c.from_residual.result (λ front s rest tree is.
     let last = last-is (steps_of c.args.self.path) c.last_step.result c.in-Some.step c.in-Some.is c.last_step.ensures in
     parent_shrinks g.K.AsBytes.bytes g.row.PREFIX_LEN c.args.arena.now c.args.self.root s c.args.self front tree.nodes is c.in-Some.step last.0 last.1 c.in_err-reserve_smaller.ensures.shrinks)
