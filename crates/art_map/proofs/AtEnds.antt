@@ -1,5 +1,5 @@
 -- The item at an end of a list, and the others.
-use Rattle.std.proofs.Common.{◌≡◌, List, [], ◌∷◌, ◌++◌, sym, ap, ◌∙◌}
+use Rattle.std.proofs.Common.{◌≡◌, List, [], ◌∷◌, sym, ap, ◌∙◌}
 use Rattle.std.proofs.lemmas.List.{map-append}
 use Rattle.art_arena.proofs.Common.{LeafAt, pairs_of}
 use Rattle.art_arena.specs.declared.ends.End.{End}

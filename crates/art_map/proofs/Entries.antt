@@ -1,9 +1,9 @@
 -- What an entry shows: the pair of its leaf, before and after it is written.
-use Rattle.std.proofs.Common.{◌≡◌, ℕ, Bool, true, false, cond, List, [], ◌∷◌, Option, Some, None, IsSome, Result, Ok, Err, IsOk, IfOk, IfErr, OnOk, OnErr, refl, sym, ap, subst, ◌∙◌}
+use Rattle.std.proofs.Common.{◌≡◌, ℕ, Bool, true, false, cond, List, [], ◌∷◌, Option, Some, None, IsSome, Result, Ok, Err, IsOk, IfOk, IfErr, OnOk, refl, sym, ap, subst, ◌∙◌}
 use mathlib.Core.Bool.{Bool-set}
 use Rattle.std.proofs.lemmas.Slice.Eq.{bytes_eq-Decides}
 use Rattle.art_bytes.specs.declared.as_bytes.AsBytes as as_bytes
-use Rattle.art_arena.proofs.Common.{cell_of, node_at, Cell, branches, leaf_name, pair, key_of, leaf-there, HasRoom, KeepsRoomOf}
+use Rattle.art_arena.proofs.Common.{cell_of, node_at, Cell, branches, leaf_name, pair, key_of, leaf-there, KeepsRoomOf}
 use Rattle.art_arena.specs.arena.Arena.{UsesRoom}
 use Rattle.art_operations.proofs.Common.{without_key, with_pair_put}
 use Rattle.art_map.proofs.Terms.{IsFound, HasPairAt, HasPairUnder, leaf_pair, pair_under, has_leaf, KeepsAllLeaves, with_value_at, Contents, has_bytes, Vacant, unwrapped, option_key, entry_key, entry_value, entry_pairs, pairs_without, with_entry_value, IsEntryOf, IsSame, IsWritten, OccupiedEntry}
@@ -158,7 +158,3 @@ err-never (Err e) more a never = more e a (λ room. let ok = never room in absur
 pub ok-on : {X E C : Type 0} {A B : X → Type 0} (r : Result X E) → ((x : X) → A x → B x → C) → IfOk r A → IfOk r B → OnOk r C
 ok-on (Ok x) more a b = more x a b
 ok-on (Err e) more a b = tt
-
-pub err-on : {X E A C : Type 0} (r : Result X E) → (A → C) → OnErr r A → OnErr r C
-err-on (Ok x) more a = tt
-err-on (Err e) more a = more a

@@ -4,7 +4,7 @@ use Rattle.std.proofs.lemmas.List.{append-nil}
 use Rattle.std.proofs.Math.Logic.{∥∥₁_elim, ∥∥₁_map}
 use Rattle.std.specs.Prelude.{MatchOption, option_map}
 use Rattle.art_nodes.proofs.Common.{Name}
-use Rattle.art_arena.proofs.Common.{node_at, links_at, Cell, pair, branches, leaf_name, first_slot, IsList, LeafAt, pairs_of, nodes-part, leaves_are_held, tree-list, all_left, all_right}
+use Rattle.art_arena.proofs.Common.{node_at, links_at, Cell, pair, branches, leaf_name, IsList, LeafAt, pairs_of, nodes-part, leaves_are_held, tree-list, all_left, all_right}
 use Rattle.art_arena.specs.declared.ends.End.{End}
 use Rattle.art_arena.specs.declared.ends.End.TheVariants.{First, Last}
 use Rattle.art_operations.proofs.Common.{HasLeaves, IsAmong, IsAtEnd, leaf_pair}

@@ -1,6 +1,6 @@
 -- What a look-up finds after a change. Callers cite these lemmas where a proof of theirs needs one of the laws.
 use Rattle.std.proofs.Common.{◌≡◌, ℕ, Bool, true, false, cond, not, List, [], ◌∷◌, Option, Some, None, bytes_eq}
-use Rattle.std.proofs.Common.{refl, sym, ap, ◌∙◌, arith}
+use Rattle.std.proofs.Common.{refl, sym, ap, ◌∙◌}
 use Rattle.std.specs.BTreeMap.Range.{range_contains}
 use Rattle.std.specs.Map.{lookup}
 use Rattle.std.specs.Prelude.{filter}

@@ -1,6 +1,5 @@
 -- Which items a list has after a change, and which is found: pairs of a map or keys of a set, each by its key.
-use Rattle.std.proofs.Common.{◌≡◌, ◌⊎◌, inl, inr, ℕ, Bool, true, false, cond, not, List, [], ◌∷◌, ◌++◌, Some, None, bytes_eq, refl, sym, ap, subst, ◌∙◌, arith}
-use Rattle.std.specs.List.{AllByRecursion}
+use Rattle.std.proofs.Common.{◌≡◌, ◌⊎◌, inl, inr, ℕ, Bool, true, false, cond, not, List, [], ◌∷◌, ◌++◌, Some, bytes_eq, refl, sym, ap, subst, ◌∙◌}
 use Rattle.std.specs.Prelude.{◌↔◌, filter, find}
 use Rattle.art_bytes.proofs.Common.{IsBefore, before_not_self}
 use Rattle.art_arena.proofs.Common.{AscendsByKey, IsIn, all_at, begins_true, begins_with, bytes_from_same, is_before, other_key, put_in_order, same_key}

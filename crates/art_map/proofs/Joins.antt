@@ -1,5 +1,5 @@
 -- The two parts of a map's pairs, below a query and not below it.
-use Rattle.std.proofs.Common.{◌≡◌, ℕ, suc, ◌+◌, Bool, true, false, List, [], ◌∷◌, ◌++◌, Option, Some, None, is_some, length, take, drop, refl, sym, ap, subst, ◌∙◌, arith, length-append, append_assoc}
+use Rattle.std.proofs.Common.{◌≡◌, ◌⊎◌, inl, inr, ℕ, suc, ◌+◌, Bool, true, false, List, [], ◌∷◌, ◌++◌, Option, Some, None, is_some, length, take, drop, refl, sym, ap, subst, ◌∙◌, arith, length-append, append_assoc}
 use Rattle.std.specs.List.{AllByRecursion}
 use Rattle.std.specs.Ordering.{is_le}
 use Rattle.std.specs.declared.ops.Bound.TheVariants.{Included, Excluded, Unbounded}
@@ -67,6 +67,14 @@ module _ {K V : Type 0} (bytes : K → List ℕ) (query : List ℕ) where
       let none : length (below pairs) ≡ 0 = omega (arith, both, long) in
       let parts = parted [] pairs (below pairs) (from pairs) (sym (parts-are pairs up)) (sym none) in
       (sym parts.0, sym parts.1)
+
+  -- where a part has none, the last part has none or all
+  pub part-empty : (pairs : List (K × V)) (count : ℕ) (B : Type 0) → AscendsByKey (key_of bytes) pairs → count ≡ length (from pairs) → (count ≡ 0 → B) → (count ≡ length pairs → B) → (from pairs ≡ []) ⊎ (below pairs ≡ []) → B
+  part-empty pairs count B up counted none all (inl e) = none (counted ∙ ap length e)
+  part-empty pairs count B up counted none all (inr e) =
+      let both = parts-long pairs up in
+      let gone = ap length e in
+      all (omega (arith, counted, both, gone))
 
 -- where an item came, one less is left
 pub some-left : {X A : Type 0} (shows : A → X) (s t : List X) (r : Option A) → TakesFirst shows s r t → is_some r ≡ true → length s ≡ suc (length t)

@@ -24,6 +24,7 @@ pub mod Compacted
 pub mod Puts
 pub mod Built
 pub mod RoomLeft
+pub mod RoomUsed
 pub mod StoredKeys
 pub mod VecPairs
 pub mod Joins
@@ -32,9 +33,11 @@ pub mod LonePairs
 pub mod FoundAfter
 pub mod AfterChanges
 pub mod ItemChanges
+pub mod SortedItems
 pub mod ItemCounts
 pub mod PairChanges
 pub mod EndedKeys
+pub mod EmptyRooms
 pub mod Merged
 pub mod CutLeaves
 pub mod Terms

@@ -45,7 +45,7 @@ module _ {K V : Type 0} (bytes : K → List ℕ) where
       by_test false later = later
 
   -- pairs that are put in are items that are
-  all-put : (new ps : List (K × V)) → with_pairs_put bytes new ps ≡ with_items (key_of bytes) new ps
+  pub all-put : (new ps : List (K × V)) → with_pairs_put bytes new ps ≡ with_items (key_of bytes) new ps
   all-put [] ps = refl
   all-put (p ∷ new) ps = all-put new (with_pair_put bytes p.0 p.1 ps)
 

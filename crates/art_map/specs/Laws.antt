@@ -77,23 +77,23 @@ module _ (K V : Type 0) where
       → found_value bytes query (filter (λ p. keep (bytes p.0) p.1) pairs)
       ≡ kept_value (keep query) (found_value bytes query pairs)
 
-  abbrev pub LongAfterInsertion : Type 0
-  LongAfterInsertion = (bytes : K → List ℕ) (k : K) (v : V) (pairs : List (K × V)) → AscendsByKey (key_of bytes) pairs
+  abbrev pub LenAfterInsertion : Type 0
+  LenAfterInsertion = (bytes : K → List ℕ) (k : K) (v : V) (pairs : List (K × V)) → AscendsByKey (key_of bytes) pairs
       → length (with_pair_put bytes k v pairs)
       ≡ (if is_some (found_value bytes (bytes k) pairs) then length pairs else suc (length pairs))
 
-  abbrev pub LongAfterRemoval : Type 0
-  LongAfterRemoval = (bytes : K → List ℕ) (key : List ℕ) (pairs : List (K × V)) → AscendsByKey (key_of bytes) pairs
+  abbrev pub LenAfterRemoval : Type 0
+  LenAfterRemoval = (bytes : K → List ℕ) (key : List ℕ) (pairs : List (K × V)) → AscendsByKey (key_of bytes) pairs
       → length (without_key (key_of bytes) key pairs) + (if is_some (found_value bytes key pairs) then 1 else 0)
       ≡ length pairs
 
-  abbrev pub LongAfterPrefixRemoval : Type 0
-  LongAfterPrefixRemoval = (bytes : K → List ℕ) (front : List ℕ) (pairs : List (K × V))
+  abbrev pub LenAfterPrefixRemoval : Type 0
+  LenAfterPrefixRemoval = (bytes : K → List ℕ) (front : List ℕ) (pairs : List (K × V))
       → length (with_front (key_of bytes) front pairs) + length (without_front (key_of bytes) front pairs)
       ≡ length pairs
 
-  abbrev pub LongAfterWrite : Type 0
-  LongAfterWrite = (test : K → Bool) (w : V) (pairs : List (K × V)) → length (set_value test pairs w) ≡ length pairs
+  abbrev pub LenAfterWrite : Type 0
+  LenAfterWrite = (test : K → Bool) (w : V) (pairs : List (K × V)) → length (set_value test pairs w) ≡ length pairs
 
 -- the bytes of a key that is seen without the zero at its end
 abbrev pub ended : List ℕ → List ℕ

@@ -35,17 +35,17 @@ IsWrittenPair {K} {V} bytes key w q pairs =
     ⊎ ((bytes_eq (bytes q.0) key ≡ true) × (q.1 ≡ w) × (v : V) × IsIn (q.0, v) pairs)
 
 module _ (K V : Type 0) where
-  abbrev pub LongAfterPrefixInsertion : Type 0
-  LongAfterPrefixInsertion = (bytes : K → List ℕ) (k : K) (v : V) (pairs : List (K × V))
+  abbrev pub LenAfterPrefixInsertion : Type 0
+  LenAfterPrefixInsertion = (bytes : K → List ℕ) (k : K) (v : V) (pairs : List (K × V))
       → length (with_pair_over bytes k v pairs) + length (overlapping (key_of bytes) (bytes k) pairs)
       ≡ suc (length pairs)
 
-  abbrev pub LongAfterInsertions : Type 0
-  LongAfterInsertions = (bytes : K → List ℕ) (new pairs : List (K × V)) → AscendsByKey (key_of bytes) pairs
+  abbrev pub LenAfterInsertions : Type 0
+  LenAfterInsertions = (bytes : K → List ℕ) (new pairs : List (K × V)) → AscendsByKey (key_of bytes) pairs
       → length (with_pairs_put bytes new pairs) ≡ length pairs + keys_added (key_of bytes) new pairs
 
-  abbrev pub LongAmongRetained : Type 0
-  LongAmongRetained = (test : K × V → Bool) (pairs : List (K × V))
+  abbrev pub LenAmongRetained : Type 0
+  LenAmongRetained = (test : K × V → Bool) (pairs : List (K × V))
       → length (filter test pairs) + length (filter (λ p. not (test p)) pairs) ≡ length pairs
 
   abbrev pub IsInAfterInsertion : Type 0

@@ -3,7 +3,7 @@ use Rattle.std.specs.Prelude.{◌≡◌, ℕ, List, Result}
 use Rattle.std.specs.Borrow.{Fml, RattleType, MutBor, RestsIfErr}
 use denote.Param.{number}
 use Rattle.art_bytes.specs.declared.as_bytes.AsBytes as as_bytes
-use Rattle.art_arena.specs.arena.Arena.{KeepsRoom}
+use Rattle.art_arena.specs.arena.Arena.{KeepsRoomOf}
 use Rattle.art_map.specs.Contents.{Contents, HasSameNodes}
 use Rattle.art_map.specs.declared.map.prefix_removal.PrefixRemoval.{PrefixRemoval}
 use Rattle.art_map.specs.contracts.map.TreeMap as map
@@ -26,9 +26,10 @@ module _ (K V : RattleType) (P : ℕ) (key : as_bytes.Ghosts K.Denot) where
   abbrev map_row : RattleType
   map_row = map.the_row K V (number P) key
 
-  -- where no removal is made ready, the map has the pairs that it had, every node of it is what it was, and room stays
+  -- where no removal is made ready, the map has the pairs that it had, every node of it is what it was, and what room
+  -- there was of each kind stays
   abbrev pub rests_if_unprepared : {E : Type 0} → MutBor (Contents K.Denot V.Denot)
       → Result (PrefixRemoval K.Denot V.Denot P map_row.Denot key) E → Fml
   rests_if_unprepared m r =
       RestsIfErr map_row m (λ e. (removal_map e).ghost_name) r
-      (λ n. (n.pairs ≡ m.now.pairs) × HasSameNodes m.now n × KeepsRoom m.now.nodes n.nodes)
+      (λ n. (n.pairs ≡ m.now.pairs) × HasSameNodes m.now n × KeepsRoomOf m.now.nodes n.nodes)

@@ -8,8 +8,8 @@ ghost use Rattle.art_arena.specs.tree.Order.{AscendsByKey};
 ghost use Rattle.art_map.specs.Laws.{FoundAfterInsertion, FoundAfterPrefixInsertion, FoundAfterPrefixRemoval};
 ghost use Rattle.art_map.specs.Laws.{FoundAfterRemoval, FoundOfEndedKeys, FoundWithinBounds, FoundWithinPrefix};
 ghost use Rattle.art_map.specs.Laws.{FoundAmongRetained, FoundAfterInsertions, FoundAfterWrite};
-ghost use Rattle.art_map.specs.Laws.{LongAfterInsertion, LongAfterPrefixRemoval, LongAfterRemoval, LongAfterWrite};
-ghost use Rattle.art_map.specs.PairLaws.{LongAmongRetained, LongAfterInsertions, LongAfterPrefixInsertion};
+ghost use Rattle.art_map.specs.Laws.{LenAfterInsertion, LenAfterPrefixRemoval, LenAfterRemoval, LenAfterWrite};
+ghost use Rattle.art_map.specs.PairLaws.{LenAmongRetained, LenAfterInsertions, LenAfterPrefixInsertion};
 ghost use Rattle.art_map.specs.PairLaws.{IsInAmongRetained, IsInAfterInsertion, IsInAfterInsertions, IsInAfterWrite};
 ghost use Rattle.art_map.specs.PairLaws.{IsInAfterPrefixInsertion, IsInAfterPrefixRemoval, IsInAfterRemoval};
 ghost use Rattle.art_map.specs.PairLaws.{FirstIsLeast, FoundByKey, FoundByPrefix, LastIsGreatest};
@@ -70,40 +70,40 @@ pub fn found_among_retained<K, V>()
 {}
 
 /// After an insertion a map has one pair more, unless the key was stored.
-pub fn long_after_insertion<K, V>()
-    ensures { LongAfterInsertion K V }
+pub fn len_after_insertion<K, V>()
+    ensures { LenAfterInsertion K V }
 {}
 
 /// After a removal a map has one pair less, if the key was stored.
-pub fn long_after_removal<K, V>()
-    ensures { LongAfterRemoval K V }
+pub fn len_after_removal<K, V>()
+    ensures { LenAfterRemoval K V }
 {}
 
 /// The pairs that begin with a prefix and the others are all pairs.
-pub fn long_after_prefix_removal<K, V>()
-    ensures { LongAfterPrefixRemoval K V }
+pub fn len_after_prefix_removal<K, V>()
+    ensures { LenAfterPrefixRemoval K V }
 {}
 
 /// After a value is written a map has as many pairs as before.
-pub fn long_after_write<K, V>()
-    ensures { LongAfterWrite K V }
+pub fn len_after_write<K, V>()
+    ensures { LenAfterWrite K V }
 {}
 
 /// After a prefix insertion a map has one pair more, and those less that the key overlaps.
-pub fn long_after_prefix_insertion<K, V>()
-    ensures { LongAfterPrefixInsertion K V }
+pub fn len_after_prefix_insertion<K, V>()
+    ensures { LenAfterPrefixInsertion K V }
 {}
 
 /// After `extend`, `append` and their like a map has more pairs by the number of different keys that were put in and
 /// were not stored.
-pub fn long_after_insertions<K, V>()
-    ensures { LongAfterInsertions K V }
+pub fn len_after_insertions<K, V>()
+    ensures { LenAfterInsertions K V }
 {}
 
 /// The pairs that pass a test and the others are all pairs. So it is where `retain` keeps those that pass, and where a
 /// walk gives those of a range.
-pub fn long_among_retained<K, V>()
-    ensures { LongAmongRetained K V }
+pub fn len_among_retained<K, V>()
+    ensures { LenAmongRetained K V }
 {}
 
 /// After an insertion the pairs are the new one and those that were there under other bytes.

@@ -30,6 +30,7 @@ mod readers;
 pub mod refused;
 mod removals;
 pub mod room;
+mod splits;
 mod walks;
 pub mod walks_mut;
 

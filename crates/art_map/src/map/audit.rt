@@ -29,13 +29,13 @@ impl<K: AsBytes, V, const PREFIX_LEN: usize> TreeMap<K, V, PREFIX_LEN> {
         let root = self.root;
         match WellFormedChecker::check(self.alloc, &self.arena, root, self.len()) {
             Ok(stats) => Ok(stats),
-            Err(fault) => Err(want_of_memory(fault)),
+            Err(fault) => Err(alloc_error_of(fault)),
         }
     }
 }
 
 // The fault that any tree may have.
-fn want_of_memory(fault: MalformedTreeError) -> AllocError
+fn alloc_error_of(fault: MalformedTreeError) -> AllocError
     requires { fault ≡ MalformedTreeError.Memory }
 {
     match fault {

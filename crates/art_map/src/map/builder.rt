@@ -195,7 +195,7 @@ impl<K: AsBytes + Drop, V: Drop, const PREFIX_LEN: usize> TreeMapBuilder<K, V, P
             Ok(()) => Ok(()),
             Err(refused) => {
                 let (key, value) = handed_back(refused);
-                self.settle();
+                self.build_in_order();
                 self.insert(key, value)
             }
         }
@@ -271,7 +271,7 @@ impl<K: AsBytes + Drop, V: Drop, const PREFIX_LEN: usize> TreeMapBuilder<K, V, P
     }
 
     // Makes the map of the pairs that came in order.
-    fn settle(&mut self)
+    fn build_in_order(&mut self)
         requires fits_in_memory { PREFIX_LEN < 2 ^ 62 }
         requires taken { (pairs : List (K × V)) × HasGatheredInOrder K.bytes K.is_key self.old pairs }
         ensures settled { self.new.in_order ≡ false }

@@ -3,7 +3,8 @@ ghost use Rattle.std.specs.Prelude.{◌≡◌, ◌<◌, ◌^◌, [], IfErr, IfOk
 ghost use Rattle.std.specs.Iterator.{IsFinite};
 ghost use Rattle.std.specs.Map.Iter.{deref_pair};
 ghost use Rattle.art_arena.specs.arena.Shapes.{key_of};
-ghost use Rattle.art_operations.specs.KeyedLists.{HasKey};
+ghost use Rattle.art_bytes.specs.Keys.{bytes_cmp};
+ghost use Rattle.art_operations.specs.KeyedLists.{HasKey, with_key};
 ghost use Rattle.art_map.specs.Asked.{with_pairs_put};
 ghost use Rattle.art_map.specs.Bulk.{ExtendsWith, IsFirstOfList, IsMadeOf};
 ghost use Rattle.art_map.specs.LeafNames.{KeepsAllLeaves};
@@ -11,9 +12,10 @@ ghost use Rattle.art_map.specs.LeafNames.{KeepsAllLeaves};
 use crate::map::TreeMap;
 use crate::map::builder::TreeMapBuilder;
 use crate::map::room::nodes_fit;
-use art_bytes::NoPrefixesBytes;
+use art_bytes::{AsBytes, NoPrefixesBytes};
 use art_operations::InsertRefused;
 use std::alloc::Global;
+use std::cmp::Ordering;
 
 impl<K: NoPrefixesBytes + Drop, V: Drop, const PREFIX_LEN: usize> TreeMap<K, V, PREFIX_LEN> {
     /// Inserts the pairs that an iterator gives, one after another. Each replaces a pair whose key has the same bytes.
@@ -124,7 +126,7 @@ impl<K: NoPrefixesBytes + Drop, V: Drop, const PREFIX_LEN: usize> TreeMap<K, V, 
     }
 
     /// Makes a map of the pairs of a vector, as `from_iter` does. Of pairs whose keys have the same bytes the last
-    /// counts.
+    /// counts. It sorts them by the bytes of their keys first, if there is memory for that, and so looks for no place.
     ///
     /// Fails if there is no memory for a pair, which the error returns. It is the first with its key. All else is
     /// dropped.
@@ -138,6 +140,25 @@ impl<K: NoPrefixesBytes + Drop, V: Drop, const PREFIX_LEN: usize> TreeMap<K, V, 
         ensures ok { IfOk result (λ made. made.pairs ≡ with_pairs_put K.bytes pairs.items []) }
         ensures err { IfErr result (IsFirstOfList K.bytes pairs.items) }
     {
-        TreeMap::from_iter(alloc, pairs)
+        let mut pairs = pairs;
+        sort_by_key_bytes(&mut pairs);
+        let map = TreeMap::from_iter(alloc, pairs)?;
+        // Gives the proof that its keys ascend.
+        let _nodes = map.nodes();
+        Ok(map)
     }
+}
+
+// Sorts pairs by the bytes of their keys, if there is memory for that. Those with the same key keep their order.
+fn sort_by_key_bytes<K: AsBytes, V>(pairs: &mut Vec<(K, V)>)
+    ensures { (p : K × V) → with_key (key_of K.bytes) (K.bytes p.0) pairs.new.items
+        ≡ with_key (key_of K.bytes) (K.bytes p.0) pairs.old.items }
+{
+    let _sorted = pairs.sort_by(by_key_bytes);
+}
+
+fn by_key_bytes<K: AsBytes, V>(one: &(K, V), other: &(K, V)) -> Ordering
+    ensures { result ≡ bytes_cmp (K.bytes one.now.0) (K.bytes other.now.0) }
+{
+    one.0.as_bytes().cmp(other.0.as_bytes())
 }

@@ -1,16 +1,18 @@
 //! Insertions: of a pair whose key overlaps no other, in place of an equal key, or in place of all that overlap.
-ghost use Rattle.std.specs.Prelude.{◌≡◌, ℕ, List, [], length, None, Some, IfOk, IfErr, IsOk, MatchResult, OnErr};
+ghost use Rattle.std.specs.Prelude.{◌≡◌, ◌-◌, ℕ, List, [], length, None, Some, IfOk, IfErr, IsOk, MatchResult, OnErr};
 ghost use Rattle.std.specs.Prelude.{OnOk};
 ghost use Rattle.std.specs.List.{AllByRecursion};
 ghost use Rattle.std.specs.Map.{set_value};
 ghost use Rattle.art_arena.specs.arena.Arena.{HasRoom, KeepsRoomOf, UsesRoom};
 ghost use Rattle.art_arena.specs.arena.Shapes.{key_of};
+ghost use Rattle.art_operations.specs.Frees.{SwapsLeaves};
 ghost use Rattle.art_operations.specs.Insertions.{HandsPairBack, IsForConflict, IsPairRefused};
 ghost use Rattle.art_operations.specs.KeyedLists.{HasKey, IsBlocked, overlapping};
 ghost use Rattle.art_operations.specs.Pairs.{CanPut, IsPlaceFor, TellsConflict, with_pair_put, with_pair_over};
 ghost use Rattle.art_map.specs.Contents.{entry_in, found_pair, found_value, option_value, IsUntouched};
 ghost use Rattle.art_map.specs.Found.{HasPairAt};
 ghost use Rattle.art_map.specs.LeafNames.{KeepsAllLeaves, KeepsLeaves};
+ghost use Rattle.art_map.specs.Room.{UsesLeafRoom};
 
 use crate::map::TreeMap;
 use crate::map::refused::TryInsertError;
@@ -232,6 +234,7 @@ impl<K: AsBytes, V, const PREFIX_LEN: usize> TreeMap<K, V, PREFIX_LEN> {
         ensures room { UsesRoom 2 self.old.nodes self.new.nodes }
         ensures stored_room { HasKey (key_of K.bytes) (K.bytes key) self.old.pairs
             → KeepsRoomOf self.old.nodes self.new.nodes }
+        ensures leaf_room { UsesLeafRoom (length self.new.pairs - length self.old.pairs) self.old.nodes self.new.nodes }
         ensures keys { AllByRecursion (λ p. K.is_key p.0) self.old.pairs }
         ensures key { K.is_key key }
     {
@@ -318,7 +321,8 @@ impl<K: AsBytes, V, const PREFIX_LEN: usize> TreeMap<K, V, PREFIX_LEN> {
     /// begin with them. It returns how many they were.
     ///
     /// Fails only if out of memory, and never if the key is stored or the nodes have room for two more. The error
-    /// returns the pair, and the map is unchanged.
+    /// returns the pair, and the map is unchanged. Where there was room for a leaf, there is room for one less now, and
+    /// for as many more as pairs went.
     ///
     /// ```
     /// let mut map = TreeMap::new(rt.alloc());
@@ -342,6 +346,7 @@ impl<K: AsBytes, V, const PREFIX_LEN: usize> TreeMap<K, V, PREFIX_LEN> {
         ensures room { UsesRoom 2 self.old.nodes self.new.nodes }
         ensures stored_room { HasKey (key_of K.bytes) (K.bytes key) self.old.pairs
             → KeepsRoomOf self.old.nodes self.new.nodes }
+        ensures leaf_room { IfOk result (λ n. SwapsLeaves 1 n self.old.nodes self.new.nodes) }
     {
         let put = self.prefix_put(key, value)?;
         Ok(put.count)
@@ -414,6 +419,7 @@ impl<K: NoPrefixesBytes, V, const PREFIX_LEN: usize> TreeMap<K, V, PREFIX_LEN> {
         ensures room { UsesRoom 2 self.old.nodes self.new.nodes }
         ensures stored_room { HasKey (key_of K.bytes) (K.bytes key) self.old.pairs
             → KeepsRoomOf self.old.nodes self.new.nodes }
+        ensures leaf_room { UsesLeafRoom (length self.new.pairs - length self.old.pairs) self.old.nodes self.new.nodes }
     {
         match self.put(key, value) {
             Ok(old) => Ok(old),

@@ -300,7 +300,7 @@ impl<K: AsBytes, V, const PREFIX_LEN: usize> TreeMap<K, V, PREFIX_LEN> {
             → OpeningReads longest (length prefix.now) (2 * done.pairs) done.visits) }
         ensures err { OnErr result (self.new.pairs ≡ self.old.pairs) }
         ensures kept { OnErr result (HasSameNodes self.old self.new) }
-        ensures kept_room { OnErr result (KeepsRoom self.old.nodes self.new.nodes) }
+        ensures kept_room { OnErr result (KeepsRoomOf self.old.nodes self.new.nodes) }
         ensures shrinks { OnErr result (ShrinksAtCut K.bytes prefix.now self.old.pairs) }
         ensures succeeds { HasRoom self.old.nodes 1 → IsOk result }
         ensures room { UsesRoom 1 self.old.nodes self.new.nodes }

@@ -1,6 +1,6 @@
 //! Memory for nodes that are still to be made.
-ghost use Rattle.std.specs.Prelude.{◌≡◌, ◌↔◌, ◌*◌, ◌<◌, ◌^◌, IsOk, IsTrue, OnOk};
-ghost use Rattle.art_arena.specs.arena.Arena.{HasRoom, IsTrimmed, KeepsRoomOf};
+ghost use Rattle.std.specs.Prelude.{◌≡◌, ◌↔◌, ◌*◌, ◌<◌, ◌^◌, [], IsOk, IsTrue, OnOk};
+ghost use Rattle.art_arena.specs.arena.Arena.{HasNoRoom, HasNoUnusedRoom, HasRoom, IsTrimmed, KeepsRoomOf};
 ghost use Rattle.art_map.specs.Contents.{HasSameNodes, IsUntouched};
 
 use crate::map::TreeMap;
@@ -46,10 +46,10 @@ impl<K: AsBytes, V, const PREFIX_LEN: usize> TreeMap<K, V, PREFIX_LEN> {
     }
 
     /// Allocates the nodes of so many more insertions, whatever their keys are. While there is room for two nodes, no
-    /// insertion of a pair is out of memory, also by an entry or at a place, and each uses room for two at most. Nor is
-    /// `extend` of so many pairs. A removal uses room for one, and doesn't fail where there is so much. It gives room
-    /// for a leaf back. Room stays where a call is refused, a key was stored already or isn't found, or a value is
-    /// written.
+    /// insertion of a pair is out of memory, also by an entry or at a place, and each uses room for two at most. Nor
+    /// are `extend` and `append` of so many pairs. A removal uses room for one, and doesn't fail where there is so
+    /// much. It gives room for a leaf back. Room stays where a call is refused, a key was stored already or isn't
+    /// found, or a value is written.
     ///
     /// A node of any kind may be needed, so that many of each kind are allocated, some kilobytes for each insertion. It
     /// serves a few insertions that must not fail. Fails only if there is no room for so many, and no memory. Either
@@ -71,8 +71,8 @@ impl<K: AsBytes, V, const PREFIX_LEN: usize> TreeMap<K, V, PREFIX_LEN> {
     }
 
     /// Gives memory back that the nodes don't need: of each kind of node, what lies after the last one. It never
-    /// fails. No node moves, so that each leaf keeps its name: where the last nodes stay, little goes back. `clear`
-    /// before it gives all back.
+    /// fails. No node moves, so that each leaf keeps its name: where the last nodes stay, little goes back. Of a kind
+    /// that has no node all goes back, and so all of an empty map, as after `clear`.
     ///
     /// ```
     /// let mut map = TreeMap::new(rt.alloc());
@@ -89,6 +89,8 @@ impl<K: AsBytes, V, const PREFIX_LEN: usize> TreeMap<K, V, PREFIX_LEN> {
         ensures kept { HasSameNodes self.old self.new }
         ensures no_more { KeepsRoomOf self.new.nodes self.old.nodes }
         ensures trimmed { PREFIX_LEN < 2 ^ 62 → IsTrimmed self.new.nodes }
+        ensures frees { HasNoUnusedRoom self.new.nodes }
+        ensures empty { self.old.pairs ≡ [] → HasNoRoom self.new.nodes }
     {
         self.arena.shrink_to_fit();
     }

@@ -5,6 +5,7 @@ ghost use Rattle.art_arena.specs.arena.Shapes.{key_of};
 ghost use Rattle.art_map.specs.Contents.{IsUntouched};
 ghost use Rattle.art_map.specs.LeafNames.{KeepsLeaves};
 ghost use Rattle.art_map.specs.Walked.{IsWalkOf};
+ghost use Rattle.art_operations.specs.Frees.{SwapsLeaves};
 ghost use Rattle.art_operations.specs.Insertions.{HandsPairBack};
 ghost use Rattle.art_operations.specs.KeyedLists.{HasKey, overlapping};
 ghost use Rattle.art_operations.specs.Overwrites.{removed_by};
@@ -119,6 +120,7 @@ impl<K: AsBytes, V, const PREFIX_LEN: usize> TreeMap<K, V, PREFIX_LEN> {
         ensures room { UsesRoom 2 self.old.nodes self.new.nodes }
         ensures stored_room { HasKey (key_of K.bytes) (K.bytes key) self.old.pairs
             → KeepsRoomOf self.old.nodes self.new.nodes }
+        ensures leaf_room { IfOk result (λ put. SwapsLeaves 1 put.count self.old.nodes self.new.nodes) }
     {
         // By value an option of a name counts as moved, so a copy goes in.
         let root = self.root;

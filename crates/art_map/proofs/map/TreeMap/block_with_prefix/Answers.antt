@@ -1,11 +1,7 @@
-use Rattle.std.proofs.Common.{Result, Ok, Err, subst}
-use Rattle.std.specs.Prelude.{OnErr}
+use Rattle.std.proofs.Common.{subst}
+use Rattle.art_map.proofs.Asks.{on-err}
 use Rattle.art_map.proofs.Terms.{IsFoundPart}
 use Rattle.art_map.proofs.map.TreeMap.block_with_prefix.Goals as goal
-
-on-err : {A E Q : Type 0} (r : Result A E) → Q → OnErr r Q
-on-err (Ok a) q = tt
-on-err (Err e) q = q
 
 pub returns-in_err-ready-in-Some-clause-shrinks : goal.returns-in_err-ready-in-Some-clause-shrinks
 returns-in_err-ready-in-Some-clause-shrinks g c =

@@ -2,6 +2,7 @@ use Rattle.std.proofs.Common.{[], sym, subst, arith, ◌∙◌}
 use Rattle.art_operations.proofs.Common.{KeepsLeavesOf, CanPutOver}
 use Rattle.art_map.proofs.Terms.{pairs_from}
 use Rattle.art_map.proofs.Maps.{over-count, over-map, over-pairs, same-map, same-pairs}
+use Rattle.art_operations.specs.Frees.{SwapsLeaves}
 use Rattle.art_map.proofs.map.TreeMap.prefix_put.Goals as goal
 
 pub insert_over-requires : goal.insert_over-requires
@@ -97,3 +98,7 @@ returns-in-Err-clause-stored_room g c =
     (subst (λ k. CanPutOver g.K.AsBytes.bytes g.row.PREFIX_LEN c.self.inside.arena c.find_place_over-place.result k
     (pairs_from c.self.inside.arena c.self.inside.root) []) c.as_bytes.ensures.value
     (c.find_place_over-place.ensures (pairs_from c.self.inside.arena c.self.inside.root) [] c.self.invariant.has)))
+
+pub returns-in-Ok-clause-leaf_room : goal.returns-in-Ok-clause-leaf_room
+returns-in-Ok-clause-leaf_room g c =
+    rw (← c.self.view_is) (subst (λ n. SwapsLeaves 1 n c.self.inside.arena c.insert_over.new.arena) (sym c.overwritten_by-left.ensures.count) c.in-Ok.ensures.leaf_room)

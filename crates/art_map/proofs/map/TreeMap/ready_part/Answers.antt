@@ -1,7 +1,7 @@
 use Rattle.std.proofs.Common.{arith, ℕ, List, Some, sym, subst}
+use Rattle.std.proofs.lemmas.Result.{on_err_weaker}
 use Rattle.std.specs.Prelude.{IfOk, OnErr}
 use Rattle.art_map.proofs.Terms.{IsFoundPart, IsReadyPart, ShrinksAtCut, contents}
-use Rattle.art_map.proofs.Entries.{err-on}
 use Rattle.art_map.proofs.Maps.{same-map, same-pairs}
 use Rattle.art_map.proofs.PrefixBlocks.{cut-shrinks, place-there, ready-same}
 use Rattle.art_map.proofs.map.TreeMap.ready_part.Goals as goal
@@ -27,7 +27,7 @@ returns-clause-pairs g c = rw (← c.self.view_is) (same-pairs g.K.AsBytes.bytes
 pub returns-clause-shrinks : goal.returns-clause-shrinks
 returns-clause-shrinks g c =
     subst (λ m. OnErr c.prepare.result ((front : List ℕ) → IsFoundPart g.K.AsBytes.bytes g.row.PREFIX_LEN m front (Some c.args.part) → ShrinksAtCut g.K.AsBytes.bytes front m.pairs)) c.self.view_is
-    (err-on c.prepare.result (λ shrinks front part. cut-shrinks g.K.AsBytes.bytes g.row.PREFIX_LEN front g.K.AsBytes.is_key c.self.inside.arena c.self.inside.root c.self.invariant c.args.part ∣ part ∣₁ shrinks) c.prepare.ensures.shrinks)
+    (on_err_weaker c.prepare.result (λ shrinks front part. cut-shrinks g.K.AsBytes.bytes g.row.PREFIX_LEN front g.K.AsBytes.is_key c.self.inside.arena c.self.inside.root c.self.invariant c.args.part ∣ part ∣₁ shrinks) c.prepare.ensures.shrinks)
 
 pub returns-clause-kept_room : goal.returns-clause-kept_room
 returns-clause-kept_room g c = rw (← c.self.view_is) c.prepare.ensures.kept_room

@@ -2,6 +2,7 @@ use Rattle.std.proofs.Common.{◌++◌, length, sym, ap, ap₂, ◌∙◌, arith
 use Rattle.std.proofs.lemmas.List.{append-nil}
 use Rattle.art_nodes.specs.declared.kind.NodeType.TheVariants.{Leaf}
 use Rattle.art_operations.proofs.Common.{same-names}
+use Rattle.art_map.proofs.RoomKept.{then-uses}
 use Rattle.art_map.proofs.map.TreeMap.split_by_ends.Goals as goal
 
 pub move_last-requires : goal.move_last-requires
@@ -31,4 +32,8 @@ returns-clause-none_new g c = λ slot key has.
     same-names g.K.AsBytes.bytes c.reserve_removals.new.self.nodes c.args.self.now.nodes (λ n. sym (c.reserve_removals.ensures.kept.0 n)) slot key (c.move_last.ensures.none_new slot key has)
 
 pub returns-clause-leaf_room : goal.returns-clause-leaf_room
-returns-clause-leaf_room g c = λ n room. let more = c.move_last.ensures.leaf_room n (c.reserve_removals.ensures.kept.2 Leaf n room) in omega (arith, more)
+returns-clause-leaf_room g c = λ n room. c.move_last.ensures.leaf_room n (c.reserve_removals.ensures.kept.2 Leaf n room)
+
+pub returns-clause-room : goal.returns-clause-room
+returns-clause-room g c =
+    then-uses c.args.self.now.nodes c.reserve_removals.new.self.nodes c.move_last.new.self.nodes _ c.reserve_removals.ensures.kept.2 c.move_last.ensures.from_room

@@ -42,3 +42,6 @@ returns-clause-none_new g c = rw (← c.self.view_is) c.cut_last-roots.ensures.n
 
 pub returns-clause-leaf_room : goal.returns-clause-leaf_room
 returns-clause-leaf_room g c = rw (← c.self.view_is) c.cut_last-roots.ensures.leaf_room
+
+pub returns-clause-room : goal.returns-clause-room
+returns-clause-room g c = rw (← c.self.view_is) c.cut_last-roots.ensures.room

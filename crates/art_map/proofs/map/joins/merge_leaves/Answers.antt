@@ -1,11 +1,13 @@
 use Rattle.std.proofs.Common.{List, length, sym, ap, subst, arith}
 use Rattle.art_nodes.specs.declared.kind.NodeType.TheVariants.{Leaf}
+use Rattle.art_arena.proofs.Common.{HasRoom}
 use Rattle.art_operations.proofs.Common.{StandsAhead, HasPairs, HoldsInOrder, ahead-of, in-order, inner-kept, inner-kept-of}
 use Rattle.art_operations.proofs.LeafListsMoved.{start_of}
 use Rattle.art_map.proofs.Terms.{with_pairs_put}
 use Rattle.art_map.proofs.CutLeaves.{pairs-long}
 use Rattle.art_map.proofs.LeafNames.{then-names}
 use Rattle.art_map.proofs.Merged.{put-long, same-leaf-names}
+use Rattle.art_map.proofs.RoomUsed.{still-room}
 use Rattle.art_map.proofs.map.joins.merge_leaves.Goals as goal
 use Rattle.art_map.proofs.map.joins.merge_leaves.Goals.{After-at_start-cursor}
 
@@ -56,3 +58,24 @@ pub returns-clause-names : goal.returns-clause-names
 returns-clause-names g c =
     then-names g.K.AsBytes.bytes c.rebuild.new.arena c.put_along.new.arena c.args.arena.now (same-leaf-names g.K.AsBytes.bytes c.put_along.new.arena c.rebuild.new.arena c.rebuild.ensures.leaves)
     (then-names g.K.AsBytes.bytes c.put_along.new.arena c.keep_leaves-first.new.arena c.args.arena.now c.put_along.ensures.names (same-leaf-names g.K.AsBytes.bytes c.args.arena.now c.keep_leaves-first.new.arena c.keep_leaves-first.ensures.leaves))
+
+pub returns-clause-leaf_room : goal.returns-clause-leaf_room
+returns-clause-leaf_room g c = λ had has keys n room.
+    let d = (goal.at.returns-clause-leaf_room g c).After-at_start-cursor in
+    c.rebuild.ensures.leaf_room n (c.put_along.ensures.leaf_room had (ahead g d had has) keys n (c.keep_leaves-first.ensures.room Leaf _ room))
+
+pub returns-clause-room : goal.returns-clause-room
+returns-clause-room g c = λ had has keys most n room.
+    let bytes = g.K.AsBytes.bytes in
+    let d = (goal.at.returns-clause-room g c).After-at_start-cursor in
+    let all = with_pairs_put bytes c.args.pairs had in
+    let put = c.put_along.ensures.put had (ahead g d had has) keys in
+    let then = in-order bytes c.put_along.new.arena c.put_along.new.cursor all put.0 in
+    let order = subst (λ f. HoldsInOrder bytes c.put_along.new.arena f then.0) (sym c.first.ensures) then.1 in
+    let long = pairs-long then.0 in
+    let same = ap length then.2 in
+    let few = put-long bytes c.args.pairs had in
+    c.rebuild.ensures.room then.0 order (omega (arith, long, same, few, most)) n
+    (subst (HasRoom c.put_along.new.arena) (omega (arith, long, same))
+    (still-room (length had) (length c.args.pairs) (length all) c.args.arena.now c.keep_leaves-first.new.arena c.put_along.new.arena few c.keep_leaves-first.ensures.room c.put_along.ensures.kept_room
+    (c.put_along.ensures.leaf_room had (ahead g d had has) keys) n room))

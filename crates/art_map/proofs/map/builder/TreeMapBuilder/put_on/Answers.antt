@@ -1,10 +1,10 @@
 use Rattle.std.proofs.Common.{refl, arith}
+use Rattle.std.proofs.lemmas.Result.{on_err_weaker}
 use Rattle.std.specs.List.{AllByRecursion}
 use Rattle.std.specs.Prelude.{IsOk}
 use Rattle.art_arena.proofs.Common.{key_of}
 use Rattle.art_operations.proofs.Common.{HasKey, IsBlocked, IsForConflict, IsPairRefused, with_pair_put}
 use Rattle.art_map.proofs.Terms.{HasGathered, KeepsRoomLeft}
-use Rattle.art_map.proofs.Entries.{err-on}
 use Rattle.art_map.proofs.Built.{err-of-these, err-where, free-after, handed-back, in-order, is-settled, names-of, new-after, nodes-in-order, nodes-settled, of-these, ok-of-these, settled, taken-after}
 use Rattle.art_map.proofs.LeafNames.{then-names}
 use Rattle.art_map.proofs.RoomLeft.{kept-inserted, kept-settled, left-after, left-inserted, left-of-map, left-of-tree, left-settled}
@@ -59,12 +59,12 @@ returns-in-Err-clause-ok g c =
     let value = c.args.value in
     let gone = c.handed_back-key.result in
     let new = c.insert-in-Err.new.self in
-    ok-of-these g.K.AsBytes.bytes g.K.AsBytes.is_key old c.settle.new.self.map.pairs gone.0 key gone.1 value (λ pairs has.
+    ok-of-these g.K.AsBytes.bytes g.K.AsBytes.is_key old c.build_in_order.new.self.map.pairs gone.0 key gone.1 value (λ pairs has.
     let taken = in-order g.K.AsBytes.bytes g.K.AsBytes.is_key old pairs c.if-not-self.false has in
     let back = handed-back _ key value c.in-Err.refused gone c.handed_back-key.ensures (c.in-Err.ensures.refused pairs taken.0) in
-    (c.settle.ensures.pairs pairs (c.in-Err.ensures.left pairs taken.0, taken.1, taken.2), back.0, back.1))
+    (c.build_in_order.ensures.pairs pairs (c.in-Err.ensures.left pairs taken.0, taken.1, taken.2), back.0, back.1))
     (λ k v ps. HasGathered g.K.AsBytes.bytes g.K.AsBytes.is_key new (with_pair_put g.K.AsBytes.bytes k v ps)) c.insert-in-Err.result
-    (is-settled g.K.AsBytes.bytes g.K.AsBytes.is_key new (with_pair_put g.K.AsBytes.bytes gone.0 gone.1 c.settle.new.self.map.pairs) c.insert-in-Err.result c.insert-in-Err.ensures.settled c.insert-in-Err.ensures.pairs)
+    (is-settled g.K.AsBytes.bytes g.K.AsBytes.is_key new (with_pair_put g.K.AsBytes.bytes gone.0 gone.1 c.build_in_order.new.self.map.pairs) c.insert-in-Err.result c.insert-in-Err.ensures.settled c.insert-in-Err.ensures.pairs)
 
 pub returns-in-Err-clause-free : goal.returns-in-Err-clause-free
 returns-in-Err-clause-free g c =
@@ -72,10 +72,10 @@ returns-in-Err-clause-free g c =
     let key = c.args.key in
     let value = c.args.value in
     let gone = c.handed_back-key.result in
-    ok-of-these g.K.AsBytes.bytes g.K.AsBytes.is_key old c.settle.new.self.map.pairs gone.0 key gone.1 value (λ pairs has.
+    ok-of-these g.K.AsBytes.bytes g.K.AsBytes.is_key old c.build_in_order.new.self.map.pairs gone.0 key gone.1 value (λ pairs has.
     let taken = in-order g.K.AsBytes.bytes g.K.AsBytes.is_key old pairs c.if-not-self.false has in
     let back = handed-back _ key value c.in-Err.refused gone c.handed_back-key.ensures (c.in-Err.ensures.refused pairs taken.0) in
-    (c.settle.ensures.pairs pairs (c.in-Err.ensures.left pairs taken.0, taken.1, taken.2), back.0, back.1))
+    (c.build_in_order.ensures.pairs pairs (c.in-Err.ensures.left pairs taken.0, taken.1, taken.2), back.0, back.1))
     (λ k v ps. IsBlocked (key_of g.K.AsBytes.bytes) (g.K.AsBytes.bytes k) ps → ⊥) c.insert-in-Err.result c.insert-in-Err.ensures.free
 
 pub returns-in-Err-clause-refused : goal.returns-in-Err-clause-refused
@@ -84,10 +84,10 @@ returns-in-Err-clause-refused g c =
     let key = c.args.key in
     let value = c.args.value in
     let gone = c.handed_back-key.result in
-    err-of-these g.K.AsBytes.bytes g.K.AsBytes.is_key old c.settle.new.self.map.pairs gone.0 key gone.1 value (λ pairs has.
+    err-of-these g.K.AsBytes.bytes g.K.AsBytes.is_key old c.build_in_order.new.self.map.pairs gone.0 key gone.1 value (λ pairs has.
     let taken = in-order g.K.AsBytes.bytes g.K.AsBytes.is_key old pairs c.if-not-self.false has in
     let back = handed-back _ key value c.in-Err.refused gone c.handed_back-key.ensures (c.in-Err.ensures.refused pairs taken.0) in
-    (c.settle.ensures.pairs pairs (c.in-Err.ensures.left pairs taken.0, taken.1, taken.2), back.0, back.1))
+    (c.build_in_order.ensures.pairs pairs (c.in-Err.ensures.left pairs taken.0, taken.1, taken.2), back.0, back.1))
     (λ e k v ps. IsPairRefused k v (IsBlocked (key_of g.K.AsBytes.bytes) (g.K.AsBytes.bytes k) ps) e) c.insert-in-Err.result c.insert-in-Err.ensures.refused
 
 pub returns-in-Err-clause-stored : goal.returns-in-Err-clause-stored
@@ -96,10 +96,10 @@ returns-in-Err-clause-stored g c =
     let key = c.args.key in
     let value = c.args.value in
     let gone = c.handed_back-key.result in
-    of-these g.K.AsBytes.bytes g.K.AsBytes.is_key old c.settle.new.self.map.pairs gone.0 key gone.1 value (λ pairs has.
+    of-these g.K.AsBytes.bytes g.K.AsBytes.is_key old c.build_in_order.new.self.map.pairs gone.0 key gone.1 value (λ pairs has.
     let taken = in-order g.K.AsBytes.bytes g.K.AsBytes.is_key old pairs c.if-not-self.false has in
     let back = handed-back _ key value c.in-Err.refused gone c.handed_back-key.ensures (c.in-Err.ensures.refused pairs taken.0) in
-    (c.settle.ensures.pairs pairs (c.in-Err.ensures.left pairs taken.0, taken.1, taken.2), back.0, back.1))
+    (c.build_in_order.ensures.pairs pairs (c.in-Err.ensures.left pairs taken.0, taken.1, taken.2), back.0, back.1))
     (λ k v ps. HasKey (key_of g.K.AsBytes.bytes) (g.K.AsBytes.bytes k) ps → IsOk c.insert-in-Err.result) c.insert-in-Err.ensures.stored
 
 pub returns-in-Err-clause-keys : goal.returns-in-Err-clause-keys
@@ -133,7 +133,7 @@ returns-in-Err-clause-names g c =
     let old = c.args.self.now in
     let new = c.insert-in-Err.new.self in
     names-of g.K.AsBytes.bytes old new old.arena new.map.nodes (nodes-in-order g.K.AsBytes.bytes old c.if-not-self.false) (nodes-settled g.K.AsBytes.bytes new c.insert-in-Err.ensures.settled)
-    (then-names g.K.AsBytes.bytes new.map.nodes c.settle.new.self.map.nodes old.arena c.insert-in-Err.ensures.names (then-names g.K.AsBytes.bytes c.settle.new.self.map.nodes c.push.new.arena old.arena c.settle.ensures.names c.push.ensures.names))
+    (then-names g.K.AsBytes.bytes new.map.nodes c.build_in_order.new.self.map.nodes old.arena c.insert-in-Err.ensures.names (then-names g.K.AsBytes.bytes c.build_in_order.new.self.map.nodes c.push.new.arena old.arena c.build_in_order.ensures.names c.push.ensures.names))
 
 pub returns-then-not-self-clause-succeeds : goal.returns-then-not-self-clause-succeeds
 returns-then-not-self-clause-succeeds g c = err-where IsForConflict c.insert.result (left-of-map c.args.self.now 2 c.if-not-self.true) c.insert.ensures.succeeds
@@ -148,14 +148,14 @@ returns-in-Ok-clause-room g c = λ n.
 
 pub returns-in-Err-clause-succeeds : goal.returns-in-Err-clause-succeeds
 returns-in-Err-clause-succeeds g c =
-    err-where IsForConflict c.insert-in-Err.result (λ left. c.settle.ensures.room 2 (c.in-Err.ensures.kept_room 2 (omega arith) (left-of-tree c.args.self.now 2 c.if-not-self.false left))) c.insert-in-Err.ensures.succeeds
+    err-where IsForConflict c.insert-in-Err.result (λ left. c.build_in_order.ensures.room 2 (c.in-Err.ensures.kept_room 2 (omega arith) (left-of-tree c.args.self.now 2 c.if-not-self.false left))) c.insert-in-Err.ensures.succeeds
 
 pub returns-in-Err-clause-room : goal.returns-in-Err-clause-room
 returns-in-Err-clause-room g c = λ n.
-    left-settled c.args.self.now c.insert-in-Err.new.self n c.settle.new.self.map.nodes c.if-not-self.false c.insert-in-Err.ensures.settled (λ m some room. c.settle.ensures.room m (c.in-Err.ensures.kept_room m some room)) c.insert-in-Err.ensures.room
+    left-settled c.args.self.now c.insert-in-Err.new.self n c.build_in_order.new.self.map.nodes c.if-not-self.false c.insert-in-Err.ensures.settled (λ m some room. c.build_in_order.ensures.room m (c.in-Err.ensures.kept_room m some room)) c.insert-in-Err.ensures.room
 
 pub returns-then-not-self-clause-kept_room : goal.returns-then-not-self-clause-kept_room
-returns-then-not-self-clause-kept_room g c = err-on c.insert.result (kept-inserted c.args.self.now c.insert.new.self c.if-not-self.true c.insert.ensures.settled) c.insert.ensures.kept_room
+returns-then-not-self-clause-kept_room g c = on_err_weaker c.insert.result (kept-inserted c.args.self.now c.insert.new.self c.if-not-self.true c.insert.ensures.settled) c.insert.ensures.kept_room
 
 pub returns-then-not-self-clause-stored_room : goal.returns-then-not-self-clause-stored_room
 returns-then-not-self-clause-stored_room g c =
@@ -171,8 +171,8 @@ returns-in-Ok-clause-stored_room g c = λ pairs has stored.
 
 pub returns-in-Err-clause-kept_room : goal.returns-in-Err-clause-kept_room
 returns-in-Err-clause-kept_room g c =
-    err-on c.insert-in-Err.result
-    (kept-settled c.args.self.now c.insert-in-Err.new.self c.settle.new.self.map.nodes c.if-not-self.false c.insert-in-Err.ensures.settled (λ m some room. c.settle.ensures.room m (c.in-Err.ensures.kept_room m some room))) c.insert-in-Err.ensures.kept_room
+    on_err_weaker c.insert-in-Err.result
+    (kept-settled c.args.self.now c.insert-in-Err.new.self c.build_in_order.new.self.map.nodes c.if-not-self.false c.insert-in-Err.ensures.settled (λ m some room. c.build_in_order.ensures.room m (c.in-Err.ensures.kept_room m some room))) c.insert-in-Err.ensures.kept_room
 
 pub returns-in-Err-clause-stored_room : goal.returns-in-Err-clause-stored_room
 returns-in-Err-clause-stored_room g c =
@@ -181,9 +181,9 @@ returns-in-Err-clause-stored_room g c =
     let value = c.args.value in
     let gone = c.handed_back-key.result in
     let new = c.insert-in-Err.new.self in
-    of-these g.K.AsBytes.bytes g.K.AsBytes.is_key old c.settle.new.self.map.pairs gone.0 key gone.1 value (λ pairs has.
+    of-these g.K.AsBytes.bytes g.K.AsBytes.is_key old c.build_in_order.new.self.map.pairs gone.0 key gone.1 value (λ pairs has.
     let taken = in-order g.K.AsBytes.bytes g.K.AsBytes.is_key old pairs c.if-not-self.false has in
     let back = handed-back _ key value c.in-Err.refused gone c.handed_back-key.ensures (c.in-Err.ensures.refused pairs taken.0) in
-    (c.settle.ensures.pairs pairs (c.in-Err.ensures.left pairs taken.0, taken.1, taken.2), back.0, back.1))
+    (c.build_in_order.ensures.pairs pairs (c.in-Err.ensures.left pairs taken.0, taken.1, taken.2), back.0, back.1))
     (λ k v ps. HasKey (key_of g.K.AsBytes.bytes) (g.K.AsBytes.bytes k) ps → KeepsRoomLeft old new)
-    (λ has. kept-settled old new c.settle.new.self.map.nodes c.if-not-self.false c.insert-in-Err.ensures.settled (λ m some room. c.settle.ensures.room m (c.in-Err.ensures.kept_room m some room)) (c.insert-in-Err.ensures.stored_room has))
+    (λ has. kept-settled old new c.build_in_order.new.self.map.nodes c.if-not-self.false c.insert-in-Err.ensures.settled (λ m some room. c.build_in_order.ensures.room m (c.in-Err.ensures.kept_room m some room)) (c.insert-in-Err.ensures.stored_room has))

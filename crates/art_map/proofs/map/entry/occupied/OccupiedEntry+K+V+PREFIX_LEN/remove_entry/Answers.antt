@@ -1,7 +1,8 @@
 use Rattle.std.proofs.Common.{sym, ap, ◌∙◌}
+use Rattle.std.proofs.lemmas.Result.{on_err_weaker}
 use Rattle.art_arena.proofs.Common.{key_of}
 use Rattle.art_operations.proofs.Common.{without_key}
-use Rattle.art_map.proofs.Entries.{key-is, value-is, has-pair, ok-more, ok-on, err-on}
+use Rattle.art_map.proofs.Entries.{key-is, value-is, has-pair, ok-more, ok-on}
 use Rattle.art_map.proofs.map.entry.occupied.OccupiedEntry+K+V+PREFIX_LEN.remove_entry.Goals as goal
 
 pub returns-clause-pair : goal.returns-clause-pair
@@ -14,4 +15,4 @@ returns-clause-pairs g c =
     c.take_at.ensures.value c.take_at.ensures.pairs
 
 pub returns-clause-shrinks : goal.returns-clause-shrinks
-returns-clause-shrinks g c = err-on c.take_at.result (λ shrinks. shrinks _ (has-pair c.args.self)) c.take_at.ensures.shrinks
+returns-clause-shrinks g c = on_err_weaker c.take_at.result (λ shrinks. shrinks _ (has-pair c.args.self)) c.take_at.ensures.shrinks

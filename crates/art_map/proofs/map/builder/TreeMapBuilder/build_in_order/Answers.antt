@@ -1,6 +1,6 @@
 use Rattle.std.proofs.Common.{sym, subst}
 use Rattle.art_operations.proofs.Common.{Builds, HasLeavesOf, HasRoomBeside}
-use Rattle.art_map.proofs.map.builder.TreeMapBuilder.settle.Goals as goal
+use Rattle.art_map.proofs.map.builder.TreeMapBuilder.build_in_order.Goals as goal
 
 pub returns-clause-pairs : goal.returns-clause-pairs
 returns-clause-pairs g c = λ pairs taken.

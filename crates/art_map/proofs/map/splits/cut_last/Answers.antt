@@ -1,11 +1,12 @@
-use Rattle.std.proofs.Common.{sym, subst, arith}
+use Rattle.std.proofs.Common.{◌+◌, ◌-◌, length, sym, subst, arith}
 use Rattle.art_nodes.specs.declared.kind.NodeType.TheVariants.{Leaf}
-use Rattle.art_arena.proofs.Common.{pairs_of}
+use Rattle.art_arena.proofs.Common.{HasRoom, pairs_of}
 use Rattle.art_operations.proofs.Common.{HasInnerRoom, HoldsInOrder, inner-kept, inner-kept-of}
 use Rattle.art_map.proofs.CutLeaves.{all-before, joined, left-long, left-order, long-before, moved-long, moved-order, pairs-left-long}
 use Rattle.art_map.proofs.LeafNames.{then-names}
 use Rattle.art_map.proofs.Merged.{kept-leaf-names, same-leaf-names-back}
-use Rattle.art_map.proofs.map.joins.cut_last.Goals as goal
+use Rattle.art_map.proofs.RoomKept.{kinds-kept}
+use Rattle.art_map.proofs.map.splits.cut_last.Goals as goal
 
 pub after_leaves-cursor-requires : goal.after_leaves-cursor-requires
 after_leaves-cursor-requires g c = let r = c.requires.tree in (omega arith, (r.0, r.1))
@@ -75,4 +76,17 @@ returns-clause-names g c =
     (same-leaf-names-back g.K.AsBytes.bytes c.move_leaves-first.new.from c.rebuild-left.new.arena c.rebuild-left.ensures.leaves))
 
 pub returns-clause-leaf_room : goal.returns-clause-leaf_room
-returns-clause-leaf_room g c = λ n room. c.rebuild-left.ensures.leaf_room n (c.move_leaves-first.ensures.room_of Leaf n (c.after_leaves-cursor.ensures.room_of Leaf n room))
+returns-clause-leaf_room g c = λ n room. c.rebuild-left.ensures.leaf_room _ (c.move_leaves-first.ensures.leaf_room n (c.after_leaves-cursor.ensures.room_of Leaf n room))
+
+pub returns-clause-room : goal.returns-clause-room
+returns-clause-room g c = λ n room.
+    let r = c.requires.tree in
+    let is = c.after_leaves-cursor.ensures.list r.0 r.1 in
+    let stands = all-before g.K.AsBytes.bytes c.after_leaves-cursor.new.arena c.after_leaves-cursor.result r.0 is.0 is.1 in
+    let has = c.move_leaves-first.ensures.moved is.0.front stands in
+    let order = left-order g.K.AsBytes.bytes c.after_leaves-cursor.new.arena c.after_leaves-cursor.result r.0 is.0 is.1 c.move_leaves-first.new.from c.move_leaves-first.new.cursor c.move_leaves-first.new.to c.move_leaves-first.result c.args.count has in
+    let long = left-long g.K.AsBytes.bytes c.after_leaves-cursor.new.arena c.after_leaves-cursor.result r.0 is.0 is.1 c.move_leaves-first.new.from c.move_leaves-first.new.cursor c.move_leaves-first.new.to c.move_leaves-first.result c.args.count has in
+    let many = r.2 in
+    c.rebuild-left.ensures.room has.left (subst (λ f. HoldsInOrder g.K.AsBytes.bytes c.move_leaves-first.new.from f has.left) (sym c.first.ensures) order) (omega (arith, long, many)) n
+    (subst (HasRoom c.move_leaves-first.new.from) (omega (arith, long, many))
+    (kinds-kept c.after_leaves-cursor.new.arena c.move_leaves-first.new.from c.move_leaves-first.ensures.room_of _ (kinds-kept c.args.arena.now c.after_leaves-cursor.new.arena c.after_leaves-cursor.ensures.room_of _ room)))
