@@ -1,5 +1,5 @@
 -- Many keys that are put in, one after another.
-use Rattle.std.proofs.Common.{◌≡◌, ℕ, suc, ◌+◌, ◌*◌, ◌≤◌, length, List, [], ◌∷◌, ◌++◌, map, Option, Some, Ok, Err, Result, IfErr, IfOk, MatchResult, refl, sym, ap, ap₂, subst, ◌∙◌, map-id}
+use Rattle.std.proofs.Common.{◌≡◌, ℕ, suc, ◌+◌, ◌*◌, length, List, [], ◌∷◌, ◌++◌, map, Option, Some, Ok, Err, Result, IfErr, IfOk, MatchResult, refl, sym, ap, subst, ◌∙◌, map-id}
 use Rattle.std.specs.Iterator.{Drains, Yields, YieldsThen}
 use Rattle.std.specs.Map.{keys_of}
 use Rattle.std.specs.Result.{IsErrAnd}
@@ -9,8 +9,9 @@ use Rattle.std.proofs.IntoIterSteps.{All-taken}
 use Rattle.std.proofs.lemmas.List.{append-nil}
 use Rattle.art_arena.proofs.Common.{AscendsByKey, HasRoom}
 use Rattle.art_arena.specs.arena.Shapes.{key_of as pair_key}
-use Rattle.art_operations.proofs.Common.{HasKey, put_new}
+use Rattle.art_operations.proofs.Common.{HasKey, put_new, with_key}
 use Rattle.art_map.proofs.Common.{HasGathered, Contents, with_pairs_put}
+use Rattle.art_map.proofs.SortedItems.{same-first, same-made}
 use Rattle.art_map.proofs.VecPairs.{taken-front}
 use Rattle.art_map.specs.declared.map.builder.TreeMapBuilder.{TreeMapBuilder}
 use Rattle.art_set.specs.Bulk.{ExtendsWithKeys, GathersKeysWith, HandsNextKeyBack, IsFirstOfKeys, IsMadeOfKeys}
@@ -18,7 +19,7 @@ use Rattle.art_map.specs.Builders.{HasRoomLeft}
 use Rattle.art_set.specs.Members.{Members, members}
 use Rattle.art_set.proofs.Terms.{with_key_put, with_keys_put}
 use Rattle.art_set.specs.declared.set.refused.RefusedKey.{RefusedKey}
-use Rattle.art_set.proofs.MembersAfter.{put-has}
+use Rattle.art_set.proofs.MembersAfter.{all-put, put-has}
 use Rattle.art_set.proofs.KeyViews.{has-pair, keys-put-all}
 
 keys-shown : {K A : Type 0} (key_of : A → K) (xs : List A) → keys_of (map (λ x. (key_of x, tt {0})) xs) ≡ map key_of xs
@@ -120,3 +121,13 @@ module _ {K Z : Type 0} (bytes : K → List ℕ) (it : IntoIter K Z) (given item
     sym has ∙ taken-front it given yielded.0 yielded.1 ∙ ap (λ ks. given ++ ks) (yielded.2.0 ∙ ap (λ k. k ∷ into_iter_items rest) told),
     λ stored. new (put-has bytes (bytes e.key) (map (λ k. k) given) [] (subst (HasKey bytes (bytes e.key)) (sym (map-id given)) stored)),
   )
+
+-- the same where the keys were sorted before, and those with the same bytes have kept their order
+module _ {K : Type 0} (bytes : K → List ℕ) (old new : List K) (kept : (k : K) → with_key bytes (bytes k) new ≡ with_key bytes (bytes k) old) where
+  pub made-sorted : (made : List K) → made ≡ with_keys_put bytes new [] → AscendsByKey bytes made → made ≡ with_keys_put bytes old []
+  made-sorted made put up =
+      let is = put ∙ all-put bytes new [] in
+      is ∙ same-made bytes old new kept (subst (AscendsByKey bytes) is up) ∙ sym (all-put bytes old [])
+
+  pub refused-sorted : (e : RefusedKey K) → IsFirstOfKeys bytes new e → IsFirstOfKeys bytes old e
+  refused-sorted e (front, back, is, none) = same-first bytes old new kept e.key front back is none

@@ -1,6 +1,6 @@
 -- A set's keys, from the pairs of the map that holds them.
 use Rattle.std.proofs.Common.{Result, Ok, Err, ◌≡◌, ◌⊎◌, ℕ, Bool, true, false, not, cond, List, [], ◌∷◌, Option, Some, None, refl, sym, ap, ◌∙◌, subst, inl, inr}
-use Rattle.std.specs.Prelude.{IfNone, IfOk, OnOk, OnSome, filter, find, is_ok, is_some}
+use Rattle.std.specs.Prelude.{IfNone, IfOk, OnOk, OnSome, filter, find, is_some}
 use Rattle.std.specs.Bool.{OnFalse, OnTrue}
 use Rattle.std.specs.List.{AllZip, list_any}
 use Rattle.std.specs.Map.{keys_of, lookup, lookup_entry}

@@ -48,7 +48,7 @@ module _ {K : Type 0} where
 
 module _ {K : Type 0} (bytes : K → List ℕ) where
   -- keys that are put in are items that are
-  all-put : (new keys : List K) → with_keys_put bytes new keys ≡ with_items bytes new keys
+  pub all-put : (new keys : List K) → with_keys_put bytes new keys ≡ with_items bytes new keys
   all-put [] keys = refl
   all-put (k ∷ new) keys = all-put new (with_key_put bytes k keys)
 

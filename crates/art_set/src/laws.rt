@@ -63,33 +63,33 @@ pub fn members_of_symmetric_difference<K>()
 {}
 
 /// After an insertion a set has one key more, unless one with its bytes was a member.
-pub fn long_after_insertion<K>()
+pub fn len_after_insertion<K>()
     ensures { ManyKeysAfterInsertion K }
 {}
 
 /// After a removal a set has one key less, if the key was a member.
-pub fn long_after_removal<K>()
+pub fn len_after_removal<K>()
     ensures { ManyKeysAfterRemoval K }
 {}
 
 /// After `extend`, `append` and their like a set has more keys by the number of different ones that were put in and
 /// were no members.
-pub fn long_after_insertions<K>()
+pub fn len_after_insertions<K>()
     ensures { ManyKeysAfterInsertions K }
 {}
 
 /// The keys that pass a test and the others are all keys.
-pub fn long_among_retained<K>()
+pub fn len_among_retained<K>()
     ensures { ManyKeysAmongRetained K }
 {}
 
 /// A union has the keys of the first set, and as many more as the second has alone.
-pub fn long_of_union<K>()
+pub fn len_of_union<K>()
     ensures { ManyKeysOfUnion K }
 {}
 
 /// A symmetric difference has as many keys as either set has alone.
-pub fn long_of_symmetric_difference<K>()
+pub fn len_of_symmetric_difference<K>()
     ensures { ManyKeysOfSymmetricDifference K }
 {}
 

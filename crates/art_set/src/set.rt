@@ -1,6 +1,6 @@
 //! The set itself: what it keeps, how it is made, and its length.
 ghost use Rattle.std.specs.Prelude.{◌≡◌, ◌==◌, ◌*◌, ◌<◌, ◌^◌, [], length, IsOk, OnOk};
-ghost use Rattle.art_arena.specs.arena.Arena.{HasRoom, IsTrimmed, KeepsRoom, KeepsRoomOf};
+ghost use Rattle.art_arena.specs.arena.Arena.{HasNoRoom, HasNoUnusedRoom, HasRoom, IsTrimmed, KeepsRoom, KeepsRoomOf};
 ghost use Rattle.art_set.specs.LeafNames.{HasSameSetNodes, IsSetUntouched};
 
 mod algebra;
@@ -126,7 +126,8 @@ impl<K: AsBytes, const PREFIX_LEN: usize> TreeSet<K, PREFIX_LEN> {
         self.map.clear();
     }
 
-    /// Gives memory back that the nodes don't need, as `TreeMap::shrink_to_fit` does. It never fails.
+    /// Gives memory back that the nodes don't need, as `TreeMap::shrink_to_fit` does: all of it where the set is empty.
+    /// It never fails.
     ///
     /// ```
     /// let mut set = TreeSet::new(rt.alloc());
@@ -142,14 +143,16 @@ impl<K: AsBytes, const PREFIX_LEN: usize> TreeSet<K, PREFIX_LEN> {
         ensures kept { HasSameSetNodes self.old self.new }
         ensures no_more { KeepsRoomOf self.new.nodes self.old.nodes }
         ensures trimmed { PREFIX_LEN < 2 ^ 62 → IsTrimmed self.new.nodes }
+        ensures frees { HasNoUnusedRoom self.new.nodes }
+        ensures empty { self.old.keys ≡ [] → HasNoRoom self.new.nodes }
     {
         self.map.shrink_to_fit();
     }
 
     /// Allocates the nodes of so many more insertions, whatever their keys are, as `TreeMap::reserve` does. While there
     /// is room for two nodes, `insert`, `try_insert` and `replace` are never out of memory, and each uses room for two
-    /// at most. Nor is `extend` of so many keys. A removal uses room for one, and doesn't fail where there is so much.
-    /// Room stays where a call is refused, or a key was a member already or isn't found.
+    /// at most. Nor are `extend` and `append` of so many keys. A removal uses room for one, and doesn't fail where
+    /// there is so much. Room stays where a call is refused, or a key was a member already or isn't found.
     ///
     /// Fails only if there is no room for so many, and no memory. Either way the set is unchanged.
     ///

@@ -2,7 +2,8 @@
 ghost use Rattle.std.specs.Prelude.{◌≡◌, ◌<◌, ◌^◌, [], IfErr, IfOk};
 ghost use Rattle.std.specs.Iterator.{IsFinite};
 ghost use Rattle.std.specs.Map.Iter.{deref};
-ghost use Rattle.art_operations.specs.KeyedLists.{HasKey};
+ghost use Rattle.art_bytes.specs.Keys.{bytes_cmp};
+ghost use Rattle.art_operations.specs.KeyedLists.{HasKey, with_key};
 ghost use Rattle.art_set.specs.LeafNames.{KeepsAllNames};
 ghost use Rattle.art_set.specs.Bulk.{ExtendsWithKeys, IsFirstOfKeys, IsMadeOfKeys};
 ghost use Rattle.art_set.specs.Members.{with_keys_put};
@@ -10,9 +11,10 @@ ghost use Rattle.art_set.specs.Members.{with_keys_put};
 use crate::set::TreeSet;
 use crate::set::builder::{put_all, put_copies};
 use crate::set::refused::RefusedKey;
-use art_bytes::NoPrefixesBytes;
+use art_bytes::{AsBytes, NoPrefixesBytes};
 use art_map::{TreeMapBuilder, nodes_fit};
 use std::alloc::Global;
+use std::cmp::Ordering;
 
 impl<K: NoPrefixesBytes + Drop, const PREFIX_LEN: usize> TreeSet<K, PREFIX_LEN> {
     /// Inserts the keys that an iterator gives, one after another. Each replaces a key with the same bytes. The
@@ -116,7 +118,8 @@ impl<K: NoPrefixesBytes + Drop, const PREFIX_LEN: usize> TreeSet<K, PREFIX_LEN> 
         Ok(TreeSet { alloc, map })
     }
 
-    /// Makes a set of the keys of a vector, as `from_iter` does. Of keys with the same bytes the last counts.
+    /// Makes a set of the keys of a vector, as `from_iter` does. Of keys with the same bytes the last counts. It sorts
+    /// them by their bytes first, if there is memory for that, and so looks for no place.
     ///
     /// Fails if there is no memory for a key, which the error returns. It is the first with its bytes. All else is
     /// dropped.
@@ -130,6 +133,24 @@ impl<K: NoPrefixesBytes + Drop, const PREFIX_LEN: usize> TreeSet<K, PREFIX_LEN> 
         ensures ok { IfOk result (λ made. made.keys ≡ with_keys_put K.bytes keys.items []) }
         ensures err { IfErr result (IsFirstOfKeys K.bytes keys.items) }
     {
-        TreeSet::from_iter(alloc, keys)
+        let mut keys = keys;
+        sort_by_bytes(&mut keys);
+        let set = TreeSet::from_iter(alloc, keys)?;
+        // Gives the proof that its keys ascend.
+        let _nodes = set.nodes();
+        Ok(set)
     }
+}
+
+// Sorts keys by their bytes, if there is memory for that. Those with the same bytes keep their order.
+fn sort_by_bytes<K: AsBytes>(keys: &mut Vec<K>)
+    ensures { (k : K) → with_key K.bytes (K.bytes k) keys.new.items ≡ with_key K.bytes (K.bytes k) keys.old.items }
+{
+    let _sorted = keys.sort_by(by_bytes);
+}
+
+fn by_bytes<K: AsBytes>(one: &K, other: &K) -> Ordering
+    ensures { result ≡ bytes_cmp (K.bytes one.now) (K.bytes other.now) }
+{
+    one.as_bytes().cmp(other.as_bytes())
 }

@@ -1,8 +1,10 @@
 //! `append`, `split_off` and `clone`: all keys of a set move into another, or those from a key on; and a set of clones.
-ghost use Rattle.std.specs.Prelude.{◌≡◌, ◌≢◌, ◌⊎◌, [], IfOk, IsOk, OnErr, OnOk};
+ghost use Rattle.std.specs.Prelude.{◌≡◌, ◌≢◌, ◌⊎◌, ◌-◌, ◌*◌, ◌<◌, ◌^◌, [], length, IfOk, IsOk, OnErr, OnOk};
 ghost use Rattle.std.specs.List.{AllZip};
 ghost use Rattle.std.specs.declared.ops.Bound.TheVariants.{Included, Excluded, Unbounded};
-ghost use Rattle.art_operations.specs.Rebuilds.{KeepsLeafRoom};
+ghost use Rattle.art_arena.specs.arena.Arena.{HasRoom, UsesRoom};
+ghost use Rattle.art_operations.specs.Frees.{FreesLeaves};
+ghost use Rattle.art_map.specs.Room.{UsesLeafRoom};
 ghost use Rattle.art_set.specs.LeafNames.{IsSetClone, IsSetUntouched, KeepsAllNames, KeepsNames};
 ghost use Rattle.art_set.specs.Members.{keys_between, with_keys_put};
 
@@ -13,11 +15,13 @@ use std::alloc::AllocError;
 
 impl<K: AsBytes, const PREFIX_LEN: usize> TreeSet<K, PREFIX_LEN> {
     /// Moves the keys whose bytes are not less than the query's into a set of their own, and returns that set. The
-    /// others keep their leaves, and what room there was for leaves stays. If all leave, the nodes go with them, and
-    /// all room.
+    /// others keep their leaves. If all leave, the nodes go with them, and all room.
     ///
-    /// Fails if there is no memory for the nodes that the moves need. All of it is allocated first, and the set is
-    /// unchanged then.
+    /// A key that leaves gives room for a leaf back. Of each other kind it uses room for four nodes at most.
+    ///
+    /// Fails if there is no memory for the nodes that the moves need, those of the new set among them. All of it is
+    /// allocated first, and the set is unchanged then. If none leave, or all, it allocates nothing, and can't fail
+    /// where nodes fit in memory (`nodes_fit` of `art_map`).
     ///
     /// ```
     /// let mut set = TreeSet::new(rt.alloc());
@@ -36,7 +40,14 @@ impl<K: AsBytes, const PREFIX_LEN: usize> TreeSet<K, PREFIX_LEN> {
         ensures names { OnOk result (KeepsNames K.bytes self.old self.new) }
         ensures err { OnErr result (self.new.keys ≡ self.old.keys) }
         ensures kept { OnErr result (IsSetUntouched self.old self.new) }
-        ensures leaf_room { OnOk result (self.new.keys ≢ [] → KeepsLeafRoom self.old.nodes self.new.nodes) }
+        ensures free { PREFIX_LEN < 2 ^ 62
+            → (keys_between K.bytes (Included (Q.bytes key.now)) Unbounded self.old.keys ≡ [])
+            ⊎ (keys_between K.bytes Unbounded (Excluded (Q.bytes key.now)) self.old.keys ≡ []) → IsOk result }
+        ensures leaf_room { IfOk result (λ off. self.new.keys ≢ []
+            → FreesLeaves (length off.keys) self.old.nodes self.new.nodes) }
+        ensures room { IfOk result (λ off. self.new.keys ≢ []
+            → UsesRoom (4 * length off.keys) self.old.nodes self.new.nodes) }
+        ensures nothing { IfOk result (λ off. off.keys ≡ [] → self.new.keys ≢ [] → self.new ≡ self.old) }
         ensures swapped { IfOk result (λ off. self.new.keys ≡ [] → off ≡ self.old) }
     {
         let alloc = self.alloc;
@@ -78,7 +89,11 @@ impl<K: NoPrefixesBytes + Drop, const PREFIX_LEN: usize> TreeSet<K, PREFIX_LEN> 
     /// then.
     ///
     /// Fails if there is no memory for the nodes that the moves need. All of it is allocated first, and both sets are
-    /// unchanged then. If one of them is empty, it allocates nothing and can't fail.
+    /// unchanged then. With room for two nodes a key of the other, as `reserve` makes it, it never fails. If one of
+    /// them is empty, it allocates nothing and can't fail.
+    ///
+    /// Of the room for leaves, only the keys that come anew use some. Of each other kind, a key of the other set uses
+    /// room for four nodes at most.
     ///
     /// ```
     /// let mut set = TreeSet::new(rt.alloc());
@@ -95,6 +110,11 @@ impl<K: NoPrefixesBytes + Drop, const PREFIX_LEN: usize> TreeSet<K, PREFIX_LEN> 
         ensures err { OnErr result ((self.new.keys ≡ self.old.keys) × (other.new.keys ≡ other.old.keys)) }
         ensures kept { OnErr result (IsSetUntouched self.old self.new × IsSetUntouched other.old other.new) }
         ensures free { (self.old.keys ≡ []) ⊎ (other.old.keys ≡ []) → IsOk result }
+        ensures succeeds { HasRoom self.old.nodes (2 * length other.old.keys) → IsOk result }
+        ensures leaf_room { OnOk result (self.old.keys ≢ []
+            → UsesLeafRoom (length self.new.keys - length self.old.keys) self.old.nodes self.new.nodes) }
+        ensures room { OnOk result (self.old.keys ≢ []
+            → UsesRoom (4 * length other.old.keys) self.old.nodes self.new.nodes) }
         ensures nothing { other.old.keys ≡ [] → (self.new ≡ self.old) × (other.new ≡ other.old) }
         ensures swapped { self.old.keys ≡ [] → other.old.keys ≢ []
             → (self.new ≡ other.old) × (other.new ≡ self.old) }

@@ -2,7 +2,7 @@
 ghost use Rattle.std.specs.Prelude.{◌≡◌, ◌⊎◌, ◌+◌, ◌*◌, ◌≤◌, ℕ, [], length, IfOk, IsOk, OnErr, OnOk};
 ghost use Rattle.std.specs.Range.Bound.{bound_map};
 ghost use Rattle.art_nodes.specs.declared.kind.NodeType.TheVariants.{Leaf};
-ghost use Rattle.art_arena.specs.arena.Arena.{HasRoom, HasRoomOf, KeepsRoom, UsesRoom};
+ghost use Rattle.art_arena.specs.arena.Arena.{HasRoom, HasRoomOf, KeepsRoomOf, UsesRoom};
 ghost use Rattle.art_arena.specs.tree.Order.{AscendsByKey};
 ghost use Rattle.art_arena.specs.tree.Tenants.{with_front, without_front};
 ghost use Rattle.art_operations.specs.Openings.{OpeningReads};
@@ -84,7 +84,7 @@ impl<K: AsBytes, const PREFIX_LEN: usize> TreeSet<K, PREFIX_LEN> {
         ensures names { OnOk result (KeepsNames K.bytes self.old self.new) }
         ensures err { OnErr result (self.new.keys ≡ self.old.keys) }
         ensures kept { OnErr result (HasSameSetNodes self.old self.new) }
-        ensures kept_room { OnErr result (KeepsRoom self.old.nodes self.new.nodes) }
+        ensures kept_room { OnErr result (KeepsRoomOf self.old.nodes self.new.nodes) }
         ensures shrinks { OnErr result (ShrinksAtCut K.bytes prefix.now (pairs_of_keys self.old.keys)) }
         ensures succeeds { HasRoom self.old.nodes 1 → IsOk result }
         ensures room { UsesRoom 1 self.old.nodes self.new.nodes }

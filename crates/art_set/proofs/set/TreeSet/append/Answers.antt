@@ -1,5 +1,9 @@
-use Rattle.std.proofs.Common.{ap, ◌∙◌}
+use Rattle.std.proofs.Common.{ap, ap₂, ◌∙◌, ◌-◌, ◌*◌, sym, subst}
+use Rattle.std.proofs.lemmas.List.{length-map}
 use Rattle.std.specs.Map.{keys_of}
+use Rattle.art_arena.proofs.Common.{HasRoom}
+use Rattle.art_arena.specs.arena.Arena.{UsesRoom}
+use Rattle.art_map.specs.Room.{UsesLeafRoom}
 use Rattle.art_set.proofs.KeyViews.{keys-put-all, no-pair, no-pair-either, on-ok}
 use Rattle.art_set.specs.Members.{members}
 use Rattle.art_set.proofs.set.TreeSet.append.Goals as goal
@@ -18,3 +22,17 @@ returns-clause-nothing g c = rw (← c.self.view_is, ← c.other.view_is)
 pub returns-clause-swapped : goal.returns-clause-swapped
 returns-clause-swapped g c = rw (← c.self.view_is, ← c.other.view_is)
     (λ none some. let swapped = c.append.ensures.swapped (no-pair c.self.inside.map.pairs none) (λ e. some (ap keys_of e)) in (ap members swapped.0, ap members swapped.1))
+
+pub returns-clause-succeeds : goal.returns-clause-succeeds
+returns-clause-succeeds g c = rw (← c.self.view_is, ← c.other.view_is)
+    (λ room. c.append.ensures.succeeds (subst (λ n. HasRoom c.self.inside.map.nodes (2 * n)) (length-map c.other.inside.map.pairs (λ p. p.0)) room))
+
+pub returns-clause-leaf_room : goal.returns-clause-leaf_room
+returns-clause-leaf_room g c = rw (← c.self.view_is)
+    (on-ok c.append.result (λ uses some. subst (λ n. UsesLeafRoom n c.self.inside.map.nodes c.append.new.self.nodes)
+    (ap₂ (λ a b. a - b) (sym (length-map c.append.new.self.pairs (λ p. p.0))) (sym (length-map c.self.inside.map.pairs (λ p. p.0)))) (uses (λ e. some (ap keys_of e)))) c.append.ensures.leaf_room)
+
+pub returns-clause-room : goal.returns-clause-room
+returns-clause-room g c = rw (← c.self.view_is, ← c.other.view_is)
+    (on-ok c.append.result (λ uses some. subst (λ n. UsesRoom (4 * n) c.self.inside.map.nodes c.append.new.self.nodes)
+    (sym (length-map c.other.inside.map.pairs (λ p. p.0))) (uses (λ e. some (ap keys_of e)))) c.append.ensures.room)
