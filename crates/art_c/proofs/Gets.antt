@@ -1,14 +1,13 @@
 -- Keys that were looked up so far.
-use Rattle.std.proofs.Common.{◌≡◌, ℕ, ◌+◌, ◌<◌, ◌≤◌, suc, List, [], ◌∷◌, ◌++◌, length, map, take, drop, get_or, refl, sym, ap, ap₂, subst, ◌∙◌, append_assoc, arith, inl, inr}
+use Rattle.std.proofs.Common.{◌≡◌, ℕ, ◌+◌, ◌<◌, ◌≤◌, suc, List, [], ◌∷◌, ◌++◌, length, take, drop, get_or, sym, ap, ap₂, subst, ◌∙◌, append_assoc, arith}
 use Rattle.std.proofs.Math.ListN.{set}
 use Rattle.std.proofs.Math.Seq.{drop-append_seam, drop-cons}
 use Rattle.std.proofs.lemmas.List.{append-nil, length-append, length-drop, length-map, map-append, take-append-drop}
 use Rattle.art_c.specs.Calls.{stored_value}
 use Rattle.art_c.specs.Copies.{word_out, written}
-use Rattle.art_c.specs.Gets.{found_flag, found_flags, GetEnds, IsManyGot, with_words}
+use Rattle.art_c.specs.Gets.{found_flag, found_flags, with_words}
 use Rattle.art_c.specs.Handles.{Pairs}
 use Rattle.art_c.specs.Layouts.{end_to_end, no_text, items_of_pairs, words_pair}
-use Rattle.art_c.specs.declared.code.Code.{Code}
 use Rattle.art_c.specs.declared.value.WordsPair.{WordsPair}
 use Rattle.art_c.proofs.Layouts.{bytes-more, items-more, set-more}
 use Rattle.art_c.proofs.Made.{word_told}
@@ -28,9 +27,6 @@ module _ (keys : List ℕ) (pairs : Pairs ℕ) (items : List WordsPair) (flags :
     pub count_is : count ≡ length asked
     pub fit : length asked ≤ length flags
 
-  pub none-got : Got keys items items flags 0
-  none-got = record { asked = []; keys_are = refl; items_were = refl; items_are = refl; flags_are = refl; count_is = refl; fit = omega arith }
-
   abbrev with-word : List ℕ × ℕ → List ℕ × ℕ
   with-word q = (q.0, word_out (stored_value q.0 pairs) q.1)
 
@@ -49,12 +45,6 @@ module _ (keys : List ℕ) (pairs : Pairs ℕ) (items : List WordsPair) (flags :
         ap₂ (λ n l. drop n l) (sym long-items) c.items_are
         ∙ drop-append_seam (items_of_pairs words_pair (with_words pairs c.asked)) (drop (length (items_of_pairs words_pair (with_words pairs c.asked))) items)
         ∙ ap (λ n. drop n items) long-items
-
-    pub many-flags : length told ≡ length flags
-    many-flags =
-        let put = length-append (found_flags pairs c.asked) (drop (length (found_flags pairs c.asked)) flags) in
-        let cut = length-drop (length (found_flags pairs c.asked)) flags in
-        ap length c.flags_are ∙ omega (arith, put, cut, long-flags, c.count_is, c.fit)
 
     many-items : length now ≡ length items
     many-items =
@@ -108,18 +98,3 @@ module _ (keys : List ℕ) (pairs : Pairs ℕ) (items : List WordsPair) (flags :
           count_is = omega (arith, c.count_is, length-append c.asked (p ∷ []));
           fit = omega (arith, c.count_is, there, length-append c.asked (p ∷ []));
         }
-
-    -- it ends there
-    pub got-ends : (was : ℕ) (code : Code) → GetEnds count rest left (length flags) code
-        → IsManyGot keys pairs ((items, flags), was) code ((now, told), count)
-    got-ends was code ends = (
-      c.asked,
-      rest,
-      left,
-      c.keys_are,
-      c.items_were,
-      c.items_are,
-      c.flags_are,
-      c.count_is,
-      subst (λ n. GetEnds n rest left (length flags) code) c.count_is ends,
-    )

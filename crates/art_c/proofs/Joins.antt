@@ -1,5 +1,5 @@
 -- The pairs of a map that have moved into another so far.
-use Rattle.std.proofs.Common.{◌≡◌, ◌==◌, ℕ, Bool, true, length, List, [], ◌∷◌, ◌++◌, Option, Some, None, refl, sym, ap, subst, ◌∙◌, append_assoc, arith, eqb-true}
+use Rattle.std.proofs.Common.{◌≡◌, ◌==◌, ℕ, Bool, true, length, List, [], ◌∷◌, ◌++◌, Some, None, refl, sym, ap, subst, ◌∙◌, append_assoc, arith, eqb-true}
 use Rattle.std.proofs.lemmas.List.{append-nil}
 use Rattle.art_arena.proofs.Common.{key_of, AscendsByKey}
 use Rattle.art_map.proofs.Common.{first_item, with_pairs_put}
@@ -27,11 +27,6 @@ module _ {V : Type 0} where
     are ∙ ap (λ ps. moved ++ ps) first ∙ sym (append_assoc moved (p ∷ []) rest),
     is ∙ ap (λ ps. with_pairs_put whole (p ∷ []) ps) put ∙ sym (put-more whole moved p old),
   )
-
-  -- it ends there
-  pub move-ended : (all old left now : Pairs V) (code : Code) → MovedSoFar all old left now → MoveEnds left now code
-      → ArePairsMoved all old code left now
-  move-ended all old left now code (moved, are, put) ends = (moved, are, put, ends)
 
   -- an empty map takes all at once
   pub all-moved : (all old : Pairs V) → old ≡ [] → AscendsByKey (key_of whole) all → ArePairsMoved all old Done old all

@@ -1,5 +1,5 @@
 -- The pairs whose keys begin with a prefix, and those of them that were taken out so far.
-use Rattle.std.proofs.Common.{◌≡◌, ℕ, ◌+◌, ◌<◌, ◌⊎◌, Bool, true, false, List, [], ◌∷◌, ◌++◌, length, Option, Some, None, refl, sym, ap, ap₂, subst, ◌∙◌, inl, inr, arith, eqb-true, eq-eqb, ne_eqb, le-ltb}
+use Rattle.std.proofs.Common.{◌≡◌, ℕ, ◌+◌, ◌<◌, Bool, true, false, List, [], ◌∷◌, ◌++◌, length, Some, refl, sym, ap, ap₂, subst, ◌∙◌, inl, inr, arith, eqb-true, eq-eqb, ne_eqb, le-ltb}
 use Rattle.std.specs.List.{AllByRecursion}
 use Rattle.std.specs.Ordering.{is_le}
 use Rattle.std.specs.declared.ops.Bound.TheVariants.{Included, Unbounded}
@@ -16,7 +16,7 @@ use Rattle.art_c.specs.Prefixes.{AreFirstTaken, IsNextWith, without_keys}
 use Rattle.art_c.specs.Spans.{while_so}
 use Rattle.art_c.specs.Walks.{words_code}
 use Rattle.art_c.specs.declared.code.Code.TheVariants.{NoMemory}
-use Rattle.art_c.proofs.Walks.{WordsOut, one-word, same-words}
+use Rattle.art_c.proofs.Walks.{WordsOut, one-word}
 
 -- a key that begins with another is not below it
 not-below : (k l : List ℕ) → begins_with k l ≡ true → is_le (bytes_cmp k l) ≡ true
@@ -89,14 +89,6 @@ module _ (prefix : List ℕ) where
       same : (p q : List ℕ × ℕ) → Some p ≡ Some q → p ≡ q
       same p q e = cc
 
-  pub no-next : (left : Pairs ℕ) → None ≡ first_item left → IsNextWith prefix left false
-  no-next [] e = refl
-  no-next (q ∷ left) e = absurd (cc)
-
-  pub there-is : (left : Pairs ℕ) (b : Bool) → b ≡ true → IsNextWith prefix left b → 0 < length left
-  there-is [] b on e = absurd (cc)
-  there-is (q ∷ left) b on e = omega arith
-
   next-is : (left : Pairs ℕ) (b : Bool) (p : List ℕ × ℕ) (rest : Pairs ℕ) → b ≡ true → IsNextWith prefix left b → left ≡ p ∷ rest
       → while_so has-it left ≡ p ∷ while_so has-it rest
   next-is [] b p rest on e is = absurd (cc)
@@ -108,11 +100,6 @@ module _ (prefix : List ℕ) where
   none-next : (left : Pairs ℕ) (b : Bool) → b ≡ false → IsNextWith prefix left b → while_so has-it left ≡ []
   none-next [] b off e = refl
   none-next (q ∷ left) b off e = let no : has-it q ≡ false = sym e ∙ off in rw no refl
-
-  some-next : (left : Pairs ℕ) (b : Bool) → b ≡ true → IsNextWith prefix left b
-      → (p : List ℕ × ℕ) × (rest : Pairs ℕ) × (while_so has-it left ≡ p ∷ rest)
-  some-next [] b on e = absurd (cc)
-  some-next (q ∷ left) b on e = (q, while_so has-it left, next-is (q ∷ left) b q left on e refl)
 
   -- one more pair is gone
   without-more : (ps : Pairs ℕ) (p : List ℕ × ℕ) (old : Pairs ℕ)
@@ -153,20 +140,6 @@ module _ (prefix : List ℕ) where
         c.out.count_is,
         ap (λ n. words_code n false) c.out.count_is,
       )
-
-      pub places-full : b ≡ true → count ≡ length words → AreFirstTaken prefix first old x (count, words_code count true) now words
-      places-full on full =
-          let next = some-next left b on e in
-          let many = same-words (while_so has-it first) x c.out in (
-            c.out.given,
-            next.0 ∷ next.1,
-            c.out.are ∙ ap (λ ps. c.out.given ++ ps) next.2,
-            c.out.fit,
-            c.gone,
-            c.out.words_are,
-            c.out.count_is,
-            inl (sym c.out.count_is ∙ full ∙ many, ap (λ n. words_code n true) c.out.count_is),
-          )
 
       pub take-refused : (p : List ℕ × ℕ) (rest new : Pairs ℕ) → b ≡ true → left ≡ p ∷ rest → new ≡ now
           → Shrinks (key_of whole) now p.0 → AreFirstTaken prefix first old x (count, NoMemory) new words

@@ -1,5 +1,5 @@
 -- What becomes of a map into which another's pairs move.
-use Rattle.std.specs.Prelude.{◌≡◌, List, [], ◌∷◌, ◌++◌, Option}
+use Rattle.std.specs.Prelude.{◌≡◌, [], ◌∷◌, ◌++◌, Option}
 use Rattle.art_map.specs.Asked.{with_pairs_put}
 use Rattle.art_operations.specs.Pairs.{with_pair_put}
 use Rattle.art_c.specs.Answers.{Changes, OnMade}

@@ -15,7 +15,6 @@ pub mod Putting
 pub mod Standing
 pub mod Filters
 pub mod OwnLaws
-pub mod OwnPaths
 pub mod Conflicts
 pub mod FullTests
 pub mod Dropping

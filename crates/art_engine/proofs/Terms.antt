@@ -7,7 +7,7 @@ pub use Rattle.art_engine.specs.Faults.{AfterWriteFault, IsCutLine}
 pub use Rattle.art_engine.specs.Held.{IsNumberRecordIn, IsRecordIn, IsShortNumber, IsShortNumberPair, IsShortPair, IsShortRecord}
 pub use Rattle.art_engine.specs.Keys.{full_key_of, full_pair, number_key_of, number_of_bytes, number_pair}
 pub use Rattle.art_engine.specs.Laws.{DeletionsGoByOwnKeys, DeletionsGoByOwnNumbers, DropsReadFew, DumpsAreReadBack, DumpsTellRecords, FullKeysKeepConflicts, FullKeysKeepOrder, NumberPutsAreUndone, OthersAreUntouched, OwnIsUnderPrefix, OwnIsInPlace, OwnReadsBack, PutsAreUndone}
-pub use Rattle.art_engine.specs.Laws.{RequestsLeaveOthers, TenantsStandAlone, PathsAreOwn, dump_text, own_at_end, own_after_line, own_changed, own_replies, own_output, request_to, with_reply}
+pub use Rattle.art_engine.specs.Laws.{RequestsLeaveOthers, TenantsStandAlone, dump_text, own_at_end, own_after_line, own_changed, own_replies, own_output, request_to, with_reply}
 pub use Rattle.art_engine.specs.Outcome.{IsLineDone, IsOutcome, answer, answers, left_by, records_after, reply_to}
 pub use Rattle.art_engine.specs.Progress.{Carried, IsLineAnswered, IsCutRun, NoNewline}
 pub use Rattle.art_engine.specs.Records.{AreRecords, InOrder, KeyComesBefore, KeyFits, KeyRecord, NumberComesBefore, NumberFits, NumberRecord, Own, Records, no_records, own, with_own}

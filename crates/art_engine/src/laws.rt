@@ -96,7 +96,6 @@ pub fn drops_read_few()
 
 /// What is read ahead of a tenant's line lies on the path of a full key of this tenant: that of the key, the number,
 /// the prefix or the lower bound that the line has.
-#[tactic(auto, using(crate::proofs::OwnPaths::paths_are_own))]
 pub fn paths_are_own()
     ensures { PathsAreOwn }
 {}
