@@ -66,8 +66,7 @@ def of_set(found):
 
 def of_width():
     for path in files():
-        is_definition = path.endswith(".antt") and "/specs/" in path and "/specs/lemmas" not in path
-        if path.endswith((".md", ".rt")) or is_definition:
+        if path.endswith((".md", ".rt")) or (path.endswith(".antt") and "/specs/" in path):
             # (rt fmt writes a line of #![tactic(..)] whole, however long it is)
             lines = enumerate(pages.read(path).split("\n"), 1)
             wide = [at for at, line in lines if len(line) > WIDTH and not line.startswith("#![tactic(")]

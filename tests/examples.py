@@ -2,7 +2,7 @@
 """Runs the examples of the doc comments, and tells which public call has none.
 
     tests/examples.py [--quick]   at the top of the repository; the last line is 'N passed, M failed'; --quick: without
-                                  the address sanitizer, and without the control that takes a build
+                                  the address sanitizer
     tests/examples.py --list      prints the calls that need an example, each with the number that it has
     tests/examples.py --show      prints the module that is made of the examples
 An example is a fenced block of code in a doc comment. It is the body of a test:
@@ -264,12 +264,11 @@ def module():
     return module_of(with_control(found)[0], exports)[0]
 
 
-def show_failures(told, why_wrong, is_quick):
+def show_failures(told, why_wrong):
     """Shows that this script tells what is wrong: a false assertion, what doesn't compile, a call without an example."""
     told.count("control: a false assertion fails", "" if "left: 2" in why_wrong else f"it did not: {why_wrong}")
-    if not is_quick:
-        why = ran("control", [], {0: Example("control", "control", NOT_RATTLE)}, {})[0]
-        told.count("control: what doesn't compile fails", "" if "nothing" in why else f"it did not: {why}")
+    why = ran("control", [], {0: Example("control", "control", NOT_RATTLE)}, {})[0]
+    told.count("control: what doesn't compile fails", "" if "nothing" in why else f"it did not: {why}")
     with tempfile.TemporaryDirectory() as room:
         cases.write(f"{room}/crates/control/src/lib.rt", NO_EXAMPLE)
         needs = needed("control", read(room, "control")[1], {"control": exported(room, "control")})
@@ -287,16 +286,16 @@ def main():
     if "--show" in given:
         print(module(), end="")
         return
-    told, is_quick = cases.Tally(), "--quick" in given
+    told = cases.Tally()
     for crate, count in counts.items():
         for title in (it for it, number in count.items() if not number):
             told.count(f"an example of {title}", "there is none")
         print(f"   {crate}: {sum(map(bool, count.values()))} of {len(count)} calls that need an example have one")
     every, control = with_control(found)
-    why = ran("examples", list(exports), every, exports, trials.said(module(), is_quick))
+    why = ran("examples", list(exports), every, exports, trials.said(module(), "--quick" in given))
     for number, it in found.items():
         told.count(f"{it.place} {it.item}", why[number])
-    show_failures(told, why[control], is_quick)
+    show_failures(told, why[control])
     told.end()
 
 

@@ -42,8 +42,9 @@ SEVERAL = {"retain", "extract_if", "extraction", "extend", "from_vec", "from_ite
 # succeed. One of them has to: it puts in no more pairs than there is room for.
 BUILDING = {"extend", "extend_from_refs", "from_vec", "from_iter", "and", "or", "xor", "minus"}
 WITH_ROOM = "extend with room"
-# Calls that do without what they are refused: those, one that gives memory back, and one that does so at its end.
-SPARING = BUILDING | {"shrink", "compact"}
+# Calls that do without what they are refused: those, one that gives memory back, one that does so at its end, and one
+# that inserts where there is no memory to merge.
+SPARING = BUILDING | {"shrink", "compact", "append"}
 # Calls that are given a key, and calls that take out one pair.
 REMOVALS = {"remove", "remove_entry", "pop_first", "pop_last", "take", "entry_remove", "entry_remove_entry"}
 # Calls that take out all keys with a prefix, or make ready for it.
@@ -232,7 +233,7 @@ def takes_none(line, model, kind):
     if call == "compact":
         return not one.pairs
     if call == "append":
-        return not (one.pairs and model.other)
+        return len(model.other) <= model.room or not one.pairs
     if call in CUTS:
         other = map_model.Model(True, model.other)
         return not (one.cut_shrinks(word) or call == "remove_from_both" and other.cut_shrinks(word))
