@@ -68,13 +68,14 @@ impl<K, V, const PREFIX_LEN: usize> NodeArena<K, V, PREFIX_LEN> {
     ghost use Rattle.art_arena.specs.arena.Shapes.{Shape, leaves};
     ghost use Rattle.art_arena.specs.arena.Stores.{StoresOnly};
     ghost use Rattle.art_arena.specs.arena.Arena.{HasRoomOf, IsTrimmed, KeepsRoom, KeepsRoomOf, UsesRoom};
-    ghost use Rattle.art_arena.specs.arena.Arena.{leaf_capacity, HasNoUnusedRoom};
+    ghost use Rattle.art_arena.specs.arena.Arena.{leaf_capacity, HasNoRoom, HasNoUnusedRoom};
     ghost use Rattle.art_arena.specs.arena.Rooms.{FreesRoomOf, UsesRoomOf, SameLeaves};
     ghost use Rattle.art_arena.specs.arena.ArenaClones.{IsArenaClone, HasNoSpare};
 
-    /// Makes an arena that holds no node. It allocates nothing.
+    /// Makes an arena that holds no node, and has room for none. It allocates nothing.
     pub fn new(alloc: Global) -> Self
-        ensures { (n : Name) → held_at result n ≡ None }
+        ensures none { (n : Name) → held_at result n ≡ None }
+        ensures no_room { HasNoRoom result }
     {
         NodeArena {
             leaves: Nodes::new(alloc),

@@ -149,8 +149,8 @@ impl LeafCursor {
         self.first
     }
 
-    // Lets the leaf before the cursor go on with this one. If there is none before it, the list begins with this one.
-    fn lead_to<K, V, const PREFIX_LEN: usize>(
+    // Links the leaf before the cursor to this one. If there is none before it, the list begins with this one.
+    fn set_next_of_before<K, V, const PREFIX_LEN: usize>(
         &mut self,
         arena: &mut NodeArena<K, V, PREFIX_LEN>,
         leaf: Option<LeafPtr>,
@@ -170,8 +170,8 @@ impl LeafCursor {
         }
     }
 
-    // Lets the leaf after the cursor lead back to this one.
-    fn lead_back<K, V, const PREFIX_LEN: usize>(
+    // Links the leaf after the cursor back to this one.
+    fn set_previous_of_after<K, V, const PREFIX_LEN: usize>(
         &self,
         arena: &mut NodeArena<K, V, PREFIX_LEN>,
         leaf: Option<LeafPtr>,
@@ -237,8 +237,8 @@ impl LeafCursor {
         ensures kept_room { OnErr result (KeepsRoomOf arena.old arena.new) }
     {
         let leaf = self.store(arena, key, value)?;
-        self.lead_to(arena, Some(leaf));
-        self.lead_back(arena, Some(leaf));
+        self.set_next_of_before(arena, Some(leaf));
+        self.set_previous_of_after(arena, Some(leaf));
         self.before = Some(leaf);
         Ok(())
     }
@@ -260,8 +260,8 @@ impl LeafCursor {
         let previous = node.previous();
         let (before, after) = (previous, self.after);
         self.before = before;
-        self.lead_to(arena, after);
-        self.lead_back(arena, previous);
+        self.set_next_of_before(arena, after);
+        self.set_previous_of_after(arena, previous);
         Some(node.into_entry())
     }
 

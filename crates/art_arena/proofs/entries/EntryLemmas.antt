@@ -62,14 +62,6 @@ module _ {T : Type 0} where
       by_count zero total linked = inl (linked, omega arith)
       by_count (suc n) total linked = inr (linked.0, linked.1)
 
-  -- the next key has no value
-  pub next_is_vacant : (es : List (Entry T)) (len next : ℕ) → IsSound es len next → get_or (map value_of es) next None ≡ None
-  next_is_vacant es len next sound =
-      elim (next_cases es len next sound) [
-        | inl full ↦ get_or_past (map value_of es) next None (omega (arith, length-map es value_of))
-        | inr found ↦ get_or-map value_of es next (Vacant 0) None (slice_get_within es next _ found.1) ∙ ap value_of (get_or_from_slice_get es next _ (Vacant 0) found.1)
-      ]
-
   -- at the end of the entries the list is empty
   pub full_at_end : (es : List (Entry T)) (len next : ℕ) → IsSound es len next → next ≡ length es → len ≡ length es
   full_at_end es len next sound at_end =

@@ -15,11 +15,7 @@ use Rattle.art_arena.proofs.shapes.Places.{InnerThere, inner-there}
 use Rattle.art_arena.proofs.shapes.Prefixes.{first_leaf}
 use Rattle.art_arena.proofs.shapes.Subtrees.{subtree-leaf}
 
--- what holds of an answer may be weaker
-pub err_weaker : {A E : Type 0} (r : Result A E) (B C : E → Type 0) → ((e : E) → B e → C e) → IfErr r B → IfErr r C
-err_weaker (Ok a) B C f h = h
-err_weaker (Err e) B C f h = f e h
-
+-- what holds of a value may be weaker
 pub some_weaker : {X : Type 0} (r : Option X) (B C : X → Type 0) → ((x : X) → B x → C x) → IfSome r B → IfSome r C
 some_weaker None B C f h = tt
 some_weaker (Some x) B C f h = f x h

@@ -31,18 +31,11 @@ module _ {K V : Type 0} (bytes : K → List ℕ) (P : ℕ) (at : Name → Option
     pub holds : Holds at (rest ++ cells P s)
     pub under : IsUnder bytes [] s
 
-  -- it holds the nodes of this shape alone
-  abbrev pub IsNodes : Shape K V → Type 0
-  IsNodes s = IsNodesBeside [] s
-
   module _ (links : ℕ → Option Links) where
     -- and the shape's leaves are linked in order, with open ends
     pub record IsTreeBeside (rest : List (Name × Cell K V)) (s : Shape K V) : Type 0 where
       pub nodes : IsNodesBeside rest s
       pub linked : AreLinked links None (leaves s) None
-
-    abbrev pub IsTree : Shape K V → Type 0
-    IsTree s = IsTreeBeside [] s
 
     -- the name means the tree: it is the root of a canonical shape of that tree, whose leaves are linked in order with
     -- open ends

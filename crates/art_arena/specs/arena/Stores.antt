@@ -4,7 +4,7 @@ use Rattle.std.specs.Prelude.{ℕ, List, []}
 use Rattle.art_nodes.specs.Name.{Name}
 use Rattle.art_arena.specs.arena.Arena.{Arena, node_at, links_at}
 use Rattle.art_arena.specs.arena.Cells.{Cell}
-use Rattle.art_arena.specs.arena.Meaning.{IsSubtree, IsAtDepth, IsTreeBeside, Means, MeansAll}
+use Rattle.art_arena.specs.arena.Meaning.{IsSubtree, IsAtDepth, IsTreeBeside, Means}
 use Rattle.art_arena.specs.arena.Shapes.{Shape}
 use Rattle.art_arena.specs.tree.Trees.{Tree}
 
@@ -33,7 +33,3 @@ module _ {K V : Type 0} (bytes : K → List ℕ) (P : ℕ) (arena : Arena K V) (
   -- the name means this tree
   abbrev pub IsMeant : Tree (K × V) → Type 0
   IsMeant t = Means bytes P (node_at arena) root (links_at arena) t
-
-  -- and the arena holds no node beside it
-  abbrev pub IsAllMeant : Tree (K × V) → Type 0
-  IsAllMeant t = MeansAll bytes P (node_at arena) root (links_at arena) t

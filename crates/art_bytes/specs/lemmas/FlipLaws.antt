@@ -1,19 +1,17 @@
 -- The flipped bit over any width: what it does to a signed number, and the order that it gives. Nothing here is a
 -- definition that a contract cites.
-use Rattle.std.proofs.Common.{◌≡◌, ℕ, suc, ◌+◌, ◌-◌, ◌*◌, ◌^◌, ◌<◌, ℤ, pos, negsuc, refl, sym, ap, ◌∙◌, subst, inl, inr}
+use Rattle.std.proofs.Common.{◌≡◌, ℕ, suc, ◌+◌, ◌-◌, ◌*◌, ◌^◌, ◌<◌, ℤ, pos, negsuc, refl, sym, ap, ◌∙◌}
 use Rattle.std.proofs.Common.{arith, pow-suc}
-use Rattle.std.proofs.lemmas.Bool.{cases_lt}
 use Rattle.std.proofs.lemmas.Bool.Decides.{nat_tests}
-use Rattle.std.proofs.lemmas.Nat.{xor_block, xor_lt}
-use Rattle.std.proofs.lemmas.Int.{of_z-to_z}
+use Rattle.std.proofs.lemmas.Nat.{xor_block}
 use Rattle.std.proofs.lemmas.Map.Lookups.{exact_signed}
 use Rattle.std.specs.Ordering.{nat_cmp, int_cmp}
-use Rattle.art_bytes.specs.lemmas.NumberLaws.{nat_cmp-same, pow_positive_2}
+use Rattle.art_bytes.specs.lemmas.NumberLaws.{nat_cmp-same}
 use Rattle.std.specs.Int.Bits.{bit_xor, xor_zero_r}
-use Rattle.std.specs.Int.{Width, w8, w16, w32, w64, w128, byte_len, cast_signed}
+use Rattle.std.specs.Int.{Width, w8, w16, w32, w64, w128, byte_len}
 use Rattle.std.specs.Int.RustNames.{FitsSigned}
 use mir.Val.{hbits, bits}
-use Rattle.art_bytes.specs.Numbers.{top_bit, flipped}
+use Rattle.art_bytes.specs.Numbers.{flipped}
 
 bits_are : (w : Width) → bits w ≡ suc (hbits w)
 bits_are = elim [ w8 ↦ refl | w16 ↦ refl | w32 ↦ refl | w64 ↦ refl | w128 ↦ refl ]
@@ -108,26 +106,3 @@ int_cmp-flipped w (negsuc m) (negsuc n) hy hz =
 pub flipped-injective : (w : Width) (y z : ℤ) → FitsSigned w y → FitsSigned w z → flipped w y ≡ flipped w z → y ≡ z
 flipped-injective w y z hy hz e =
     exact_signed y z (int_cmp-flipped w y z hy hz ∙ nat_cmp-same (flipped w y) (flipped w z) e)
-
--- flipping twice gives the bits back
-flip_twice : (k n : ℕ) → n < 2 ^ k + 2 ^ k → bit_xor (bit_xor n (2 ^ k)) (2 ^ k) ≡ n
-flip_twice k n h = elim (cases_lt n (2 ^ k)) [
-  | inl low ↦ ap (λ m. bit_xor m (2 ^ k)) (flip_low k n low) ∙ flip_high k n low
-  | inr high ↦
-      let rest : n - 2 ^ k < 2 ^ k = omega arith in
-      let all : n ≡ 2 ^ k + (n - 2 ^ k) = omega arith in
-      ap (λ m. bit_xor (bit_xor m (2 ^ k)) (2 ^ k)) all ∙ ap (λ m. bit_xor m (2 ^ k)) (flip_high k (n - 2 ^ k) rest)
-      ∙ flip_low k (n - 2 ^ k) rest ∙ sym all
-]
-
--- the signed number of flipped bits has those bits
-pub flipped-cast_signed : (w : Width) (n : ℕ) → n < 2 ^ bits w → flipped w (cast_signed w (bit_xor n (top_bit w))) ≡ n
-flipped-cast_signed w n h =
-    let whole = halves w in
-    let small : bit_xor n (2 ^ hbits w) < 2 ^ bits w =
-    xor_lt (bits w) n (2 ^ hbits w) h (omega (arith, pow_positive_2 (hbits w))) in
-    let top = ap (λ k. 2 ^ k) (top_is w) in
-    let written : flipped w (cast_signed w (bit_xor n (top_bit w))) ≡ bit_xor (bit_xor n (top_bit w)) (top_bit w) =
-    ap (λ m. bit_xor m (top_bit w))
-    (of_z-to_z w (bit_xor n (top_bit w)) (subst (λ t. bit_xor n t < 2 ^ bits w) (sym top) small)) in
-    written ∙ ap (λ t. bit_xor (bit_xor n t) t) top ∙ flip_twice (hbits w) n (omega arith)

@@ -69,36 +69,6 @@ module _ {V : Type 0} (width : ℕ) (P : V → Type 0) (f : V → List ℕ) (cmp
       first : (width : ℕ) (bytes : List ℕ) → take width bytes ≡ part_at width bytes 0
       first width bytes = grind (arith, common_steps)
 
-  -- where each part is a value's, a list has the bytes
-  pub list_exists : (n : ℕ) (bytes : List ℕ) → length bytes ≡ n * width
-      → ((k : ℕ) → k < n → HasValue P f (part_at width bytes k))
-      → (xs : List V) × HaveListBytes P f xs bytes × (length xs ≡ n)
-  list_exists n bytes long parts = let made = make n bytes parts in (
-    made.0,
-    list_of_parts made.0 bytes (long ∙ ap (λ m. m * width) (sym made.1)) (λ k d below. made.2 k d below),
-    made.1,
-  )
-    where
-      at_each : (bytes : List ℕ) (x : V) (xs : List V) → P x → f x ≡ part_at width bytes 0
-          → ((k : ℕ) (d : V) → k < length xs
-          → P (get_or xs k d) × (f (get_or xs k d) ≡ part_at width (drop width bytes) k))
-          → (k : ℕ) (d : V) → k < length (x ∷ xs)
-          → P (get_or (x ∷ xs) k d) × (f (get_or (x ∷ xs) k d) ≡ part_at width bytes k)
-      at_each bytes x xs h e rest zero d below = (h, e)
-      at_each bytes x xs h e rest (suc k) d below = let at = rest k d (omega arith) in
-          (at.0, at.1 ∙ part_rest width bytes k)
-
-      make : (n : ℕ) (bytes : List ℕ) → ((k : ℕ) → k < n → HasValue P f (part_at width bytes k))
-          → (xs : List V) × (length xs ≡ n)
-          × ((k : ℕ) (d : V) → k < length xs → P (get_or xs k d) × (f (get_or xs k d) ≡ part_at width bytes k))
-      make zero bytes parts = ([], refl, λ k d below. absurd (omega arith))
-      make (suc n) bytes parts =
-          let head = parts 0 (omega arith) in
-          let rest = make n (drop width bytes)
-          (λ k below. let at = parts (suc k) (omega arith) in (at.0, at.1, at.2 ∙ sym (part_rest width bytes k))) in
-          let long = rest.1 in
-          (head.0 ∷ rest.0, omega arith, at_each bytes head.0 rest.0 head.1 head.2 rest.2)
-
   -- a list of n values has n times the width of bytes
   pub long_list : (n : ℕ) (bytes : List ℕ) → ((xs : List V) × HaveListBytes P f xs bytes × (length xs ≡ n))
       → length bytes ≡ n * width

@@ -23,14 +23,6 @@ kind_coded-code_of Node48 = refl
 kind_coded-code_of Node256 = refl
 kind_coded-code_of Leaf = refl
 
-code_positive : (kind : NodeType) → 0 < code_of kind
-code_positive Node4 = omega arith
-code_positive Node16 = omega arith
-code_positive Node32 = omega arith
-code_positive Node48 = omega arith
-code_positive Node256 = omega arith
-code_positive Leaf = omega arith
-
 pub code_below : (kind : NodeType) → code_of kind < 7
 code_below Node4 = omega arith
 code_below Node16 = omega arith
@@ -44,13 +36,6 @@ pub word_of-name_in : (word : ℕ) → IsWord word → word_of (name_in word) �
 word_of-name_in word is =
     let code = code_of-kind_coded (word % 8) is.coded is.below in
     omega arith
-
--- the word of a name
-pub word_of-is : (kind : NodeType) (slot : ℕ) → IsWord (slot * 8 + code_of kind)
-word_of-is kind slot =
-    let some = code_positive kind in
-    let below = code_below kind in
-    record { coded = omega arith; below = omega arith }
 
 -- the name in the word of a name
 pub name_in-word_of : (kind : NodeType) (slot : ℕ)
