@@ -15,11 +15,6 @@ use Rattle.art_map.proofs.Terms.{AnswersAt, AreMet, Asking, CallableFromEnds, Co
 use Rattle.art_map.proofs.AtEnds.{none-at-end, same-end}
 use Rattle.art_map.proofs.Written.{without-again, without-put}
 
--- a fact holds where there is an error
-pub on-err : {A E T : Type 0} (r : Result A E) → T → OnErr r T
-on-err (Ok x) t = tt
-on-err (Err e) t = t
-
 module _ {X : Type 0} where
   -- what a test for none tells
   pub one-left : (xs : List X) {b : Bool} → b ≡ (length xs == 0) → b ≡ false → 0 < length xs

@@ -1,5 +1,5 @@
 -- What a map in the making has of the pairs that it took.
-use Rattle.std.proofs.Common.{◌≡◌, ℕ, Bool, true, false, cond, not, MatchBool, List, [], ◌∷◌, ◌++◌, Option, Some, None, Result, Ok, Err, refl, sym, ap, subst, ◌∙◌}
+use Rattle.std.proofs.Common.{◌≡◌, ℕ, true, false, cond, MatchBool, List, [], ◌∷◌, ◌++◌, Option, Some, None, Result, Ok, Err, refl, sym, ap, subst, ◌∙◌}
 use Rattle.std.specs.List.{AllByRecursion}
 use Rattle.std.specs.Prelude.{IfErr, OnOk}
 use Rattle.art_arena.proofs.Common.{Arena, Held, cell_of, inner_held, leaf_held, key_of, AscendsByKey, all_append}
@@ -14,15 +14,6 @@ use Rattle.art_map.specs.inner.Pushes.{pair_handed_back}
 use Rattle.art_map.specs.declared.map.builder.TreeMapBuilder.{TreeMapBuilder}
 use Rattle.art_map.proofs.Puts.{free-last, put-last}
 use Rattle.art_map.proofs.StoredKeys.{new-last}
-
--- what is so where its opposite was told
-pub is-false : (b : Bool) → not b ≡ true → b ≡ false
-is-false true e = sym e
-is-false false e = refl
-
-pub is-true : (b : Bool) → not b ≡ false → b ≡ true
-is-true true e = refl
-is-true false e = sym e
 
 -- the pairs of which a tree is being built ascend
 built-ascend : {K V : Type 0} (bytes : K → List ℕ) (P : ℕ) (arena : Arena K V) (builder : TreeBuilder) (pairs : List (K × V)) → Builds bytes P arena builder pairs → AscendsByKey (key_of bytes) pairs

@@ -141,20 +141,12 @@ module _ {K V : Type 0} {P : ℕ} {M : Type 0} {g : as_bytes.Ghosts K} (m : Cont
         value = sym (lookup-value (has_bytes g.bytes (g.bytes key)) m.pairs None absent);
       }
 
--- what holds of an `Ok`, or of an `Err`, and implies more
-pub ok-more : {X E : Type 0} {A B : X → Type 0} (r : Result X E) → ((x : X) → A x → B x) → IfOk r A → IfOk r B
-ok-more (Ok x) more a = more x a
-ok-more (Err e) more a = tt
-
-pub err-more : {X E : Type 0} {A B : E → Type 0} (r : Result X E) → ((e : E) → A e → B e) → IfErr r A → IfErr r B
-err-more (Ok x) more a = tt
-err-more (Err e) more a = more e a
-
 -- what holds of an `Err`, where what would make it none is absurd
 pub err-never : {X E : Type 0} {A B : E → Type 0} {R : Type 0} (r : Result X E) → ((e : E) → A e → (R → ⊥) → B e) → IfErr r A → (R → IsOk r) → IfErr r B
 err-never (Ok x) more a never = tt
 err-never (Err e) more a never = more e a (λ room. let ok = never room in absurd (cc))
 
+-- what two facts of an `Ok` tell
 pub ok-on : {X E C : Type 0} {A B : X → Type 0} (r : Result X E) → ((x : X) → A x → B x → C) → IfOk r A → IfOk r B → OnOk r C
 ok-on (Ok x) more a b = more x a b
 ok-on (Err e) more a b = tt

@@ -1,6 +1,8 @@
 -- Which items a list has after a change, and which is found: pairs of a map or keys of a set, each by its key.
 use Rattle.std.proofs.Common.{◌≡◌, ◌⊎◌, inl, inr, ℕ, Bool, true, false, cond, not, List, [], ◌∷◌, ◌++◌, Some, bytes_eq, refl, sym, ap, subst, ◌∙◌}
+use Rattle.std.specs.List.{AllByRecursion}
 use Rattle.std.specs.Prelude.{◌↔◌, filter, find}
+use Rattle.std.proofs.lemmas.Bool.{not-true}
 use Rattle.art_bytes.proofs.Common.{IsBefore, before_not_self}
 use Rattle.art_arena.proofs.Common.{AscendsByKey, IsIn, all_at, begins_true, begins_with, bytes_from_same, is_before, other_key, put_in_order, same_key}
 use Rattle.art_arena.proofs.tree.Filters.{from_kept, in_kept}
@@ -27,10 +29,6 @@ keys_apart : (query k l : List ℕ) → IsBefore k l → bytes_eq k query ≡ tr
 keys_apart query k l before one other =
     before_not_self query (subst (λ m. IsBefore m query) (bytes_from_same k query one) (subst (IsBefore k) (bytes_from_same l query other) before))
 
-of_not : (b : Bool) → not b ≡ true → b ≡ false
-of_not true e = sym e
-of_not false e = refl
-
 module _ {X : Type 0} where
   -- which items a filter keeps, and which it leaves where it keeps those that fail
   pub in-kept : (test : X → Bool) (q : X) (xs : List X) → IsIn q (filter test xs) ↔ (IsIn q xs × (test q ≡ true))
@@ -38,11 +36,16 @@ module _ {X : Type 0} where
 
   pub in-left : (test : X → Bool) (q : X) (xs : List X) → IsIn q (filter (λ x. not (test x)) xs) ↔ (IsIn q xs × (test q ≡ false))
   in-left test q xs = (
-    λ i. let (there, fails) = from_kept (λ x. not (test x)) q xs i in (there, of_not (test q) fails),
+    λ i. let (there, fails) = from_kept (λ x. not (test x)) q xs i in (there, not-true (test q) fails),
     λ h. in_kept (λ x. not (test x)) q xs h.0 (ap not h.1),
   )
 
-  last-in : (p : X) (xs : List X) → last_item xs ≡ Some p → IsIn p xs
+  -- what holds of each item of a list holds of all
+  pub all-in : (P : X → Type 0) (xs : List X) → ((x : X) → IsIn x xs → P x) → AllByRecursion P xs
+  all-in P [] each = tt
+  all-in P (x ∷ xs) each = (each x (inl refl), all-in P xs (λ y i. each y (inr i)))
+
+  pub last-in : (p : X) (xs : List X) → last_item xs ≡ Some p → IsIn p xs
   last-in p [] e = absurd (cc)
   last-in p (x ∷ []) e = let same : x ≡ p = cc in inl same
   last-in p (x ∷ y ∷ ys) e = inr (last-in p (y ∷ ys) e)

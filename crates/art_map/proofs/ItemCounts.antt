@@ -2,6 +2,7 @@
 use Rattle.std.proofs.Common.{◌≡◌, ℕ, suc, ◌+◌, Bool, true, false, cond, not, ◌||◌, List, [], ◌∷◌, length, bytes_eq, refl, sym, ap, ap₂, subst, ◌∙◌, arith}
 use Rattle.std.specs.List.{AllByRecursion}
 use Rattle.std.specs.Prelude.{◌&&◌, filter}
+use Rattle.std.proofs.lemmas.Bool.{or_parts}
 use Rattle.art_bytes.proofs.Common.{IsBefore, before_not_self}
 use Rattle.art_arena.proofs.Common.{AscendsByKey, bytes_from_same, is_before, other_key, put_in_order, same_key}
 use Rattle.art_map.proofs.FoundAfter.{turned}
@@ -94,14 +95,10 @@ module _ {X : Type 0} (key : X → List ℕ) where
       by_test true later = (has-kept keep (key x) xs ∙ ap (λ b. keep (key x) && b) h.0 ∙ none (keep (key x)), later)
       by_test false later = later
 
-  neither : (a b : Bool) → (a || b) ≡ false → (a ≡ false) × (b ≡ false)
-  neither true b e = absurd (cc)
-  neither false b e = (refl, e)
-
   apart-put : (p : X) (xs : List X) → has_key key (key p) xs ≡ false → AreApart xs → AreApart (put_in_order key p xs)
   apart-put p [] new h = (refl, tt)
   apart-put p (x ∷ xs) new h =
-      let (other, none) = neither (bytes_eq (key x) (key p)) (has_key key (key p) xs) new in
+      let (other, none) = or_parts (bytes_eq (key x) (key p)) (has_key key (key p) xs) new in
       by_place (is_before (key p) (key x)) (has-put (key x) p xs ∙ ap₂ (λ a b. a || b) (turned (key p) (key x) ∙ other) h.0) (apart-put p xs none h.1)
     where
       by_place : (b : Bool) → has_key key (key x) (put_in_order key p xs) ≡ false → AreApart (put_in_order key p xs) → AreApart (cond b (p ∷ x ∷ xs) (x ∷ put_in_order key p xs))

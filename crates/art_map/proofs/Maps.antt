@@ -19,6 +19,7 @@ use Rattle.art_operations.specs.declared.prefix_insert.result.PrefixInsertResult
 use Rattle.art_walks.proofs.Common.{all-filter, Ends, IsCounted}
 use Rattle.art_operations.proofs.PutOver.{how_many}
 use Rattle.art_map.proofs.Terms.{contents, pairs_from, IsMap, has_bytes, first_item, last_item, option_value, entry_in, IsAt, IsFound, IsWalkOf}
+use Rattle.art_map.proofs.ItemChanges.{all-in}
 use Rattle.art_map.proofs.Below.{tree-pairs, has-seen, has-there}
 use Rattle.art_map.proofs.LookedUp.{key_test, EndAt, first-end, last-end, first-at, none-at, entry-at, set-at, same-place, entry-first, lookup-value}
 
@@ -32,11 +33,6 @@ as-counted arena ends pairs len e walk = record {
   run = record { leaves = walk.run.leaves; walk = walk.run.walk; stored = walk.run.stored; len_is = e ∙ walk.run.len_is };
   pairs_are = walk.pairs_are;
 }
-
--- what holds of each item of a list holds of all
-all_in : {X : Type 0} (P : X → Type 0) (xs : List X) → ((x : X) → IsIn x xs → P x) → AllByRecursion P xs
-all_in P [] each = tt
-all_in P (x ∷ xs) each = (each x (inl refl), all_in P xs (λ y i. each y (inr i)))
 
 module _ {K V : Type 0} (is_key : K → Type 0) where
   -- each key of these pairs is one
@@ -254,7 +250,7 @@ module _ {K V : Type 0} (bytes : K → List ℕ) (is_key : K → Type 0) (P : �
             run = record {
               leaves = leaves s;
               walk = record { xs = []; zs = []; list = subst (IsList (links_at old)) (sym (append-nil (leaves s))) (tree-list bytes P (node_at old) top (links_at old) s tree); ends_are = (first [] s below, last [] s below) };
-              stored = all_in (λ (l : LeafAt K V). node_at old (leaf_name l.slot) ≡ Some (pair l.key l.value)) (leaves s) (λ l i. held_leaf P (node_at old) s l i tree.nodes.holds.held);
+              stored = all-in (λ (l : LeafAt K V). node_at old (leaf_name l.slot) ≡ Some (pair l.key l.value)) (leaves s) (λ l i. held_leaf P (node_at old) s l i tree.nodes.holds.held);
               len_is = ap length (sym has_top.2) ∙ length-map (leaves s) leaf_pair;
             };
             pairs_are = has_top.2;

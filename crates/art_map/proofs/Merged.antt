@@ -1,32 +1,17 @@
 -- Ascending pairs that are put into the leaves of a tree, one after another.
-use Rattle.std.proofs.Common.{◌≡◌, ℕ, suc, ◌+◌, ◌-◌, ◌≤◌, Bool, true, false, cond, filter, not, bytes_eq, List, [], ◌∷◌, length, Option, refl, sym, ap, subst, ◌∙◌, arith}
+use Rattle.std.proofs.Common.{◌≡◌, ℕ, ◌+◌, ◌-◌, ◌≤◌, not, bytes_eq, List, [], ◌∷◌, length, Option, refl, sym, ap, subst, ◌∙◌, arith}
 use Rattle.std.specs.List.{AllByRecursion}
+use Rattle.std.proofs.lemmas.List.Filters.{length-filter_both}
 use Rattle.art_bytes.proofs.Common.{IsBefore}
 use Rattle.art_nodes.specs.declared.kind.NodeType.TheVariants.{Leaf}
-use Rattle.art_arena.proofs.Common.{Arena, HasRoomOf, KeepsRoomOf, cell_of, leaf_name, pair, SameLeaves, key_of, is_before, put_in_order, AscendsByKey}
-use Rattle.art_operations.proofs.Common.{without_key, HasKey, HasPutIn, KeepsCells, StandsAhead, StandsInList, HasLeavesOf, with_pair_put}
+use Rattle.art_arena.proofs.Common.{Arena, HasRoomOf, KeepsRoomOf, cell_of, SameLeaves, key_of, AscendsByKey}
+use Rattle.art_operations.proofs.Common.{without_key, HasKey, HasPutIn, StandsAhead, StandsInList, HasLeavesOf, with_pair_put}
 use Rattle.art_operations.specs.declared.leaf_list.LeafCursor.{LeafCursor}
+use Rattle.art_map.proofs.ItemCounts.{long-put}
 use Rattle.art_map.proofs.Terms.{with_pairs_put}
 use Rattle.art_map.proofs.Maps.{AreKeys, keys-put, keys-without}
 use Rattle.art_map.proofs.RoomUsed.{LeavesUsed, none-used, put-used, then-used}
 use Rattle.art_map.specs.Room.{UsesLeafRoom}
-
--- what is kept of a list is no longer than the list, and an item that is put in makes it longer by one
-filter-long : {X : Type 0} (test : X → Bool) (xs : List X) → length (filter test xs) ≤ length xs
-filter-long test [] = omega arith
-filter-long test (x ∷ xs) = here (test x) (filter-long test xs)
-  where
-    here : (b : Bool) → length (filter test xs) ≤ length xs → length (cond b (x ∷ filter test xs) (filter test xs)) ≤ length (x ∷ xs)
-    here true few = omega (arith, few)
-    here false few = omega (arith, few)
-
-placed-long : {X : Type 0} (key : X → List ℕ) (x : X) (xs : List X) → length (put_in_order key x xs) ≡ suc (length xs)
-placed-long key x [] = refl
-placed-long key x (y ∷ ys) = here (is_before (key x) (key y)) (placed-long key x ys)
-  where
-    here : (b : Bool) → length (put_in_order key x ys) ≡ suc (length ys) → length (cond b (x ∷ y ∷ ys) (y ∷ put_in_order key x ys)) ≡ suc (length (y ∷ ys))
-    here true e = refl
-    here false e = ap suc e
 
 module _ {K V : Type 0} (bytes : K → List ℕ) where
   -- so many pairs there are at most when these were put in
@@ -34,20 +19,13 @@ module _ {K V : Type 0} (bytes : K → List ℕ) where
   put-long [] had = omega arith
   put-long (p ∷ ps) had =
       let rest = put-long ps (with_pair_put bytes p.0 p.1 had) in
-      let placed = placed-long (key_of bytes) (p.0, p.1) (without_key (key_of bytes) (bytes p.0) had) in
-      let fewer = filter-long (λ (x : K × V). not (bytes_eq (key_of bytes x) (bytes p.0))) had in
-      omega (arith, rest, placed, fewer)
+      let placed = long-put (key_of bytes) (p.0, p.1) (without_key (key_of bytes) (bytes p.0) had) in
+      let parted = length-filter_both (λ (x : K × V). not (bytes_eq (key_of bytes x) (bytes p.0))) (λ x. not (not (bytes_eq (key_of bytes x) (bytes p.0)))) (λ x. refl) had in
+      omega (arith, rest, placed, parted)
 
-  -- which leaves stand where all do
-  pub same-leaf-names : (old new : Arena K V) → SameLeaves old new → HasLeavesOf bytes new old
-  same-leaf-names old new same slot key (k, v, there, is) = (k, v, ap cell_of (same slot) ∙ there, is)
-
+  -- which leaves stood where all do
   pub same-leaf-names-back : (old new : Arena K V) → SameLeaves old new → HasLeavesOf bytes old new
   same-leaf-names-back old new same slot key (k, v, there, is) = (k, v, sym (ap cell_of (same slot)) ∙ there, is)
-
-  -- or where what stood stands
-  pub kept-leaf-names : (old new : Arena K V) → KeepsCells old new → HasLeavesOf bytes new old
-  kept-leaf-names old new kept slot key (k, v, there, is) = (k, v, kept (leaf_name slot) (pair k v) there, is)
 
   module _ (is_key : K → Type 0) where
     -- some of these pairs were put in since the start, and these are left

@@ -13,25 +13,16 @@ use Rattle.art_bytes.proofs.Common.{IsBefore, before_not_self, before_trans, byt
 use Rattle.art_arena.proofs.Common.{AscendsByKey, IsIn, all_at, before_true, bytes_from_same, is_before, other_key, put_in_order, same_key, true_before}
 use Rattle.art_arena.proofs.tree.Filters.{from_kept, in_kept}
 use Rattle.art_walks.proofs.Common.{all-filter}
-use Rattle.art_map.proofs.ItemChanges.{in-all-put, with_item, with_items}
+use Rattle.art_map.proofs.ItemChanges.{all-in, in-all-put, last-in, with_item, with_items}
 use Rattle.art_map.proofs.Terms.{last_item}
 use Rattle.art_map.specs.PairLaws.{StandsLast}
 use Rattle.art_operations.proofs.Common.{HasKey, with_key, without_key}
 
 module _ {X : Type 0} where
-  all-of : (P : X → Type 0) (xs : List X) → ((x : X) → IsIn x xs → P x) → AllByRecursion P xs
-  all-of P [] each = tt
-  all-of P (x ∷ xs) each = (each x (inl refl), all-of P xs (λ y i. each y (inr i)))
-
   some-last : (x : X) (xs : List X) → IsIn x xs → (z : X) × (last_item xs ≡ Some z)
   some-last x [] i = absurd i
   some-last x (y ∷ []) i = (y, refl)
   some-last x (y ∷ z ∷ zs) i = some-last z (z ∷ zs) (inl refl)
-
-  last-in : (x : X) (xs : List X) → last_item xs ≡ Some x → IsIn x xs
-  last-in x [] e = absurd (cc)
-  last-in x (y ∷ []) e = let same : y ≡ x = cc in inl same
-  last-in x (y ∷ z ∷ zs) e = inr (last-in x (z ∷ zs) e)
 
 module _ {X : Type 0} (key : X → List ℕ) where
   -- two lists in order with the same items are one
@@ -139,9 +130,10 @@ module _ {X : Type 0} (key : X → List ℕ) where
       by false at (inl less) later = let no : true ≡ false = sym (before_true (key p) (key x) less) ∙ at in absurd (cc)
       by false at (inr less) later = (all-put (λ y. IsBefore (key x) (key y)) p xs less up.0, later)
 
-  ascends-kept : (test : X → Bool) (xs : List X) → AscendsByKey key xs → AscendsByKey key (filter test xs)
-  ascends-kept test [] up = tt
-  ascends-kept test (x ∷ xs) up = by (test x) (ascends-kept test xs up.1)
+  -- part of a list in order is in order
+  pub ascends-filter : (test : X → Bool) (xs : List X) → AscendsByKey key xs → AscendsByKey key (filter test xs)
+  ascends-filter test [] up = tt
+  ascends-filter test (x ∷ xs) up = by (test x) (ascends-filter test xs up.1)
     where
       by : (b : Bool) → AscendsByKey key (filter test xs) → AscendsByKey key (cond b (x ∷ filter test xs) (filter test xs))
       by true later = (all-filter (λ y. IsBefore (key x) (key y)) test xs up.0, later)
@@ -166,7 +158,7 @@ module _ {X : Type 0} (key : X → List ℕ) where
         let rest = without_key key (key p) xs in
         let kept = all-filter P (λ x. not (bytes_eq (key x) (key p))) xs all in
         ascends-items ps (with_item key p xs) new.1 (all-put P p rest new.0 kept)
-        (ascends-put p rest (ascends-kept (λ x. not (bytes_eq (key x) (key p))) xs up) (apart-left p xs new.0 all))
+        (ascends-put p rest (ascends-filter (λ x. not (bytes_eq (key x) (key p))) xs up) (apart-left p xs new.0 all))
 
   -- items in another order, in which those with the same key keep theirs, make the same list
   module _ (xs ys : List X) (kept : (x : X) → with_key key (key x) ys ≡ with_key key (key x) xs) (up : AscendsByKey key (with_items key ys [])) where
@@ -185,7 +177,7 @@ module _ {X : Type 0} (key : X → List ℕ) where
     ordered x y (z, i, e) (w, j, f) = subst (λ k. AreInSomeOrder k (key y)) e (subst (AreInSomeOrder (key z)) f (in-some-order (with_items key ys []) up z w i j))
 
     other-up : AscendsByKey key (with_items key xs [])
-    other-up = ascends-items IsThere ordered xs [] (all-of IsThere xs there) tt tt
+    other-up = ascends-items IsThere ordered xs [] (all-in IsThere xs there) tt tt
 
     moved : (q : X) (us vs : List X) → with_key key (key q) us ≡ with_key key (key q) vs → IsIn q (with_items key us []) → IsIn q (with_items key vs [])
     moved q us vs same i = of ((in-all-put key q us []).0 i)

@@ -1,6 +1,6 @@
 //! The map itself: what it keeps, how it is made, and its length.
 ghost use Rattle.std.specs.Prelude.{◌≡◌, ◌==◌, [], length};
-ghost use Rattle.art_arena.specs.arena.Arena.{KeepsRoom, KeepsRoomOf};
+ghost use Rattle.art_arena.specs.arena.Arena.{HasNoRoom, KeepsRoom, KeepsRoomOf};
 ghost use Rattle.art_arena.specs.arena.Shapes.{key_of};
 ghost use Rattle.art_arena.specs.tree.Order.{AscendsByKey};
 ghost use Rattle.art_operations.specs.Runs.{HoldsTreeOf};
@@ -81,7 +81,8 @@ impl<K: AsBytes, V> TreeMap<K, V, DEFAULT_PREFIX_LEN> {
     /// map.insert(*b"ab", 1)?;
     /// ```
     pub fn new(alloc: Global) -> Self
-        ensures { result.pairs ≡ [] }
+        ensures pairs { result.pairs ≡ [] }
+        ensures no_room { HasNoRoom result.nodes }
     {
         TreeMap::with_prefix_len(alloc)
     }
@@ -96,7 +97,8 @@ impl<K: AsBytes, V, const PREFIX_LEN: usize> TreeMap<K, V, PREFIX_LEN> {
     /// assert_eq!(rt; map.len(), 1);
     /// ```
     pub fn with_prefix_len(alloc: Global) -> Self
-        ensures { result.pairs ≡ [] }
+        ensures pairs { result.pairs ≡ [] }
+        ensures no_room { HasNoRoom result.nodes }
     {
         TreeMap {
             alloc,

@@ -1,6 +1,6 @@
 //! `clone`: another map of clones of the pairs, with nodes of its own.
 ghost use Rattle.std.specs.Prelude.{◌≡◌, IfOk};
-ghost use Rattle.art_arena.specs.arena.ArenaClones.{IsArenaClone};
+ghost use Rattle.art_arena.specs.arena.ArenaClones.{HasNoSpare, IsArenaClone};
 ghost use Rattle.art_operations.specs.Runs.{AreClones};
 
 use crate::clone_key::CloneKey;
@@ -9,8 +9,9 @@ use art_bytes::CloneBytes;
 use std::alloc::AllocError;
 
 impl<K: CloneBytes, V: Clone, const PREFIX_LEN: usize> TreeMap<K, V, PREFIX_LEN> {
-    /// Makes a map of clones of the pairs, in the same order. Its tree has the same shape, and nodes of its own. If a
-    /// clone of a key or a value equals its original, it has the same pairs. A clone of a key has to be a key of its
+    /// Makes a map of clones of the pairs, in the same order. Its tree has the same shape, and nodes of its own, with
+    /// memory for as many of each kind as there are slots for here, and for no more. If a clone of a key or a value
+    /// equals its original, it has the same pairs. A clone of a key has to be a key of its
     /// type, as it is if it equals its original.
     ///
     /// Fails if a key or a value can't be cloned, or if out of memory. What was made is dropped then. The map is only
@@ -30,6 +31,7 @@ impl<K: CloneBytes, V: Clone, const PREFIX_LEN: usize> TreeMap<K, V, PREFIX_LEN>
             → IfOk result (λ copy. copy.pairs ≡ self.now.pairs) }
         ensures shape { IfOk result (λ copy. IsArenaClone K.is_clone V.is_clone self.now.nodes copy.nodes
             × (copy.root ≡ self.now.root)) }
+        ensures exact { IfOk result (λ copy. HasNoSpare self.now.nodes copy.nodes) }
     {
         Ok(TreeMap {
             alloc: self.alloc,

@@ -1,7 +1,7 @@
 //! `compact`: all nodes are made anew, in the order of the keys.
 ghost use Rattle.std.specs.Prelude.{◌≡◌, ◌<◌, ◌^◌, [], length, IfOk, IsOk, OnErr, OnOk};
 ghost use Rattle.art_nodes.specs.declared.kind.NodeType.TheVariants.{Leaf};
-ghost use Rattle.art_arena.specs.arena.Arena.{HasRoomOf, IsTrimmed};
+ghost use Rattle.art_arena.specs.arena.Arena.{HasNoRoom, HasRoomOf, IsTrimmed};
 ghost use Rattle.art_arena.specs.arena.Shapes.{key_of};
 ghost use Rattle.art_arena.specs.tree.Order.{AscendsByKey};
 ghost use Rattle.art_operations.specs.Builders.{Builds, HasRoomToPush};
@@ -26,7 +26,8 @@ impl<K: AsBytes, V, const PREFIX_LEN: usize> TreeMap<K, V, PREFIX_LEN> {
     /// more is compacted once, before it is read.
     ///
     /// Fails if there is no memory for the new nodes, all of which is allocated first. The map is unchanged then, each
-    /// name and all room too. An empty map allocates nothing, and can't fail.
+    /// name and all room too. An empty map allocates nothing, gives back what it has, and can't
+    /// fail.
     ///
     /// ```
     /// let mut map = TreeMap::new(rt.alloc());
@@ -42,6 +43,7 @@ impl<K: AsBytes, V, const PREFIX_LEN: usize> TreeMap<K, V, PREFIX_LEN> {
         ensures trimmed { OnOk result (PREFIX_LEN < 2 ^ 62 → IsTrimmed self.new.nodes) }
         ensures err { OnErr result (self.new ≡ self.old) }
         ensures empty { self.old.pairs ≡ [] → IsOk result }
+        ensures no_room { self.old.pairs ≡ [] → HasNoRoom self.new.nodes }
     {
         if self.is_empty() {
             self.shrink_to_fit();

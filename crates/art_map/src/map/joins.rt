@@ -4,7 +4,7 @@ ghost use Rattle.std.specs.Prelude.{◌≡◌, ◌≢◌, ◌⊎◌, ◌+◌, �
 ghost use Rattle.std.specs.Prelude.{IfOk, IsOk, OnErr, OnOk};
 ghost use Rattle.std.specs.List.{AllByRecursion};
 ghost use Rattle.art_nodes.specs.declared.kind.NodeType.TheVariants.{Leaf};
-ghost use Rattle.art_arena.specs.arena.Arena.{HasRoom, HasRoomOf, KeepsRoomOf, SameNodes, UsesRoom};
+ghost use Rattle.art_arena.specs.arena.Arena.{HasNoRoom, HasRoom, HasRoomOf, KeepsRoomOf, SameNodes, UsesRoom};
 ghost use Rattle.art_arena.specs.arena.Shapes.{key_of};
 ghost use Rattle.art_arena.specs.tree.Order.{AscendsByKey};
 ghost use Rattle.art_operations.specs.LeafCursors.{KeepsInnerRoom, StandsAhead, StandsInList};
@@ -59,7 +59,8 @@ impl<K: NoPrefixesBytes + Drop, V: Drop, const PREFIX_LEN: usize> TreeMap<K, V, 
     /// them is empty, it allocates nothing and can't fail.
     ///
     /// Of the room for leaves, only the pairs that come anew use some. Of each other kind, a pair of the other uses
-    /// room for four nodes at most.
+    /// room for four nodes at most. The other map has no room left, since all its memory is freed. If this map is
+    /// empty, the two change places, and so does their room.
     ///
     /// ```
     /// let mut map = TreeMap::new(rt.alloc());
@@ -73,6 +74,7 @@ impl<K: NoPrefixesBytes + Drop, V: Drop, const PREFIX_LEN: usize> TreeMap<K, V, 
     pub fn append(&mut self, other: &mut Self) -> Result<(), AllocError>
         ensures pairs { OnOk result (self.new.pairs ≡ with_pairs_put K.bytes other.old.pairs self.old.pairs) }
         ensures emptied { OnOk result (other.new.pairs ≡ []) }
+        ensures freed { OnOk result (self.old.pairs ≢ [] → other.old.pairs ≢ [] → HasNoRoom other.new.nodes) }
         ensures names { OnOk result (KeepsAllLeaves K.bytes self.old self.new) }
         ensures err { OnErr result ((self.new.pairs ≡ self.old.pairs) × (other.new.pairs ≡ other.old.pairs)) }
         ensures kept { OnErr result (IsUntouched self.old self.new × IsUntouched other.old other.new) }
@@ -111,6 +113,7 @@ impl<K: NoPrefixesBytes + Drop, V: Drop, const PREFIX_LEN: usize> TreeMap<K, V, 
         requires many { length self.old.pairs ≤ 2 * length other.old.pairs + 1 }
         ensures pairs { OnOk result (self.new.pairs ≡ with_pairs_put K.bytes other.old.pairs self.old.pairs) }
         ensures emptied { OnOk result (other.new.pairs ≡ []) }
+        ensures freed { OnOk result (HasNoRoom other.new.nodes) }
         ensures names { OnOk result (KeepsAllLeaves K.bytes self.old self.new) }
         ensures err { OnErr result ((self.new.pairs ≡ self.old.pairs) × (other.new.pairs ≡ other.old.pairs)) }
         ensures kept { OnErr result (IsUntouched self.old self.new × IsUntouched other.old other.new) }
@@ -130,6 +133,7 @@ impl<K: NoPrefixesBytes + Drop, V: Drop, const PREFIX_LEN: usize> TreeMap<K, V, 
         requires fits { PREFIX_LEN < 2 ^ 62 }
         ensures pairs { OnOk result (self.new.pairs ≡ with_pairs_put K.bytes other.old.pairs self.old.pairs) }
         ensures emptied { OnOk result (other.new.pairs ≡ []) }
+        ensures freed { OnOk result (HasNoRoom other.new.nodes) }
         ensures names { OnOk result (KeepsAllLeaves K.bytes self.old self.new) }
         ensures err { OnErr result ((self.new.pairs ≡ self.old.pairs) × (other.new.pairs ≡ other.old.pairs)) }
         ensures kept { OnErr result (IsUntouched self.old self.new × IsUntouched other.old other.new) }
@@ -149,6 +153,7 @@ impl<K: NoPrefixesBytes + Drop, V: Drop, const PREFIX_LEN: usize> TreeMap<K, V, 
         requires fits { PREFIX_LEN < 2 ^ 62 }
         ensures pairs { OnOk result (self.new.pairs ≡ with_pairs_put K.bytes other.old.pairs self.old.pairs) }
         ensures emptied { OnOk result (other.new.pairs ≡ []) }
+        ensures freed { OnOk result (HasNoRoom other.new.nodes) }
         ensures names { OnOk result (KeepsAllLeaves K.bytes self.old self.new) }
         ensures err { OnErr result ((self.new.pairs ≡ self.old.pairs) × (other.new.pairs ≡ other.old.pairs)) }
         ensures kept { OnErr result (IsUntouched self.old self.new × IsUntouched other.old other.new) }

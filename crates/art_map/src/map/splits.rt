@@ -5,7 +5,7 @@ ghost use Rattle.std.specs.Prelude.{IfOk, IsOk, OnErr, OnOk};
 ghost use Rattle.std.specs.declared.ops.Bound.TheVariants.{Included, Excluded, Unbounded};
 ghost use Rattle.art_nodes.specs.Name.{Name};
 ghost use Rattle.art_nodes.specs.declared.kind.NodeType.TheVariants.{Leaf};
-ghost use Rattle.art_arena.specs.arena.Arena.{held_at, HasRoom, HasRoomOf, UsesRoom};
+ghost use Rattle.art_arena.specs.arena.Arena.{held_at, HasNoRoom, HasRoom, HasRoomOf, UsesRoom};
 ghost use Rattle.art_arena.specs.arena.Rooms.{FreesRoomOf};
 ghost use Rattle.art_arena.specs.arena.Shapes.{key_of};
 ghost use Rattle.art_arena.specs.tree.Order.{AscendsByKey};
@@ -71,8 +71,10 @@ impl<K: AsBytes, V, const PREFIX_LEN: usize> TreeMap<K, V, PREFIX_LEN> {
             → FreesLeaves (length off.pairs) self.old.nodes self.new.nodes) }
         ensures room { IfOk result (λ off. self.new.pairs ≢ []
             → UsesRoom (4 * length off.pairs) self.old.nodes self.new.nodes) }
-        ensures nothing { IfOk result (λ off. off.pairs ≡ [] → self.new.pairs ≢ [] → self.new ≡ self.old) }
-        ensures swapped { IfOk result (λ off. self.new.pairs ≡ [] → off ≡ self.old) }
+        ensures nothing { IfOk result (λ off. off.pairs ≡ [] → self.new.pairs ≢ []
+            → (self.new ≡ self.old) × HasNoRoom off.nodes) }
+        ensures swapped { IfOk result (λ off. self.new.pairs ≡ []
+            → (off ≡ self.old) × HasNoRoom self.new.nodes) }
     {
         if !nodes_fit::<PREFIX_LEN>() {
             return Err(AllocError);

@@ -1,5 +1,5 @@
-use Rattle.std.proofs.Common.{[], length, Result, Ok, Err, refl, sym, ap, subst, ◌∙◌, ◌*◌, arith}
-use Rattle.std.specs.Prelude.{OnOk}
+use Rattle.std.proofs.Common.{[], length, refl, sym, ap, subst, ◌∙◌, ◌*◌, arith}
+use Rattle.std.proofs.lemmas.Result.{on_ok_weaker}
 use Rattle.art_arena.proofs.Common.{IsIn}
 use Rattle.art_map.proofs.Terms.{with_pairs_put}
 use Rattle.art_map.proofs.Asks.{none-left, one-left}
@@ -7,10 +7,6 @@ use Rattle.art_map.proofs.Puts.{put-after}
 use Rattle.art_operations.proofs.NewNodes.{fewer}
 use Rattle.art_map.proofs.RoomUsed.{none-used-of, none-uses, uses-more}
 use Rattle.art_map.proofs.map.TreeMap.append.Goals as goal
-
-on-ok : {A E P Q : Type 0} (r : Result A E) → (P → Q) → OnOk r P → OnOk r Q
-on-ok (Ok x) f p = f p
-on-ok (Err e) f p = tt
 
 pub returns-then-is_empty-2-clause-pairs : goal.returns-then-is_empty-2-clause-pairs
 returns-then-is_empty-2-clause-pairs g c =
@@ -47,6 +43,18 @@ returns-then-is_empty-clause-leaf_room g c = λ some. none-uses c.args.self.now.
 pub returns-then-is_empty-clause-room : goal.returns-then-is_empty-clause-room
 returns-then-is_empty-clause-room g c = λ some. none-used-of c.args.self.now.nodes _
 
+pub returns-then-is_empty-clause-freed : goal.returns-then-is_empty-clause-freed
+returns-then-is_empty-clause-freed g c = λ some others. absurd (others (none-left c.args.other.now.pairs c.is_empty.ensures c.if-is_empty.true))
+
+pub returns-then-is_empty-2-clause-freed : goal.returns-then-is_empty-2-clause-freed
+returns-then-is_empty-2-clause-freed g c = λ some others. absurd (some (none-left c.args.self.now.pairs c.is_empty-2.ensures c.if-is_empty-2.true))
+
+pub returns-then-len-clause-freed : goal.returns-then-len-clause-freed
+returns-then-len-clause-freed g c = on_ok_weaker c.append_by_search.result (λ freed some others. freed) c.append_by_search.ensures.freed
+
+pub returns-clause-freed : goal.returns-clause-freed
+returns-clause-freed g c = on_ok_weaker c.append_many.result (λ freed some others. freed) c.append_many.ensures.freed
+
 pub returns-then-not-fits_in_memory-clause-succeeds : goal.returns-then-not-fits_in_memory-clause-succeeds
 returns-then-not-fits_in_memory-clause-succeeds g c = λ room.
     let some = one-left c.args.other.now.pairs c.is_empty.ensures c.if-is_empty.false in
@@ -54,18 +62,18 @@ returns-then-not-fits_in_memory-clause-succeeds g c = λ room.
     absurd (cc)
 
 pub returns-then-len-clause-leaf_room : goal.returns-then-len-clause-leaf_room
-returns-then-len-clause-leaf_room g c = on-ok c.append_by_search.result (λ uses some. uses) c.append_by_search.ensures.leaf_room
+returns-then-len-clause-leaf_room g c = on_ok_weaker c.append_by_search.result (λ uses some. uses) c.append_by_search.ensures.leaf_room
 
 pub returns-then-len-clause-room : goal.returns-then-len-clause-room
 returns-then-len-clause-room g c =
-    on-ok c.append_by_search.result
+    on_ok_weaker c.append_by_search.result
     (λ uses some. uses-more (2 * length c.args.other.now.pairs) (4 * length c.args.other.now.pairs) c.args.self.now.nodes c.append_by_search.new.self.nodes (omega arith) uses) c.append_by_search.ensures.room
 
 pub returns-clause-leaf_room : goal.returns-clause-leaf_room
-returns-clause-leaf_room g c = on-ok c.append_many.result (λ uses some. uses) c.append_many.ensures.leaf_room
+returns-clause-leaf_room g c = on_ok_weaker c.append_many.result (λ uses some. uses) c.append_many.ensures.leaf_room
 
 pub returns-clause-room : goal.returns-clause-room
-returns-clause-room g c = on-ok c.append_many.result (λ uses some. uses) c.append_many.ensures.room
+returns-clause-room g c = on_ok_weaker c.append_many.result (λ uses some. uses) c.append_many.ensures.room
 
 pub append_many-requires : goal.append_many-requires
 append_many-requires g c =

@@ -2,7 +2,7 @@ use Rattle.std.proofs.Common.{◌-◌, ◌+◌, ◌*◌, length, sym, ap, subst,
 use Rattle.art_nodes.specs.declared.kind.NodeType.TheVariants.{Leaf}
 use Rattle.art_arena.proofs.Common.{HasRoomOf, key_of, AscendsByKey}
 use Rattle.art_operations.proofs.Common.{HasInnerRoom, same-names}
-use Rattle.art_arena.specs.arena.Arena.{UsesRoom}
+use Rattle.art_arena.specs.arena.Arena.{HasNoRoom, UsesRoom}
 use Rattle.art_map.proofs.RoomKept.{then-uses}
 use Rattle.art_map.proofs.RoomUsed.{kept-then}
 use Rattle.art_map.specs.Room.{UsesLeafRoom}
@@ -43,3 +43,6 @@ returns-clause-room g c =
     then-uses c.args.self.now.nodes c.reserve_anew.new.self.nodes c.merge.new.self.nodes _ c.reserve_anew.ensures.kept.2
     (subst (λ k. UsesRoom (k - 1 + 2 * length c.args.other.now.pairs) c.reserve_anew.new.self.nodes c.merge.new.self.nodes) (ap length c.reserve_anew.ensures.pairs)
     (subst (λ k. UsesRoom (length c.reserve_anew.new.self.pairs - 1 + 2 * k) c.reserve_anew.new.self.nodes c.merge.new.self.nodes) (ap length all) c.merge.ensures.room))
+
+pub returns-clause-freed : goal.returns-clause-freed
+returns-clause-freed g c = subst (λ m. HasNoRoom m.nodes) (sym c.replace.ensures.after) c.with_prefix_len-none.ensures.no_room

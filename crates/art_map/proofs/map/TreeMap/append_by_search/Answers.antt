@@ -1,7 +1,7 @@
 use Rattle.std.proofs.Common.{◌*◌, ◌-◌, length, sym, ap, subst, ◌∙◌, arith}
 use Rattle.art_arena.proofs.Common.{HasRoom}
 use Rattle.art_operations.proofs.Common.{same-names}
-use Rattle.art_arena.specs.arena.Arena.{UsesRoom}
+use Rattle.art_arena.specs.arena.Arena.{HasNoRoom, UsesRoom}
 use Rattle.art_map.proofs.RoomKept.{then-uses}
 use Rattle.art_map.proofs.RoomUsed.{kept-then}
 use Rattle.art_map.specs.Room.{UsesLeafRoom}
@@ -31,3 +31,6 @@ returns-clause-room g c =
     let all = c.into_iter.ensures.into_iter_gives ∙ ap (λ m. m.pairs) c.replace.ensures.value in
     then-uses c.args.self.now.nodes c.reserve_insertions.new.self.nodes c.put_pairs.new.self.nodes _ c.reserve_insertions.ensures.kept.2
     (subst (λ n. UsesRoom (2 * n) c.reserve_insertions.new.self.nodes c.put_pairs.new.self.nodes) (ap length all) c.put_pairs.ensures.room)
+
+pub returns-clause-freed : goal.returns-clause-freed
+returns-clause-freed g c = subst (λ m. HasNoRoom m.nodes) (sym c.replace.ensures.after) c.with_prefix_len-none.ensures.no_room

@@ -1,5 +1,5 @@
 use Rattle.std.proofs.Common.{subst}
-use Rattle.art_map.proofs.Asks.{on-err}
+use Rattle.art_operations.proofs.Common.{on-err}
 use Rattle.art_map.proofs.Terms.{IsFoundPart}
 use Rattle.art_map.proofs.map.TreeMap.block_with_prefix.Goals as goal
 

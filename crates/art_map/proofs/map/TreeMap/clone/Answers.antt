@@ -19,3 +19,6 @@ returns-clause-pairs g c = λ keys values.
 
 pub returns-clause-shape : goal.returns-clause-shape
 returns-clause-shape g c = rw (← c.self.view_is) (c.in_ok-try_clone.ensures.clones, refl)
+
+pub returns-clause-exact : goal.returns-clause-exact
+returns-clause-exact g c = rw (← c.self.view_is) c.in_ok-try_clone.ensures.exact

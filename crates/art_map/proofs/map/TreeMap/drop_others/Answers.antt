@@ -3,8 +3,9 @@ use Rattle.art_arena.specs.arena.Arena.{UsesRoom}
 use Rattle.std.specs.Map.Calls.{CalledAtPair, RetainsPairs, TakesPair}
 use Rattle.art_arena.specs.declared.ends.End.TheVariants.{First}
 use Rattle.art_map.proofs.Terms.{map_of, AddsNoLeaf, IsAsked, asking_by}
-use Rattle.art_map.proofs.Asks.{asked-long, asked-some, taken-long, callable-first, none-left, on-err, one-left, retained-all, retaining-all, retaining-kept, retaining-stopped, retaining-taken}
+use Rattle.art_map.proofs.Asks.{asked-long, asked-some, taken-long, callable-first, none-left, one-left, retained-all, retaining-all, retaining-kept, retaining-stopped, retaining-taken}
 use Rattle.art_map.proofs.LeafNames.{then-names}
+use Rattle.art_operations.proofs.Common.{on-err}
 use Rattle.art_operations.specs.Frees.{FreesLeaves}
 use Rattle.art_nodes.specs.declared.kind.NodeType.TheVariants.{Leaf}
 use Rattle.art_map.proofs.RoomKept.{UsesOfGone, gone-frees, gone-room, gone-uses, kinds-kept, none-gone, one-gone, same-gone}

@@ -18,7 +18,7 @@ split_into-requires g c =
         (
           c.requires.fits,
           (
-            (λ n. c.reserve_leaves.ensures.kept n ∙ c.new-arena.ensures n),
+            (λ n. c.reserve_leaves.ensures.kept n ∙ c.new-arena.ensures.none n),
             (omega (arith, over, long, len, many), (off, (c.in_ok-off_room.ensures.leaves, (c.in_ok-off_room.ensures.inner, subst (HasInnerRoom c.reserve_anew.new.self.nodes) (sym over) c.in_ok-room.ensures.inner)))),
           ),
         ),

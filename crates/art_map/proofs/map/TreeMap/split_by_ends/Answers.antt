@@ -8,7 +8,7 @@ use Rattle.art_map.proofs.map.TreeMap.split_by_ends.Goals as goal
 pub move_last-requires : goal.move_last-requires
 move_last-requires g c =
     let many = c.requires.many in
-    let none = c.reserve_insertions.ensures.pairs ∙ c.with_prefix_len-off.ensures in
+    let none = c.reserve_insertions.ensures.pairs ∙ c.with_prefix_len-off.ensures.pairs in
     let long = ap length c.reserve_removals.ensures.pairs in (
       omega arith,
       (
@@ -22,7 +22,7 @@ move_last-requires g c =
 
 pub returns-clause-joined : goal.returns-clause-joined
 returns-clause-joined g c =
-    c.move_last.ensures.joined ∙ ap₂ (λ xs ys. xs ++ ys) c.reserve_removals.ensures.pairs (c.reserve_insertions.ensures.pairs ∙ c.with_prefix_len-off.ensures) ∙ append-nil c.args.self.now.pairs
+    c.move_last.ensures.joined ∙ ap₂ (λ xs ys. xs ++ ys) c.reserve_removals.ensures.pairs (c.reserve_insertions.ensures.pairs ∙ c.with_prefix_len-off.ensures.pairs) ∙ append-nil c.args.self.now.pairs
 
 pub returns-clause-moved : goal.returns-clause-moved
 returns-clause-moved g c = c.move_last.ensures.moved ∙ ap length c.reserve_removals.ensures.pairs

@@ -3,7 +3,7 @@ use Rattle.std.proofs.lemmas.Bool.Decides.{nat_tests}
 use Rattle.std.proofs.lemmas.List.{append-nil}
 use Rattle.art_map.proofs.Joins.{all-from, below, from, last-moved, part-empty, parts-long}
 use Rattle.art_arena.proofs.Common.{HasRoomOf}
-use Rattle.art_arena.specs.arena.Arena.{UsesRoom}
+use Rattle.art_arena.specs.arena.Arena.{HasNoRoom, UsesRoom}
 use Rattle.art_nodes.specs.declared.kind.NodeType.TheVariants.{Leaf}
 use Rattle.art_operations.specs.Frees.{FreesLeaves}
 use Rattle.art_map.proofs.LeafNames.{kept-names}
@@ -23,7 +23,7 @@ returns-then-count-len-clause-pairs g c =
     let count = c.count_from-count in
     let same : count.result ≡ c.len.result = omega (arith, nat_tests, c.if-count-len.true) in
     let all = all-from g.K.AsBytes.bytes c.as_bytes.result.now c.args.self.now.pairs count.ensures.ordered (sym count.ensures.count ∙ same ∙ c.len.ensures) in
-    ap (λ m. m.pairs) c.swap.ensures.x_after ∙ c.with_prefix_len-off.ensures ∙ sym all.0 ∙ ap (λ q. below g.K.AsBytes.bytes q c.args.self.now.pairs) c.as_bytes.ensures.value
+    ap (λ m. m.pairs) c.swap.ensures.x_after ∙ c.with_prefix_len-off.ensures.pairs ∙ sym all.0 ∙ ap (λ q. below g.K.AsBytes.bytes q c.args.self.now.pairs) c.as_bytes.ensures.value
 
 pub split_last-requires : goal.split_last-requires
 split_last-requires g c =
@@ -58,16 +58,16 @@ long-off g c =
     omega (arith, both, moved)
 
 pub returns-then-count-len-clause-leaf_room : goal.returns-then-count-len-clause-leaf_room
-returns-then-count-len-clause-leaf_room g c = λ some. absurd (some (ap (λ m. m.pairs) c.swap.ensures.x_after ∙ c.with_prefix_len-off.ensures))
+returns-then-count-len-clause-leaf_room g c = λ some. absurd (some (ap (λ m. m.pairs) c.swap.ensures.x_after ∙ c.with_prefix_len-off.ensures.pairs))
 
 pub returns-then-count-len-clause-room : goal.returns-then-count-len-clause-room
-returns-then-count-len-clause-room g c = λ some. absurd (some (ap (λ m. m.pairs) c.swap.ensures.x_after ∙ c.with_prefix_len-off.ensures))
+returns-then-count-len-clause-room g c = λ some. absurd (some (ap (λ m. m.pairs) c.swap.ensures.x_after ∙ c.with_prefix_len-off.ensures.pairs))
 
 pub returns-then-count-len-clause-nothing : goal.returns-then-count-len-clause-nothing
-returns-then-count-len-clause-nothing g c = λ none some. absurd (some (ap (λ m. m.pairs) c.swap.ensures.x_after ∙ c.with_prefix_len-off.ensures))
+returns-then-count-len-clause-nothing g c = λ none some. absurd (some (ap (λ m. m.pairs) c.swap.ensures.x_after ∙ c.with_prefix_len-off.ensures.pairs))
 
 pub returns-then-count-len-clause-swapped : goal.returns-then-count-len-clause-swapped
-returns-then-count-len-clause-swapped g c = λ none. c.swap.ensures.y_after
+returns-then-count-len-clause-swapped g c = λ none. (c.swap.ensures.y_after, subst (λ m. HasNoRoom m.nodes) (sym c.swap.ensures.x_after) c.with_prefix_len-off.ensures.no_room)
 
 -- where none are taken
 pub returns-then-count-eq0-clause-off : goal.returns-then-count-eq0-clause-off
@@ -75,7 +75,7 @@ returns-then-count-eq0-clause-off g c =
     let count = c.count_from-count in
     let none : count.result ≡ 0 = omega (arith, nat_tests, c.if-count-eq0.true) in
     let parts = last-moved g.K.AsBytes.bytes c.as_bytes.result.now c.args.self.now.pairs c.args.self.now.pairs [] c.args.self.now.pairs [] count.result count.ensures.ordered count.ensures.count refl refl refl (omega (arith, none)) in
-    c.with_prefix_len.ensures ∙ parts.1 ∙ ap (λ q. from g.K.AsBytes.bytes q c.args.self.now.pairs) c.as_bytes.ensures.value
+    c.with_prefix_len.ensures.pairs ∙ parts.1 ∙ ap (λ q. from g.K.AsBytes.bytes q c.args.self.now.pairs) c.as_bytes.ensures.value
 
 pub returns-then-count-eq0-clause-pairs : goal.returns-then-count-eq0-clause-pairs
 returns-then-count-eq0-clause-pairs g c =
@@ -88,13 +88,13 @@ pub returns-then-count-eq0-clause-names : goal.returns-then-count-eq0-clause-nam
 returns-then-count-eq0-clause-names g c = λ slot key has still. has
 
 pub returns-then-count-eq0-clause-leaf_room : goal.returns-then-count-eq0-clause-leaf_room
-returns-then-count-eq0-clause-leaf_room g c = λ some n room. subst (HasRoomOf c.args.self.now.nodes Leaf) (let none = ap length c.with_prefix_len.ensures in omega (arith, none)) room
+returns-then-count-eq0-clause-leaf_room g c = λ some n room. subst (HasRoomOf c.args.self.now.nodes Leaf) (let none = ap length c.with_prefix_len.ensures.pairs in omega (arith, none)) room
 
 pub returns-then-count-eq0-clause-room : goal.returns-then-count-eq0-clause-room
 returns-then-count-eq0-clause-room g c = λ some. none-used-of c.args.self.now.nodes _
 
 pub returns-then-count-eq0-clause-nothing : goal.returns-then-count-eq0-clause-nothing
-returns-then-count-eq0-clause-nothing g c = λ none some. refl
+returns-then-count-eq0-clause-nothing g c = λ none some. (refl, c.with_prefix_len.ensures.no_room)
 
 pub returns-then-count-eq0-clause-swapped : goal.returns-then-count-eq0-clause-swapped
 returns-then-count-eq0-clause-swapped g c = λ none.

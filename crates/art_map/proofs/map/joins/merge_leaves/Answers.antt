@@ -3,10 +3,11 @@ use Rattle.art_nodes.specs.declared.kind.NodeType.TheVariants.{Leaf}
 use Rattle.art_arena.proofs.Common.{HasRoom}
 use Rattle.art_operations.proofs.Common.{StandsAhead, HasPairs, HoldsInOrder, ahead-of, in-order, inner-kept, inner-kept-of}
 use Rattle.art_operations.proofs.LeafListsMoved.{start_of}
+use Rattle.art_operations.proofs.Pushed.{same-leaves-names}
 use Rattle.art_map.proofs.Terms.{with_pairs_put}
 use Rattle.art_map.proofs.CutLeaves.{pairs-long}
 use Rattle.art_map.proofs.LeafNames.{then-names}
-use Rattle.art_map.proofs.Merged.{put-long, same-leaf-names}
+use Rattle.art_map.proofs.Merged.{put-long}
 use Rattle.art_map.proofs.RoomUsed.{still-room}
 use Rattle.art_map.proofs.map.joins.merge_leaves.Goals as goal
 use Rattle.art_map.proofs.map.joins.merge_leaves.Goals.{After-at_start-cursor}
@@ -56,8 +57,8 @@ returns-clause-tree g c = λ had has keys.
 
 pub returns-clause-names : goal.returns-clause-names
 returns-clause-names g c =
-    then-names g.K.AsBytes.bytes c.rebuild.new.arena c.put_along.new.arena c.args.arena.now (same-leaf-names g.K.AsBytes.bytes c.put_along.new.arena c.rebuild.new.arena c.rebuild.ensures.leaves)
-    (then-names g.K.AsBytes.bytes c.put_along.new.arena c.keep_leaves-first.new.arena c.args.arena.now c.put_along.ensures.names (same-leaf-names g.K.AsBytes.bytes c.args.arena.now c.keep_leaves-first.new.arena c.keep_leaves-first.ensures.leaves))
+    then-names g.K.AsBytes.bytes c.rebuild.new.arena c.put_along.new.arena c.args.arena.now (same-leaves-names g.K.AsBytes.bytes c.put_along.new.arena c.rebuild.new.arena c.rebuild.ensures.leaves)
+    (then-names g.K.AsBytes.bytes c.put_along.new.arena c.keep_leaves-first.new.arena c.args.arena.now c.put_along.ensures.names (same-leaves-names g.K.AsBytes.bytes c.args.arena.now c.keep_leaves-first.new.arena c.keep_leaves-first.ensures.leaves))
 
 pub returns-clause-leaf_room : goal.returns-clause-leaf_room
 returns-clause-leaf_room g c = λ had has keys n room.

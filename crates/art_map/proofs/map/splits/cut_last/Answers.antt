@@ -1,10 +1,11 @@
-use Rattle.std.proofs.Common.{◌+◌, ◌-◌, length, sym, subst, arith}
+use Rattle.std.proofs.Common.{◌-◌, sym, subst, arith}
 use Rattle.art_nodes.specs.declared.kind.NodeType.TheVariants.{Leaf}
 use Rattle.art_arena.proofs.Common.{HasRoom, pairs_of}
 use Rattle.art_operations.proofs.Common.{HasInnerRoom, HoldsInOrder, inner-kept, inner-kept-of}
+use Rattle.art_operations.proofs.LeafListsPut.{kept-names}
 use Rattle.art_map.proofs.CutLeaves.{all-before, joined, left-long, left-order, long-before, moved-long, moved-order, pairs-left-long}
 use Rattle.art_map.proofs.LeafNames.{then-names}
-use Rattle.art_map.proofs.Merged.{kept-leaf-names, same-leaf-names-back}
+use Rattle.art_map.proofs.Merged.{same-leaf-names-back}
 use Rattle.art_map.proofs.RoomKept.{kinds-kept}
 use Rattle.art_map.proofs.map.splits.cut_last.Goals as goal
 
@@ -72,7 +73,7 @@ returns-clause-cut g c = λ had has_pairs.
 pub returns-clause-names : goal.returns-clause-names
 returns-clause-names g c =
     then-names g.K.AsBytes.bytes c.args.arena.now c.after_leaves-cursor.new.arena c.rebuild-left.new.arena (same-leaf-names-back g.K.AsBytes.bytes c.args.arena.now c.after_leaves-cursor.new.arena c.after_leaves-cursor.ensures.leaves)
-    (then-names g.K.AsBytes.bytes c.after_leaves-cursor.new.arena c.move_leaves-first.new.from c.rebuild-left.new.arena (kept-leaf-names g.K.AsBytes.bytes c.move_leaves-first.new.from c.after_leaves-cursor.new.arena c.move_leaves-first.ensures.none_new)
+    (then-names g.K.AsBytes.bytes c.after_leaves-cursor.new.arena c.move_leaves-first.new.from c.rebuild-left.new.arena (kept-names g.K.AsBytes.bytes c.move_leaves-first.new.from c.after_leaves-cursor.new.arena c.move_leaves-first.ensures.none_new)
     (same-leaf-names-back g.K.AsBytes.bytes c.move_leaves-first.new.from c.rebuild-left.new.arena c.rebuild-left.ensures.leaves))
 
 pub returns-clause-leaf_room : goal.returns-clause-leaf_room

@@ -12,7 +12,7 @@ returns-in-Ok-clause-pairs g c = λ pairs has.
     let tree = c.in-Ok.ensures.ok in (
       subst (Builds g.K.AsBytes.bytes g.row.PREFIX_LEN c.in-Ok.arena c.in-Ok.builder) same tree.0,
       subst (AllByRecursion (λ p. g.K.AsBytes.is_key p.0)) same tree.1,
-      ap (λ m. m.pairs) c.replace.ensures.after ∙ c.with_prefix_len-empty.ensures,
+      ap (λ m. m.pairs) c.replace.ensures.after ∙ c.with_prefix_len-empty.ensures.pairs,
     )
 
 pub returns-in-Ok-clause-names : goal.returns-in-Ok-clause-names

@@ -1,8 +1,9 @@
 use Rattle.std.proofs.Common.{refl, sym, subst}
+use Rattle.std.proofs.lemmas.Result.{IfErr-weaker, IfOk-weaker}
 use Rattle.std.specs.Fn.{FnOnceReturnsAt}
 use Rattle.art_map.specs.PrefixEntries.{Occupied}
 use Rattle.art_map.proofs.Terms.{prefix_key}
-use Rattle.art_map.proofs.Entries.{err-more, err-never, ok-more}
+use Rattle.art_map.proofs.Entries.{err-never}
 use Rattle.art_map.proofs.PrefixEntries.{no-value, stored-leaves}
 use Rattle.art_map.proofs.map.prefix_entry.methods.PrefixEntry+K+V+PREFIX_LEN.or_insert_with_key.Goals as goal
 
@@ -22,8 +23,8 @@ returns-in-None g c =
       (refl, c.insert.follows.holds, c.insert.follows.holds-at-none),
       record {
         writes_back = tt;
-        value = ok-more c.insert.result (λ lent same. rw none (subst Gives (sym same) gave)) c.insert.ensures.value;
-        handed_back = err-more c.insert.result (λ refused back. (back.0, back.1, subst Gives (sym back.2) gave, back.3)) c.insert.ensures.handed_back;
+        value = IfOk-weaker c.insert.result _ _ (λ lent same. rw none (subst Gives (sym same) gave)) c.insert.ensures.value;
+        handed_back = IfErr-weaker c.insert.result _ _ (λ refused back. (back.0, back.1, subst Gives (sym back.2) gave, back.3)) c.insert.ensures.handed_back;
       },
     )
 
@@ -35,7 +36,7 @@ returns-in-Vacant g c =
       (refl, (λ w ok. let put = c.insert-in-Vacant.follows.holds w ok in (put.0, (λ slot key has still. put.1 slot key has), put.2)), c.insert-in-Vacant.follows.holds-at-none),
       record {
         writes_back = tt;
-        value = ok-more c.insert-in-Vacant.result (λ lent same. subst Gives (sym same) gave) c.insert-in-Vacant.ensures.value;
+        value = IfOk-weaker c.insert-in-Vacant.result _ _ (λ lent same. subst Gives (sym same) gave) c.insert-in-Vacant.ensures.value;
         handed_back = err-never c.insert-in-Vacant.result (λ refused back never. (refl, back.0, subst Gives (sym back.1) gave, never)) c.insert-in-Vacant.ensures.handed_back c.insert-in-Vacant.ensures.succeeds;
       },
     )

@@ -1,8 +1,9 @@
 use Rattle.std.proofs.Common.{refl, sym, subst}
+use Rattle.std.proofs.lemmas.Result.{IfErr-weaker, IfOk-weaker}
 use Rattle.std.specs.Fn.{FnOnceReturnsAt}
 use Rattle.art_map.specs.PrefixEntries.{Occupied}
 use Rattle.art_map.proofs.Terms.{occupied_kind, prefix_key}
-use Rattle.art_map.proofs.Entries.{err-more, err-never, ok-more}
+use Rattle.art_map.proofs.Entries.{err-never}
 use Rattle.art_map.proofs.PrefixEntries.{no-error, no-value, same-fills, written-fills}
 use Rattle.art_map.proofs.map.prefix_entry.methods.PrefixEntry+K+V+PREFIX_LEN.or_insert_with_key_entry.Goals as goal
 
@@ -12,7 +13,7 @@ returns-in-Some g c =
       (refl, c.give.follows.holds, c.give.follows.holds-at-none),
       record {
         rests = tt;
-        filled = ok-more c.give.result (λ d same. same-fills (occupied_kind c.in-Occupied.entry) _ d same) c.give.ensures.same;
+        filled = IfOk-weaker c.give.result _ _ (λ d same. same-fills (occupied_kind c.in-Occupied.entry) _ d same) c.give.ensures.same;
         handed_back = no-error c.give.result _ c.give.ensures.ok;
       },
     )
@@ -26,8 +27,8 @@ returns-in-None g c =
       (refl, c.insert_entry.follows.holds, c.insert_entry.follows.holds-at-none),
       record {
         rests = tt;
-        filled = ok-more c.insert_entry.result (λ d is. written-fills (occupied_kind c.in-Occupied.entry) _ d none c.default-value.result gave is) c.insert_entry.ensures.written;
-        handed_back = err-more c.insert_entry.result (λ refused back. (back.0, back.1, subst Gives (sym back.2) gave, back.3)) c.insert_entry.ensures.handed_back;
+        filled = IfOk-weaker c.insert_entry.result _ _ (λ d is. written-fills (occupied_kind c.in-Occupied.entry) _ d none c.default-value.result gave is) c.insert_entry.ensures.written;
+        handed_back = IfErr-weaker c.insert_entry.result _ _ (λ refused back. (back.0, back.1, subst Gives (sym back.2) gave, back.3)) c.insert_entry.ensures.handed_back;
       },
     )
 
@@ -39,7 +40,7 @@ returns-in-Vacant g c =
       (refl, c.insert_entry-in-Vacant.follows.holds, c.insert_entry-in-Vacant.follows.holds-at-none),
       record {
         rests = tt;
-        filled = ok-more c.insert_entry-in-Vacant.result (λ d is. (c.default-value-in-Vacant.result, gave, is)) c.insert_entry-in-Vacant.ensures.written;
+        filled = IfOk-weaker c.insert_entry-in-Vacant.result _ _ (λ d is. (c.default-value-in-Vacant.result, gave, is)) c.insert_entry-in-Vacant.ensures.written;
         handed_back = err-never c.insert_entry-in-Vacant.result (λ refused back never. (refl, back.0, subst Gives (sym back.1) gave, never)) c.insert_entry-in-Vacant.ensures.handed_back c.insert_entry-in-Vacant.ensures.succeeds;
       },
     )
