@@ -1,23 +1,12 @@
 -- A closure that is asked of keys in turn, and what is left after a call.
 use Rattle.std.proofs.Common.{◌≡◌, ◌<◌, ℕ, suc, length, Bool, true, false, cond, List, [], ◌∷◌, ◌++◌, Option, Some, None, Result, Ok, Err, refl, sym, ap, ◌∙◌, subst, inl, inr, arith, append_assoc, length-append}
-use Rattle.std.specs.Prelude.{IfOk, OnErr, filter}
+use Rattle.std.specs.Prelude.{IfOk, OnErr}
 use Rattle.std.specs.List.{items_where_true}
 use Rattle.std.specs.List.Retain.{ExtractsNext, IsFiltered}
 use Rattle.art_arena.proofs.Common.{AscendsByKey, Shrinks}
-use Rattle.art_bytes.proofs.Common.{IsBefore}
 use Rattle.art_operations.proofs.Common.{without_key, taken}
+use Rattle.art_map.proofs.Common.{ascends-filter}
 use Rattle.art_set.proofs.Terms.{AnswersForKey, AskingKeys, CallableOnEachKey, KeysComeOf, ExtractsKey, StopsAtKey}
-use Rattle.art_walks.proofs.Common.{all-filter}
-
-module _ {X : Type 0} (key : X → List ℕ) where
-  -- part of an ascending list ascends
-  pub ascending-filter : (p : X → Bool) (xs : List X) → AscendsByKey key xs → AscendsByKey key (filter p xs)
-  ascending-filter p [] h = tt
-  ascending-filter p (x ∷ xs) h = pick (p x) (ascending-filter p xs h.1)
-    where
-      pick : (b : Bool) → AscendsByKey key (filter p xs) → AscendsByKey key (cond b (x ∷ filter p xs) (filter p xs))
-      pick true rest = (all-filter (λ y. IsBefore (key x) (key y)) p xs h.0, rest)
-      pick false rest = rest
 
 module _ {K F : Type 0} (T : F → K → Bool → F → Type 0) where
   module _ (Q : F → K → Type 0) where
@@ -151,7 +140,7 @@ module _ {K F : Type 0} (T : F → K → Bool → F → Type 0) where
           record {
             kept = so.kept;
             keys_are = taken-keys m.left m.keys left keys;
-            ascend = subst (AscendsByKey bytes) (sym keys) (ascending-filter bytes _ s.keys so.ascend);
+            ascend = subst (AscendsByKey bytes) (sym keys) (ascends-filter bytes _ s.keys so.ascend);
             callable = callable-after Q s.asks m.asks x s.left m.left left so.callable false call;
             retains = λ ys h. so.retains ys (subst (λ ks. IsFiltered T s.asks ks ys) (sym left) (filtered-first s.asks m.asks x m.left ys false call h));
             stops = λ k ys h. so.stops k ys (subst (λ ks. StopsAtKey T s.asks ks k ys) (sym left) (false, m.asks, call, inr (ys, h, refl)));

@@ -1,6 +1,6 @@
 -- A set's keys, from the pairs of the map that holds them.
-use Rattle.std.proofs.Common.{Result, Ok, Err, ◌≡◌, ◌⊎◌, ℕ, Bool, true, false, not, cond, List, [], ◌∷◌, Option, Some, None, refl, sym, ap, ◌∙◌, subst, inl, inr}
-use Rattle.std.specs.Prelude.{IfNone, IfOk, OnOk, OnSome, filter, find, is_some}
+use Rattle.std.proofs.Common.{◌≡◌, ◌⊎◌, ℕ, Bool, true, false, not, cond, List, [], ◌∷◌, Option, Some, None, refl, sym, ap, ◌∙◌, subst, inl, inr}
+use Rattle.std.specs.Prelude.{IfNone, OnSome, filter, find, is_some}
 use Rattle.std.specs.Bool.{OnFalse, OnTrue}
 use Rattle.std.specs.List.{AllZip, list_any}
 use Rattle.std.specs.Map.{keys_of, lookup, lookup_entry}
@@ -16,15 +16,6 @@ use Rattle.art_map.proofs.Common.{with_pairs_put, has_bytes, last_item, pairs_be
 use Rattle.art_operations.proofs.Common.{HasKey, HasKeyAt, IsBlocked, KeepsLeavesOf, without_key, IsAtEnd, ShrinksAtEnd, with_pair_put}
 use Rattle.art_operations.proofs.LeafPairs.{shrinks-map}
 use Rattle.art_set.proofs.Terms.{keys_between, key_if_some, with_key_put, with_keys_put, KeyShrinksAtEnd}
-
--- what follows where it was answered
-pub on-ok : {A E P Q : Type 0} (r : Result A E) → (P → Q) → OnOk r P → OnOk r Q
-on-ok (Ok x) f p = f p
-on-ok (Err e) f p = tt
-
-pub if-ok : {A E : Type 0} (r : Result A E) (P Q : A → Type 0) → ((a : A) → P a → Q a) → IfOk r P → IfOk r Q
-if-ok (Ok x) P Q f p = f x p
-if-ok (Err e) P Q f p = tt
 
 -- where no key was there, there was no pair
 pub none-key : {K V : Type 0} (A : Type 0) (o : Option (K × V)) (r : Option K) → r ≡ key_if_some o → IfNone o A → IfNone r A
@@ -138,9 +129,3 @@ clone-keys C D (p ∷ ps) (q ∷ qs) h = (h.0.0, clone-keys C D ps qs h.1)
 -- each key that stays keeps its leaf
 pub kept-names : {K V : Type 0} (bytes : K → List ℕ) (ps : List (K × V)) (old new : Arena K V) → KeepsLeavesOf bytes ps old new → (slot : ℕ) (key : List ℕ) → HasKeyAt bytes old slot key → HasKey bytes key (keys_of ps) → HasKeyAt bytes new slot key
 kept-names bytes ps old new kept slot key at has = kept slot key at (has-pair bytes key ps has)
-
--- and so where a call succeeded
-pub names-if-ok : {K V A E : Type 0} (bytes : K → List ℕ) (ps : List (K × V)) (old new : Arena K V) (r : Result A E) → OnOk r (KeepsLeavesOf bytes ps old new)
-    → OnOk r ((slot : ℕ) (key : List ℕ) → HasKeyAt bytes old slot key → HasKey bytes key (keys_of ps) → HasKeyAt bytes new slot key)
-names-if-ok bytes ps old new (Ok x) kept = kept-names bytes ps old new kept
-names-if-ok bytes ps old new (Err e) kept = tt

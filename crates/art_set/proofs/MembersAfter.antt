@@ -1,6 +1,7 @@
 -- What is a member after a change and of a merge, how many keys there are then, and which. Callers cite these lemmas.
 use Rattle.std.proofs.Common.{◌≡◌, ◌⊎◌, inl, inr, ℕ, suc, ◌+◌, Bool, true, false, cond, not, ◌||◌, List, [], ◌∷◌, length, Some, bytes_eq, refl, sym, ap, ap₂, subst, ◌∙◌, arith}
 use Rattle.std.specs.Prelude.{◌&&◌, ◌↔◌, filter, find}
+use Rattle.std.proofs.Math.Bool.{and_comm, or-true, or_comm}
 use Rattle.std.proofs.lemmas.List.Filters.{length-filter_both}
 use Rattle.art_bytes.proofs.Common.{IsBefore}
 use Rattle.art_bytes.specs.Keys.{is_below}
@@ -18,11 +19,7 @@ use Rattle.art_set.specs.Merges.{intersection_of, symmetric_difference_of, union
 key-there : {K : Type 0} (bytes : K → List ℕ) (k : List ℕ) (keys : List K) → HasKey bytes k keys → is_member bytes k keys ≡ true
 key-there bytes k [] (x, i, e) = absurd i
 key-there bytes k (y ∷ ys) (x, inl f, e) = ap (λ b. b || is_member bytes k ys) (same_key (bytes y) k (ap bytes f ∙ e))
-key-there bytes k (y ∷ ys) (x, inr j, e) = ap (λ b. bytes_eq (bytes y) k || b) (key-there bytes k ys (x, j, e)) ∙ always (bytes_eq (bytes y) k)
-  where
-    always : (b : Bool) → (b || true) ≡ true
-    always true = refl
-    always false = refl
+key-there bytes k (y ∷ ys) (x, inr j, e) = ap (λ b. bytes_eq (bytes y) k || b) (key-there bytes k ys (x, j, e)) ∙ or-true (bytes_eq (bytes y) k)
 
 there-key : {K : Type 0} (bytes : K → List ℕ) (k : List ℕ) (keys : List K) → is_member bytes k keys ≡ true → HasKey bytes k keys
 there-key bytes k [] e = absurd (cc)
@@ -31,13 +28,6 @@ there-key bytes k (y ∷ ys) e = by_test (bytes_eq (bytes y) k) refl e (there-ke
     by_test : (b : Bool) → bytes_eq (bytes y) k ≡ b → (b || is_member bytes k ys) ≡ true → (is_member bytes k ys ≡ true → HasKey bytes k ys) → HasKey bytes k (y ∷ ys)
     by_test true at e later = (y, inl refl, bytes_from_same (bytes y) k at)
     by_test false at e later = let (x, i, same) = later e in (x, inr i, same)
-
--- a test and another, the other way round
-either-way : (a b : Bool) → (a && b) ≡ (b && a)
-either-way true true = refl
-either-way true false = refl
-either-way false true = refl
-either-way false false = refl
 
 module _ {K : Type 0} where
   pub in-retained-keys : (test : K → Bool) (q : K) (keys : List K) → IsIn q (filter test keys) ↔ (IsIn q keys × (test q ≡ true))
@@ -73,10 +63,10 @@ module _ {K : Type 0} (bytes : K → List ℕ) where
     member-cut front keys = member-retained (λ l. not (begins_with front l)) keys
 
     pub member-both : (xs ys : List K) → is_member bytes query (intersection_of bytes xs ys) ≡ (is_member bytes query xs && is_member bytes query ys)
-    member-both xs ys = member-retained (λ l. is_member bytes l ys) xs ∙ either-way (is_member bytes query ys) (is_member bytes query xs)
+    member-both xs ys = member-retained (λ l. is_member bytes l ys) xs ∙ and_comm (is_member bytes query ys) (is_member bytes query xs)
 
     pub member-alone : (xs ys : List K) → is_member bytes query (difference_of bytes xs ys) ≡ (is_member bytes query xs && not (is_member bytes query ys))
-    member-alone xs ys = member-retained (λ l. not (is_member bytes l ys)) xs ∙ either-way (not (is_member bytes query ys)) (is_member bytes query xs)
+    member-alone xs ys = member-retained (λ l. not (is_member bytes l ys)) xs ∙ and_comm (not (is_member bytes query ys)) (is_member bytes query xs)
 
     member-below : (x : K) (ys : List K) → is_member bytes query (put_below bytes x ys) ≡ (bytes_eq (bytes x) query || is_member bytes query ys)
     member-below x [] = refl
@@ -111,13 +101,7 @@ module _ {K : Type 0} (bytes : K → List ℕ) where
     pub member-one : (xs ys : List K) → is_member bytes query (symmetric_difference_of bytes xs ys) ≡ ((is_member bytes query xs && not (is_member bytes query ys)) || (is_member bytes query ys && not (is_member bytes query xs)))
     member-one xs ys =
         member-among (difference_of bytes ys xs) (difference_of bytes xs ys) ∙ ap₂ (λ a b. a || b) (member-alone ys xs) (member-alone xs ys)
-        ∙ so (is_member bytes query xs && not (is_member bytes query ys)) (is_member bytes query ys && not (is_member bytes query xs))
-      where
-        so : (a b : Bool) → (b || a) ≡ (a || b)
-        so true true = refl
-        so true false = refl
-        so false true = refl
-        so false false = refl
+        ∙ or_comm (is_member bytes query ys && not (is_member bytes query xs)) (is_member bytes query xs && not (is_member bytes query ys))
 
   -- how many there are
   pub long-key-inserted : (k : K) (keys : List K) → AscendsByKey bytes keys → length (with_key_put bytes k keys) ≡ cond (is_member bytes (bytes k) keys) (length keys) (suc (length keys))

@@ -223,7 +223,3 @@ module _ {K : Type 0} (p q : K → Bool) (turned_test : (x : K) → q x ≡ not 
   none-came xs rest t None false e takes is = absurd (cc)
   none-came xs rest t (Some x) true e takes is = absurd (cc)
   none-came xs rest t (Some x) false e takes is = sym (one-fails xs x.now t (sym e ∙ takes))
-
-pub not-twice : (b : Bool) → b ≡ not (not b)
-not-twice true = refl
-not-twice false = refl

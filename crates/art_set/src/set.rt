@@ -58,7 +58,8 @@ impl<K: AsBytes> TreeSet<K, DEFAULT_PREFIX_LEN> {
     /// set.insert(*b"ab")?;
     /// ```
     pub fn new(alloc: Global) -> Self
-        ensures { result.keys ≡ [] }
+        ensures keys { result.keys ≡ [] }
+        ensures no_room { HasNoRoom result.nodes }
     {
         TreeSet::with_prefix_len(alloc)
     }
@@ -73,7 +74,8 @@ impl<K: AsBytes, const PREFIX_LEN: usize> TreeSet<K, PREFIX_LEN> {
     /// assert_eq!(rt; set.len(), 1);
     /// ```
     pub fn with_prefix_len(alloc: Global) -> Self
-        ensures { result.keys ≡ [] }
+        ensures keys { result.keys ≡ [] }
+        ensures no_room { HasNoRoom result.nodes }
     {
         TreeSet {
             alloc,

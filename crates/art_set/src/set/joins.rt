@@ -2,7 +2,8 @@
 ghost use Rattle.std.specs.Prelude.{◌≡◌, ◌≢◌, ◌⊎◌, ◌-◌, ◌*◌, ◌<◌, ◌^◌, [], length, IfOk, IsOk, OnErr, OnOk};
 ghost use Rattle.std.specs.List.{AllZip};
 ghost use Rattle.std.specs.declared.ops.Bound.TheVariants.{Included, Excluded, Unbounded};
-ghost use Rattle.art_arena.specs.arena.Arena.{HasRoom, UsesRoom};
+ghost use Rattle.art_arena.specs.arena.Arena.{HasNoRoom, HasRoom, UsesRoom};
+ghost use Rattle.art_arena.specs.arena.ArenaClones.{HasNoSpare};
 ghost use Rattle.art_operations.specs.Frees.{FreesLeaves};
 ghost use Rattle.art_map.specs.Room.{UsesLeafRoom};
 ghost use Rattle.art_set.specs.LeafNames.{IsSetClone, IsSetUntouched, KeepsAllNames, KeepsNames};
@@ -47,8 +48,10 @@ impl<K: AsBytes, const PREFIX_LEN: usize> TreeSet<K, PREFIX_LEN> {
             → FreesLeaves (length off.keys) self.old.nodes self.new.nodes) }
         ensures room { IfOk result (λ off. self.new.keys ≢ []
             → UsesRoom (4 * length off.keys) self.old.nodes self.new.nodes) }
-        ensures nothing { IfOk result (λ off. off.keys ≡ [] → self.new.keys ≢ [] → self.new ≡ self.old) }
-        ensures swapped { IfOk result (λ off. self.new.keys ≡ [] → off ≡ self.old) }
+        ensures nothing { IfOk result (λ off. off.keys ≡ [] → self.new.keys ≢ []
+            → (self.new ≡ self.old) × HasNoRoom off.nodes) }
+        ensures swapped { IfOk result (λ off. self.new.keys ≡ []
+            → (off ≡ self.old) × HasNoRoom self.new.nodes) }
     {
         let alloc = self.alloc;
         let map = self.map.split_off(key)?;
@@ -75,6 +78,7 @@ impl<K: AsBytes, const PREFIX_LEN: usize> TreeSet<K, PREFIX_LEN> {
         ensures clones { IfOk result (λ copy. AllZip K.is_clone self.now.keys copy.keys) }
         ensures keys { ((k c : K) → K.is_clone k c → c ≡ k) → IfOk result (λ copy. copy.keys ≡ self.now.keys) }
         ensures shape { IfOk result (IsSetClone K.is_clone self.now) }
+        ensures exact { IfOk result (λ copy. HasNoSpare self.now.nodes copy.nodes) }
     {
         let map = self.map.clone()?;
         Ok(TreeSet {
@@ -106,6 +110,7 @@ impl<K: NoPrefixesBytes + Drop, const PREFIX_LEN: usize> TreeSet<K, PREFIX_LEN> 
     pub fn append(&mut self, other: &mut Self) -> Result<(), AllocError>
         ensures keys { OnOk result (self.new.keys ≡ with_keys_put K.bytes other.old.keys self.old.keys) }
         ensures emptied { OnOk result (other.new.keys ≡ []) }
+        ensures freed { OnOk result (self.old.keys ≢ [] → other.old.keys ≢ [] → HasNoRoom other.new.nodes) }
         ensures names { OnOk result (KeepsAllNames K.bytes self.old self.new) }
         ensures err { OnErr result ((self.new.keys ≡ self.old.keys) × (other.new.keys ≡ other.old.keys)) }
         ensures kept { OnErr result (IsSetUntouched self.old self.new × IsSetUntouched other.old other.new) }

@@ -1,16 +1,17 @@
 use Rattle.std.proofs.Common.{ap, ap₂, ◌∙◌, ◌-◌, ◌*◌, sym, subst}
 use Rattle.std.proofs.lemmas.List.{length-map}
+use Rattle.std.proofs.lemmas.Result.{on_ok_weaker}
 use Rattle.std.specs.Map.{keys_of}
 use Rattle.art_arena.proofs.Common.{HasRoom}
 use Rattle.art_arena.specs.arena.Arena.{UsesRoom}
 use Rattle.art_map.specs.Room.{UsesLeafRoom}
-use Rattle.art_set.proofs.KeyViews.{keys-put-all, no-pair, no-pair-either, on-ok}
+use Rattle.art_set.proofs.KeyViews.{keys-put-all, no-pair, no-pair-either}
 use Rattle.art_set.specs.Members.{members}
 use Rattle.art_set.proofs.set.TreeSet.append.Goals as goal
 
 pub returns-clause-keys : goal.returns-clause-keys
 returns-clause-keys g c = rw (← c.self.view_is, ← c.other.view_is)
-    (on-ok c.append.result (λ e. ap keys_of e ∙ keys-put-all g.K.AsBytes.bytes c.other.inside.map.pairs c.self.inside.map.pairs) c.append.ensures.pairs)
+    (on_ok_weaker c.append.result (λ e. ap keys_of e ∙ keys-put-all g.K.AsBytes.bytes c.other.inside.map.pairs c.self.inside.map.pairs) c.append.ensures.pairs)
 
 pub returns-clause-free : goal.returns-clause-free
 returns-clause-free g c = rw (← c.self.view_is, ← c.other.view_is) (λ h. c.append.ensures.free (no-pair-either c.self.inside.map.pairs c.other.inside.map.pairs h))
@@ -29,10 +30,14 @@ returns-clause-succeeds g c = rw (← c.self.view_is, ← c.other.view_is)
 
 pub returns-clause-leaf_room : goal.returns-clause-leaf_room
 returns-clause-leaf_room g c = rw (← c.self.view_is)
-    (on-ok c.append.result (λ uses some. subst (λ n. UsesLeafRoom n c.self.inside.map.nodes c.append.new.self.nodes)
+    (on_ok_weaker c.append.result (λ uses some. subst (λ n. UsesLeafRoom n c.self.inside.map.nodes c.append.new.self.nodes)
     (ap₂ (λ a b. a - b) (sym (length-map c.append.new.self.pairs (λ p. p.0))) (sym (length-map c.self.inside.map.pairs (λ p. p.0)))) (uses (λ e. some (ap keys_of e)))) c.append.ensures.leaf_room)
 
 pub returns-clause-room : goal.returns-clause-room
 returns-clause-room g c = rw (← c.self.view_is, ← c.other.view_is)
-    (on-ok c.append.result (λ uses some. subst (λ n. UsesRoom (4 * n) c.self.inside.map.nodes c.append.new.self.nodes)
+    (on_ok_weaker c.append.result (λ uses some. subst (λ n. UsesRoom (4 * n) c.self.inside.map.nodes c.append.new.self.nodes)
     (sym (length-map c.other.inside.map.pairs (λ p. p.0))) (uses (λ e. some (ap keys_of e)))) c.append.ensures.room)
+
+pub returns-clause-freed : goal.returns-clause-freed
+returns-clause-freed g c = rw (← c.self.view_is, ← c.other.view_is)
+    (on_ok_weaker c.append.result (λ freed some others. freed (λ e. some (ap keys_of e)) (λ e. others (ap keys_of e))) c.append.ensures.freed)

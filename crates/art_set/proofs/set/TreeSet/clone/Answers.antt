@@ -11,3 +11,6 @@ returns-clause-keys g c = rw (← c.self.view_is) (λ same. ap keys_of (c.in_ok-
 
 pub returns-clause-shape : goal.returns-clause-shape
 returns-clause-shape g c = rw (← c.self.view_is) c.in_ok-map.ensures.shape
+
+pub returns-clause-exact : goal.returns-clause-exact
+returns-clause-exact g c = rw (← c.self.view_is) c.in_ok-map.ensures.exact

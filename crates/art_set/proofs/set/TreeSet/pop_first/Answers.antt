@@ -1,5 +1,5 @@
 use Rattle.art_arena.specs.declared.ends.End.TheVariants.{First}
-use Rattle.art_map.proofs.Common.{on-err}
+use Rattle.art_operations.proofs.Common.{on-err}
 use Rattle.art_set.proofs.KeyViews.{kept-names, none-key, shrinks-at-end, some-key}
 use Rattle.art_set.proofs.set.TreeSet.pop_first.Goals as goal
 

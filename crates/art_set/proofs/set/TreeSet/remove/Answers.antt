@@ -1,7 +1,7 @@
 use Rattle.std.proofs.Common.{ap, ◌∙◌}
 use Rattle.std.specs.Prelude.{is_some}
 use Rattle.std.proofs.lemmas.Map.Made.{is_some-lookup}
-use Rattle.art_map.proofs.Common.{on-err}
+use Rattle.art_operations.proofs.Common.{on-err}
 use Rattle.art_set.proofs.KeyViews.{has-key, kept-names, keys-without, none-found, shrinking, some-found}
 use Rattle.art_set.proofs.set.TreeSet.remove.Goals as goal
 

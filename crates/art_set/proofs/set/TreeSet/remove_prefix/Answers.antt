@@ -1,22 +1,23 @@
 use Rattle.std.proofs.Common.{ℕ, ◌*◌, length, ap, subst, ◌∙◌}
 use Rattle.std.specs.Prelude.{IfOk, OnErr}
 use Rattle.std.specs.Map.{keys_of}
+use Rattle.std.proofs.lemmas.Result.{IfOk-weaker, on_ok_weaker}
 use Rattle.art_operations.proofs.Common.{OpeningReads}
 use Rattle.art_walks.proofs.Common.{PairsWithin}
 use Rattle.art_map.proofs.Common.{AreCutVisits, ShrinksAtCut}
 use Rattle.art_set.proofs.KeyPairs.{keys-beside, many-after, with-units}
-use Rattle.art_set.proofs.KeyViews.{if-ok, names-if-ok, on-ok}
+use Rattle.art_set.proofs.KeyViews.{kept-names}
 use Rattle.art_set.proofs.set.TreeSet.remove_prefix.Goals as goal
 
 pub returns-clause-keys : goal.returns-clause-keys
 returns-clause-keys g c =
     rw (← c.self.view_is)
-    (on-ok c.remove_prefix.result (λ e. ap keys_of e ∙ keys-beside g.K.AsBytes.bytes c.args.prefix.now c.self.inside.map.pairs) c.remove_prefix.ensures.pairs)
+    (on_ok_weaker c.remove_prefix.result (λ e. ap keys_of e ∙ keys-beside g.K.AsBytes.bytes c.args.prefix.now c.self.inside.map.pairs) c.remove_prefix.ensures.pairs)
 
 pub returns-clause-count : goal.returns-clause-count
 returns-clause-count g c =
     rw (← c.self.view_is)
-    (if-ok c.remove_prefix.result _ _ (λ done e. e ∙ many-after g.K.AsBytes.bytes c.args.prefix.now c.self.inside.map.pairs) c.remove_prefix.ensures.count)
+    (IfOk-weaker c.remove_prefix.result _ _ (λ done e. e ∙ many-after g.K.AsBytes.bytes c.args.prefix.now c.self.inside.map.pairs) c.remove_prefix.ensures.count)
 
 pub returns-clause-visits : goal.returns-clause-visits
 returns-clause-visits g c =
@@ -36,7 +37,7 @@ returns-clause-shrinks g c =
 pub returns-clause-names : goal.returns-clause-names
 returns-clause-names g c =
     rw (← c.self.view_is)
-    (names-if-ok g.K.AsBytes.bytes c.remove_prefix.new.self.pairs c.self.inside.map.nodes c.remove_prefix.new.self.nodes c.remove_prefix.result c.remove_prefix.ensures.names)
+    (on_ok_weaker c.remove_prefix.result (kept-names g.K.AsBytes.bytes c.remove_prefix.new.self.pairs c.self.inside.map.nodes c.remove_prefix.new.self.nodes) c.remove_prefix.ensures.names)
 
 pub returns-clause-kept_room : goal.returns-clause-kept_room
 returns-clause-kept_room g c = rw (← c.self.view_is) c.remove_prefix.ensures.kept_room

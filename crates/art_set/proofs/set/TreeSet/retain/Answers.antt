@@ -2,9 +2,9 @@ use Rattle.std.proofs.Common.{true, false, Ok, Err, length, refl, sym, ap, subst
 use Rattle.std.specs.Fn.{CalledAt, TakesAt}
 use Rattle.std.specs.Map.{keys_of}
 use Rattle.art_arena.proofs.Common.{Shrinks, key_of}
-use Rattle.art_map.proofs.Common.{on-err, left_of, map_of}
+use Rattle.art_map.proofs.Common.{left_of, map_of}
 use Rattle.art_map.proofs.RoomKept.{UsesOfGone, none-gone, one-gone, same-gone}
-use Rattle.art_operations.proofs.Common.{HasKey, KeepsLeavesOf, same-names}
+use Rattle.art_operations.proofs.Common.{HasKey, KeepsLeavesOf, on-err, same-names}
 use Rattle.art_set.proofs.Terms.{StopsAtKey}
 use Rattle.art_set.proofs.AskedKeys.{callable-next, retained-all, retaining-all, retaining-kept, retaining-stopped, retaining-taken, some-left, taken-long}
 use Rattle.art_set.proofs.AskedPairs.{asking_by, contents-back, contents_of, first-left, first-passed, frees-keys, none-first, one-less, refused-key, room-keys, taken-key, then-kept, uses-keys}

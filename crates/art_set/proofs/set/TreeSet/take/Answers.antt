@@ -1,5 +1,5 @@
 use Rattle.std.proofs.Common.{ap, ◌∙◌}
-use Rattle.art_map.proofs.Common.{on-err}
+use Rattle.art_operations.proofs.Common.{on-err}
 use Rattle.art_set.proofs.Terms.{key_if_some}
 use Rattle.art_set.proofs.KeyViews.{found, has-key, kept-names, keys-without, none-key, shrinking, some-key}
 use Rattle.art_set.proofs.set.TreeSet.take.Goals as goal
