@@ -1,5 +1,5 @@
 -- The pairs of a map that have moved into another so far.
-use Rattle.std.proofs.Common.{◌≡◌, ◌==◌, ℕ, Bool, true, length, List, [], ◌∷◌, ◌++◌, Some, None, refl, sym, ap, subst, ◌∙◌, append_assoc, arith, eqb-true}
+use Rattle.std.proofs.Common.{◌≡◌, ◌==◌, ℕ, Bool, true, length, List, [], ◌∷◌, ◌++◌, Some, refl, sym, ap, subst, ◌∙◌, append_assoc, arith, eqb-true}
 use Rattle.std.proofs.lemmas.List.{append-nil}
 use Rattle.art_arena.proofs.Common.{key_of, AscendsByKey}
 use Rattle.art_map.proofs.Common.{first_item, with_pairs_put}
@@ -15,11 +15,7 @@ module _ {V : Type 0} where
   abbrev pub MovedSoFar : Pairs V → Pairs V → Pairs V → Pairs V → Type 0
   MovedSoFar all old left now = (moved : Pairs V) × (all ≡ moved ++ left) × (now ≡ with_pairs_put whole moved old)
 
-  -- none yet
-  pub none-moved : (all old : Pairs V) → MovedSoFar all old all old
-  none-moved all old = ([], refl, refl)
-
-  -- one more
+  -- one more was
   pub one-moved : (all old left now rest new : Pairs V) → MovedSoFar all old left now → MovesFirst left now rest new
       → MovedSoFar all old rest new
   one-moved all old left now rest new (moved, are, put) (p, first, is) = (
@@ -51,11 +47,7 @@ module _ {V : Type 0} where
   first-leaves [] rest p q e is = absurd (cc)
   first-leaves (r ∷ left) rest p q e is = cc
 
-  -- how it ends by the first pair that is left
-  pub none-left : (left now : Pairs V) → None ≡ first_item left → MoveEnds left now Done
-  none-left [] now e = refl
-  none-left (p ∷ left) now e = absurd (cc)
-
+  -- where the first pair that is left was refused, it ends there
   pub first-stays : (left now : Pairs V) (p : List ℕ × V) (code : Code) → Some p ≡ first_item left
       → IsPutRefused p.0 now code now → MoveEnds left now code
   first-stays [] now p code e refused = absurd (cc)

@@ -14,7 +14,6 @@ use Rattle.art_c.specs.Calls.{whole}
 use Rattle.art_c.specs.Handles.{Pairs}
 use Rattle.art_c.specs.Prefixes.{AreFirstTaken, IsNextWith, without_keys}
 use Rattle.art_c.specs.Spans.{while_so}
-use Rattle.art_c.specs.Walks.{words_code}
 use Rattle.art_c.specs.declared.code.Code.TheVariants.{NoMemory}
 use Rattle.art_c.proofs.Walks.{WordsOut, one-word}
 
@@ -97,10 +96,6 @@ module _ (prefix : List ℕ) where
       let so : has-it q ≡ true = sym e ∙ on in
       rw so (ap₂ (λ x xs. x ∷ while_so has-it xs) same others)
 
-  none-next : (left : Pairs ℕ) (b : Bool) → b ≡ false → IsNextWith prefix left b → while_so has-it left ≡ []
-  none-next [] b off e = refl
-  none-next (q ∷ left) b off e = let no : has-it q ≡ false = sym e ∙ off in rw no refl
-
   -- one more pair is gone
   without-more : (ps : Pairs ℕ) (p : List ℕ × ℕ) (old : Pairs ℕ)
       → without_keys (ps ++ p ∷ []) old ≡ without_key (key_of whole) p.0 (without_keys ps old)
@@ -128,19 +123,7 @@ module _ (prefix : List ℕ) where
         gone = less ∙ ap (without_key (key_of whole) p.0) c.gone ∙ sym (without-more c.out.given p old);
       }
 
-      -- it ends: there is no other, or no place, or no memory
-      pub all-taken : b ≡ false → AreFirstTaken prefix first old x (count, words_code count false) now words
-      all-taken off = (
-        c.out.given,
-        [],
-        c.out.are ∙ ap (λ ps. c.out.given ++ ps) (none-next left b off e),
-        c.out.fit,
-        c.gone,
-        c.out.words_are,
-        c.out.count_is,
-        ap (λ n. words_code n false) c.out.count_is,
-      )
-
+      -- it ends where there is no memory
       pub take-refused : (p : List ℕ × ℕ) (rest new : Pairs ℕ) → b ≡ true → left ≡ p ∷ rest → new ≡ now
           → Shrinks (key_of whole) now p.0 → AreFirstTaken prefix first old x (count, NoMemory) new words
       take-refused p rest new on is same shrinks = (

@@ -26,7 +26,6 @@ use Rattle.std_alloc.proofs.ResultValues.{and_tt}
 use Rattle.art_c.specs.contracts.handle.loose.Loose as loose
 use Rattle.art_c.specs.contracts.handle.held.Held as held
 use Rattle.art_c.specs.Held.{Kept, chunk, store_row, held_owns}
-use Rattle.core.specs.Option.{IsSome}
 use Rattle.core.specs.declared.option.Option.{Option}
 use Rattle.core.specs.declared.option.Option.TheVariants.{None, Some}
 
@@ -86,11 +85,6 @@ module _ {M : Type 1} {𝓤 : Ura M} {𝓛 : Logic 𝓤} {K : Type 0} {Γ : List
   held_none t = step (λ s. let v : Val = word null_ptr in
       nothing t $ nothing t $ feq_i t (List Val) (ptr_val null_ptr ∷ []) (ptr_val null_ptr ∷ []) refl $ fjoin t $ feq_i t (List Val) (v ∷ []) (v ∷ []) refl $ fjoin t $
       fpack t (Valss (RawPtr ∷ [])) (within (shape held.the_type) (null_ptr, tt) (v ∷ [])) (ptr_val null_ptr ∷ [], tt) $ fjoin t $ s)
-
--- an option that is not `None`
-pub the_some : {X : Type 0} (o : Option X) → IsSome o → (x : X) × (o ≡ Some x)
-the_some None h = absurd (cc)
-the_some (Some x) h = (x, refl)
 
 abbrev pub none_kept : Option Kept
 none_kept = None

@@ -142,18 +142,6 @@ module _ (line before after : List ℕ) (old new : State) where
         (may_refuse old.records line (asks_all w) memory meant (all_lawful d memory (asks_all w) old.records old.records line found refl meant h)) (counted, ahead)
 
   module _ (none : command_of line ≡ None) (same : new.records ≡ old.records) (ahead : new.ahead ≡ old.ahead) where
-    pub not_read : after ≡ before ++ line_of (name (codes "bad") ∷ []) → new.reads ≡ old.reads ++ 0 ∷ [] → IsLineAnswered false 0 line old new before after
-    not_read output counted = record {
-      output = output ∙ ap (λ t. before ++ t) (bad_told old.records line (sym none));
-      left = same ∙ bad_left old.records line (sym none);
-      lawful = λ e. absurd (false≢true e);
-      within = none_read false None old.records line (sym none) refl;
-      short = subst (λ o. IsShort o 0) (sym none) tt;
-      own_path = subst (λ o. ReadsOwnPath o old.records 0) (sym none) tt;
-      counted = counted;
-      ahead = ahead;
-    }
-
     pub not_read_cut : IsCut before after (line_of (name (codes "bad") ∷ [])) → new.reads ≡ old.reads → IsCutLine old line before after new
     not_read_cut cut counted =
         cut_line false old new line before after _ (bad_told old.records line (sym none)) cut

@@ -8,11 +8,10 @@ use Rattle.art_bytes.proofs.Common.{pair_key, big_endian, flipped, BeginsWith, I
 use Rattle.std.specs.List.{AllByRecursion, find}
 use Rattle.std.specs.Int.{to_be_bytes, w32, w64}
 use Rattle.std.proofs.lemmas.Slice.Eq.{bytes_eq-Decides}
-use Rattle.art_arena.proofs.Common.{AscendsByKey, begins_with, all_at, begins_true}
+use Rattle.art_arena.proofs.Common.{AscendsByKey, begins_with, all_at, begins_true, all_weaker}
 use Rattle.art_lines.proofs.Common.{get, find as find_front, nget, Command, of_tenant, full_key}
 use Rattle.art_engine.proofs.Terms.{exactly, path_nodes, visits_of, IsWithin, IsShort, IsOwnPath, ReadsOwnPath, full_key_of, number_key_of, KeyRecord, NumberRecord, Records, AreRecords, IsOfTenant, InOrder, KeyComesBefore, NumberComesBefore, KeyFits, NumberFits, own}
 use Rattle.art_engine.proofs.Counting.{own_path, path_is_short, found_record}
-use Rattle.art_engine.proofs.Filters.{All-map}
 use Rattle.art_engine.proofs.FullKeys.{full_before}
 use Rattle.art_engine.proofs.NumberKeys.{HaveBytes, tested_before}
 use Rattle.art_engine.proofs.OwnLaws.{key_part, number_part}
@@ -27,7 +26,7 @@ records_ascend [] fits order = tt
 records_ascend (r ∷ rs) fits order = (before_all r rs fits.0 fits.1 order.0, records_ascend rs fits.1 order.1)
 
 are_small : (records : Records) → AreRecords records → AllByRecursion IsOfTenant records.keys
-are_small records are = All-map KeyFits IsOfTenant (λ r fits. fits.tenant_fits) records.keys are.keys_fit
+are_small records are = all_weaker KeyFits IsOfTenant (λ r fits. fits.tenant_fits) records.keys are.keys_fit
 
 -- of a tenant's key that begins with a prefix, the full key begins with the prefix's
 begins_fully : (t : ℕ) (j k : List ℕ) → BeginsWith j k → BeginsWith (full_key t j) (full_key t k)
@@ -73,8 +72,8 @@ path_of_number : (t : ℕ) (n : ℤ) (records : Records) → AreRecords records 
     → IsOwnPath number_key_of (λ r. r.tenant) t (pair_key (t, n)) records.numbers (path_nodes number_key_of records.numbers (pair_key (t, n)))
 path_of_number t n records are some =
     let rs = records.numbers in
-    let fits : AllByRecursion HasBytes rs = All-map NumberFits HasBytes (λ r h. (h.tenant_fits, h.number_fits)) rs are.numbers_fit in
-    let small : AllByRecursion IsSmall rs = All-map NumberFits IsSmall (λ r h. h.tenant_fits) rs are.numbers_fit in
+    let fits : AllByRecursion HasBytes rs = all_weaker NumberFits HasBytes (λ r h. (h.tenant_fits, h.number_fits)) rs are.numbers_fit in
+    let small : AllByRecursion IsSmall rs = all_weaker NumberFits IsSmall (λ r h. h.tenant_fits) rs are.numbers_fit in
     let f = found_record (λ (r : NumberRecord). r.tenant) number_part t (λ m. int_eq m n) rs some in
     let mine : f.0.tenant ≡ t = f.2 in
     let at : f.0.key ≡ n = (Decides-int_eq f.0.key n).0 f.3 in

@@ -6,14 +6,14 @@ use Rattle.std.specs.List.{AllByRecursion, find}
 use Rattle.std.specs.Int.{to_be_bytes, w32}
 use Rattle.std.proofs.lemmas.Bool.{cond_both, eq-eqb, eqb-true}
 use Rattle.art_bytes.proofs.Common.{BeginsWith, common_prefix}
-use Rattle.art_arena.proofs.Common.{IsIn, distinct, AscendsByKey, path_of, begins_with, with_front, without_front, crossings, tree_of, Tree, items, IsCanonical, tree_of_ascending, tenant_path, few_crossings}
+use Rattle.art_arena.proofs.Common.{IsIn, distinct, AscendsByKey, path_of, begins_with, with_front, without_front, crossings, tree_of, Tree, items, IsCanonical, tree_of_ascending, tenant_path, few_crossings, all_weaker}
 use Rattle.art_arena.proofs.tree.Blocks.{front_is_block}
 use Rattle.art_arena.proofs.tree.Landing.{path_same}
 use Rattle.art_arena.proofs.tree.Sizes.{path_length as path_short}
 use Rattle.art_walks.proofs.Common.{path_length}
 use Rattle.art_engine.proofs.Terms.{path_nodes, fronts_shared, IsOwnPath}
 use Rattle.art_lines.proofs.Common.{full_key}
-use Rattle.art_engine.proofs.Filters.{All-map, filter-same}
+use Rattle.art_engine.proofs.Filters.{filter-same}
 use Rattle.art_engine.proofs.FullTests.{begins_full}
 use Rattle.std.proofs.Math.Bool.{and-true}
 
@@ -32,7 +32,7 @@ module _ {X : Type 0} (key : X → List ℕ) (tenant_of : X → ℕ) (rest_of : 
   begins x fits = ap (begins_with front) (keys_are x) ∙ begins_full t (tenant_of x) [] (rest_of x) small fits ∙ and-true (tenant_of x == t)
 
   pub own_records : (xs : List X) → AreSmall xs → with_front key front xs ≡ mine xs
-  own_records xs fits = filter-same (λ x. begins_with front (key x)) (λ x. tenant_of x == t) xs (All-map (λ x. tenant_of x < 2 ^ 32) (λ x. begins_with front (key x) ≡ (tenant_of x == t)) begins xs fits)
+  own_records xs fits = filter-same (λ x. begins_with front (key x)) (λ x. tenant_of x == t) xs (all_weaker (λ x. tenant_of x < 2 ^ 32) (λ x. begins_with front (key x) ≡ (tenant_of x == t)) begins xs fits)
 
   -- what it shares with other records is what it shares with their tenants
   abbrev others : List X → List X
@@ -47,7 +47,7 @@ module _ {X : Type 0} (key : X → List ℕ) (tenant_of : X → ℕ) (rest_of : 
   others_met : (xs : List X) → AreSmall xs → map met_key (without_front key front xs) ≡ map met_tenant (others xs)
   others_met xs fits =
       ap (map met_key) (filter-same (λ x. not (begins_with front (key x))) (λ x. not (tenant_of x == t)) xs
-      (All-map (λ x. tenant_of x < 2 ^ 32) (λ x. not (begins_with front (key x)) ≡ not (tenant_of x == t)) (λ x low. ap not (begins x low)) xs fits))
+      (all_weaker (λ x. tenant_of x < 2 ^ 32) (λ x. not (begins_with front (key x)) ≡ not (tenant_of x == t)) (λ x low. ap not (begins x low)) xs fits))
       ∙ same_met (others xs)
     where
       same_met : (xs : List X) → map met_key xs ≡ map met_tenant xs

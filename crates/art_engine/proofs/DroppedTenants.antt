@@ -4,8 +4,8 @@ use Rattle.std.specs.Prelude.{◌==◌, ◌&&◌, nat_lt, filter, codes}
 use Rattle.std.specs.Int.{w64}
 use Rattle.std.specs.List.{AllByRecursion}
 use Rattle.art_bytes.proofs.Common.{BeginsWith, common_prefix, pair_key, big_endian, flipped}
-use Rattle.art_arena.proofs.Common.{IsLimit, begins_with, with_front, without_front, in_map, in_unmap}
-use Rattle.art_map.proofs.Common.{cut_visits}
+use Rattle.art_arena.proofs.Common.{IsLimit, begins_with, with_front, without_front, in_map, in_unmap, all_weaker}
+use Rattle.art_map.proofs.Common.{ascends-filter, cut_visits}
 use Rattle.art_operations.proofs.Common.{node_count, OpeningReads, ShrinksWithout, width_of-map, without-shrinks}
 use Rattle.art_operations.proofs.NodeCounts.{counted-map}
 use Rattle.art_engine.specs.declared.drop_tenant.Dropped.{Dropped}
@@ -16,11 +16,13 @@ use Rattle.art_engine.specs.Dropped.{IsDropDone}
 use Rattle.art_engine.proofs.Changing.{itself, keys_are}
 use Rattle.art_engine.proofs.Conflicts.{bytes_of}
 use Rattle.art_engine.proofs.Dropping.{All-left_out}
-use Rattle.art_engine.proofs.Filters.{All-filter, All-map, filter-alike, length-map}
+use Rattle.art_engine.proofs.Filters.{filter-alike}
+use Rattle.art_walks.proofs.Common.{all-filter}
+use Rattle.std.proofs.lemmas.List.{length-map, nil_from_length}
 use Rattle.art_engine.proofs.FullTests.{begins_full}
 use Rattle.art_engine.proofs.Listings.{longest_by_keys, within_longest}
 use Rattle.art_engine.proofs.NumberKeys.{HaveBytes}
-use Rattle.art_engine.proofs.NumberPlaces.{number_bytes, number_keys_are, StandsUnder, stand_all, numbers_without, ascends-filter}
+use Rattle.art_engine.proofs.NumberPlaces.{number_bytes, number_keys_are, StandsUnder, stand_all, numbers_without}
 use Rattle.art_engine.proofs.OwnPrefixes.{begin_keys, begin_numbers, own_is_under_prefix}
 use Rattle.art_engine.proofs.OwnLaws.{key_made, number_made, records_from_lists}
 use Rattle.art_engine.proofs.Putting.{pairs_of_tenant}
@@ -30,11 +32,6 @@ use Rattle.art_engine.proofs.Removing.{IsFullTest, without_keeps, without_is}
 none_left : {X : Type 0} (xs : List X) → filter (λ (x : X). not true) xs ≡ []
 none_left [] = refl
 none_left (x ∷ xs) = none_left xs
-
--- what has no length is empty
-no_length : {X : Type 0} (xs : List X) → length xs ≡ 0 → xs ≡ []
-no_length [] e = refl
-no_length (x ∷ xs) e = absurd (omega arith)
 
 -- the loss of what begins with a front shrinks as much, whether items or what they are mapped to have the keys
 without-unmapped : {X Y : Type 0} (f : X → Y) (key : Y → List ℕ) (xs : List X) (front : List ℕ) → ShrinksWithout key (map f xs) front → ShrinksWithout (λ x. key (f x)) xs front
@@ -82,14 +79,14 @@ full_after : (t : ℕ) → t < 2 ^ 32 → (ps : List Pair) → AllByRecursion Is
     → map full_key_of (filter (λ (r : KeyRecord). r.tenant == t) (map record_of ps)) ≡ map bytes_of (with_front bytes_of (full_key t []) ps)
 full_after t small ps full fits =
     filter-alike full_key_of record_of bytes_of (λ p. begins_with (full_key t []) p.0.items) (λ r. r.tenant == t) ps
-    (begin_keys t small ps full fits) (All-map IsFull (λ p. full_key_of (record_of p) ≡ bytes_of p) (λ p e. sym e) ps full)
+    (begin_keys t small ps full fits) (all_weaker IsFull (λ p. full_key_of (record_of p) ≡ bytes_of p) (λ p e. sym e) ps full)
 
 -- and so are the bytes of its numbers
 numbers_after : (t : ℕ) → t < 2 ^ 32 → (ns : List NumberPair) → AllByRecursion StandsUnder ns
     → map number_key_of (filter (λ (r : NumberRecord). r.tenant == t) (map number_record_of ns)) ≡ map number_bytes (with_front number_bytes (full_key t []) ns)
 numbers_after t small ns stand =
     filter-alike number_key_of number_record_of number_bytes (λ p. begins_with (full_key t []) p.0) (λ r. r.tenant == t) ns
-    (begin_numbers t small ns stand) (All-map StandsUnder (λ p. number_key_of (number_record_of p) ≡ number_bytes p) (λ p under. sym under.key) ns stand)
+    (begin_numbers t small ns stand) (all_weaker StandsUnder (λ p. number_key_of (number_record_of p) ≡ number_bytes p) (λ p under. sym under.key) ns stand)
 
 -- no bytes of a number are longer than the longest of the records
 pub all_numbers_within : (ns : List NumberPair) → AllByRecursion IsNumberPair ns → AllByRecursion (λ p. length p.0 ≤ longest number_key_of (map number_record_of ns)) ns
@@ -128,8 +125,8 @@ module _ (t : ℕ) (small : t < 2 ^ 32) (ps : List Pair) (ns : List NumberPair) 
 
   pub numbers_kept : AreNumberPairs numbers_left
   numbers_kept = record {
-    stand = All-filter IsNumberPair (λ p. not (begins_with front p.0)) ns nums.stand;
-    ascend = ascends-filter (λ p. not (begins_with front p.0)) ns nums.ascend;
+    stand = all-filter IsNumberPair (λ p. not (begins_with front p.0)) ns nums.stand;
+    ascend = ascends-filter number_bytes (λ p. not (begins_with front p.0)) ns nums.ascend;
     fit = All-left_out NumberFits number_record_of (λ p. not (begins_with front p.0)) ns nums.fit;
   }
 
@@ -143,10 +140,10 @@ module _ (t : ℕ) (small : t < 2 ^ 32) (ps : List Pair) (ns : List NumberPair) 
 
   -- the tenant has as many as begin so
   keys_counted : length (own t old).keys ≡ length (with_front bytes_of front ps)
-  keys_counted = ap (λ (o : Own). length o.keys) (own_is_under_prefix t ps ns small are.stand nums) ∙ length-map _ (with_front bytes_of front ps)
+  keys_counted = ap (λ (o : Own). length o.keys) (own_is_under_prefix t ps ns small are.stand nums) ∙ length-map (with_front bytes_of front ps) _
 
   numbers_counted : length (own t old).numbers ≡ length (with_front number_bytes front ns)
-  numbers_counted = ap (λ (o : Own). length o.numbers) (own_is_under_prefix t ps ns small are.stand nums) ∙ length-map _ (with_front number_bytes front ns)
+  numbers_counted = ap (λ (o : Own). length o.numbers) (own_is_under_prefix t ps ns small are.stand nums) ∙ length-map (with_front number_bytes front ns) _
 
   module _ (new_ps : List Pair) (new_ns : List NumberPair) where
     pub drop_done : (k n v : ℕ) → new_ps ≡ keys_left → new_ns ≡ numbers_left → k ≡ length (with_front bytes_of front ps) → n ≡ length (with_front number_bytes front ns)
@@ -161,13 +158,13 @@ module _ (t : ℕ) (small : t < 2 ^ 32) (ps : List Pair) (ns : List NumberPair) 
     pub keys_refused : new_ps ≡ ps → new_ns ≡ ns → (with_front bytes_of front ps ≢ []) × ShrinksWithout bytes_of ps front → IsDropDone dropped.Memory t old (all_records_of new_ps new_ns)
     keys_refused same same_numbers h = (
       ap₂ all_records_of same same_numbers,
-      inl ((λ none. h.0 (no_length _ (sym keys_counted ∙ ap length none))), without_by_keys bytes_of full_key_of ps (map record_of ps) front (keys_are ps are.stand.full) h.1),
+      inl ((λ none. h.0 (nil_from_length _ (sym keys_counted ∙ ap length none))), without_by_keys bytes_of full_key_of ps (map record_of ps) front (keys_are ps are.stand.full) h.1),
     )
 
     pub numbers_refused : new_ps ≡ ps → new_ns ≡ ns → (with_front number_bytes front ns ≢ []) × ShrinksWithout number_bytes ns front → IsDropDone dropped.Memory t old (all_records_of new_ps new_ns)
     numbers_refused same same_numbers h = (
       ap₂ all_records_of same same_numbers,
-      inr ((λ none. h.0 (no_length _ (sym numbers_counted ∙ ap length none))), without_by_keys number_bytes number_key_of ns (map number_record_of ns) front (number_keys_are ns nums.stand) h.1),
+      inr ((λ none. h.0 (nil_from_length _ (sym numbers_counted ∙ ap length none))), without_by_keys number_bytes number_key_of ns (map number_record_of ns) front (number_keys_are ns nums.stand) h.1),
     )
 
   -- the nodes below the prefix are given by the tenant's records

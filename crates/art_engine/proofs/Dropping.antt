@@ -3,7 +3,9 @@ use Rattle.std.proofs.Common.{◌≡◌, ℕ, ◌≤◌, List, [], ◌∷◌, �
 use Rattle.std.specs.Prelude.{◌==◌, ◌&&◌, nat_lt, map, filter, option_map}
 use Rattle.std.specs.List.{AllByRecursion, find}
 use Rattle.std.proofs.lemmas.Bool.{cond_both, ne_eqb, ltb-true}
-use Rattle.art_engine.proofs.Filters.{All-filter, All-map, filter-both, filter-inside, filter-same, map-filter}
+use Rattle.art_engine.proofs.Filters.{filter-both, filter-inside, filter-same, map-filter}
+use Rattle.art_walks.proofs.Common.{all-filter}
+use Rattle.art_arena.proofs.Common.{all_weaker}
 use Rattle.art_arena.proofs.Common.{put_in_order, is_before}
 use Rattle.art_engine.proofs.Terms.{InOrder}
 use Rattle.art_engine.proofs.OwnLaws.{Ascends, in_place}
@@ -12,7 +14,7 @@ pub InOrder-filter : {X : Type 0} (B : X → X → Type 0) (p : X → Bool) (xs 
 InOrder-filter B p [] h = tt
 InOrder-filter B p (x ∷ xs) h =
     let ih = InOrder-filter B p xs h.1 in
-    cond_both (p x) (x ∷ filter p xs) (filter p xs) (InOrder B) (λ e. (All-filter (B x) p xs h.0, ih)) (λ e. ih)
+    cond_both (p x) (x ∷ filter p xs) (filter p xs) (InOrder B) (λ e. (all-filter (B x) p xs h.0, ih)) (λ e. ih)
 
 -- what holds of all holds of all that is left
 pub All-left_out : {X Y : Type 0} (P : Y → Type 0) (f : X → Y) (q : X → Bool) (xs : List X) → AllByRecursion P (map f xs) → AllByRecursion P (map f (filter q xs))
@@ -68,7 +70,7 @@ module _ {X P : Type 0} (tenant_of : X → ℕ) (part_of : X → P) (t : ℕ) (T
   left_mine xs h =
       ap (map part_of)
       (sym (filter-both (λ x. not (T x)) mine xs) ∙ filter-same (λ x. not (T x) && mine x) (λ x. mine x && not (G (part_of x))) xs
-      (All-map IsOwnTest (λ x. (not (T x) && mine x) ≡ (mine x && not (G (part_of x)))) (λ x is. ap (λ b. not b && mine x) is ∙ of_mine (mine x) (G (part_of x))) xs h)
+      (all_weaker IsOwnTest (λ x. (not (T x) && mine x) ≡ (mine x && not (G (part_of x)))) (λ x is. ap (λ b. not b && mine x) is ∙ of_mine (mine x) (G (part_of x))) xs h)
       ∙ filter-both mine (λ x. not (G (part_of x))) xs)
       ∙ map-filter part_of (λ p. not (G p)) (filter mine xs)
     where
@@ -78,7 +80,7 @@ module _ {X P : Type 0} (tenant_of : X → ℕ) (part_of : X → P) (t : ℕ) (T
 
   others_stay : (p : X → Bool) → ((x : X) → p x ≡ true → (tenant_of x == t) ≡ false) → (xs : List X) → AllByRecursion IsOwnTest xs → filter p (left xs) ≡ filter p xs
   others_stay p other xs h = filter-inside p (λ x. not (T x)) xs
-      (All-map IsOwnTest (λ x. p x ≡ true → not (T x) ≡ true) (λ x is e. ap not (is ∙ ap (λ b. b && G (part_of x)) (other x e))) xs h)
+      (all_weaker IsOwnTest (λ x. p x ≡ true → not (T x) ≡ true) (λ x is e. ap not (is ∙ ap (λ b. b && G (part_of x)) (other x e))) xs h)
 
   pub left_before : (xs : List X) → AllByRecursion IsOwnTest xs → filter (λ x. nat_lt (tenant_of x) t) (left xs) ≡ filter (λ x. nat_lt (tenant_of x) t) xs
   left_before xs h = others_stay (λ x. nat_lt (tenant_of x) t) (λ x e. let lt = ltb-true (tenant_of x) t e in ne_eqb (tenant_of x) t (λ k. omega arith)) xs h

@@ -13,7 +13,7 @@ use Rattle.art_lines.specs.Reading.{command_of}
 use Rattle.art_engine.proofs.Terms.{KeyRecord, NumberRecord, KeyFits, NumberFits}
 use Rattle.art_engine.proofs.Dumping.{words_put, words_nput}
 use Rattle.art_engine.proofs.LineLemmas.{last_of, last_of-append, all_but_last, whole_are, unfinished_is}
-use Rattle.art_engine.proofs.Filters.{All-map, All-append}
+use Rattle.art_arena.proofs.Common.{all_weaker, all_append}
 
 -- no byte is this one
 abbrev Free : ℕ → List ℕ → Type 0
@@ -36,7 +36,7 @@ abbrev Plain : Word → Type 0
 Plain w = AllByRecursion (λ b. 45 ≤ b) (shown w)
 
 free_of : (c : ℕ) → c < 45 → (xs : List ℕ) → AllByRecursion (λ b. 45 ≤ b) xs → Free c xs
-free_of c low xs h = All-map (λ b. 45 ≤ b) (λ b. (b == c) ≡ false) (λ b high. ne_eqb b c (λ e. omega arith)) xs h
+free_of c low xs h = all_weaker (λ b. 45 ≤ b) (λ b. (b == c) ≡ false) (λ b high. ne_eqb b c (λ e. omega arith)) xs h
 
 glyph_high : (d : ℕ) → 45 ≤ digit_glyph false d
 glyph_high d = cond_both (nat_lt d 10) _ _ (λ glyph. 45 ≤ glyph) (λ e. omega arith) (λ e. omega arith)
@@ -93,10 +93,10 @@ OneLine ws = Free 10 (text_of ws)
 one_line : (w : Word) (ws : List Word) → AllByRecursion Plain (w ∷ ws) → OneLine (w ∷ ws)
 one_line w [] h = free_of 10 (omega arith) (shown w) h.0
 one_line w (v ∷ ws) h =
-    All-append (λ b. (b == 10) ≡ false) (shown w) (32 ∷ text_of (v ∷ ws)) (free_of 10 (omega arith) (shown w) h.0) (refl, one_line v ws h.1)
+    all_append (λ b. (b == 10) ≡ false) (shown w) (32 ∷ text_of (v ∷ ws)) (free_of 10 (omega arith) (shown w) h.0) (refl, one_line v ws h.1)
 
 plain_back : (ws : List Word) → AllByRecursion ReadBack ws → AllByRecursion Plain ws
-plain_back ws h = All-map ReadBack Plain (λ w r. r.0) ws h
+plain_back ws h = all_weaker ReadBack Plain (λ w r. r.0) ws h
 
 put_back : (r : KeyRecord) → KeyFits r → AllByRecursion ReadBack (words_put r)
 put_back r fits =

@@ -5,7 +5,7 @@ use Rattle.std.proofs.lemmas.Grind.{flat_map-append}
 use Rattle.art_lines.specs.Words.{Word}
 use Rattle.art_lines.proofs.Common.{text_of, line_of, put_words, nput_words, end_words, IsPartTaken, taken_from, taken_longer}
 use Rattle.art_engine.proofs.Terms.{KeyRecord, NumberRecord, KeyFits, NumberFits, key_lines, number_lines, dump_of, Pair, NumberPair, record_of, number_record_of, all_records_of}
-use Rattle.art_engine.proofs.Filters.{length-map}
+use Rattle.std.proofs.lemmas.List.{length-map}
 
 abbrev pub words_put : KeyRecord → List Word
 words_put r = put_words r.tenant r.key r.value
@@ -39,7 +39,7 @@ pub dump_all : (ps : List Pair) (ns : List NumberPair)
 dump_all ps ns =
     let keys : List (List Word) = key_lines (all_records_of ps ns) in let numbers : List (List Word) = number_lines (all_records_of ps ns) in
     let count : ℕ = length (map record_of ps) + length (map number_record_of ns) in
-    let counted : length ps + length ns ≡ count = ap₂ (λ a b. a + b) (sym (length-map record_of ps)) (sym (length-map number_record_of ns)) in
+    let counted : length ps + length ns ≡ count = ap₂ (λ a b. a + b) (sym (length-map ps record_of)) (sym (length-map ns number_record_of)) in
     ap (λ n. flat_map line_of keys ++ (flat_map line_of numbers ++ line_of (end_words n))) counted
     ∙ ap (λ e. flat_map line_of keys ++ (flat_map line_of numbers ++ e)) (sym (append-nil (line_of (end_words count))))
     ∙ sym (append_assoc (flat_map line_of keys) (flat_map line_of numbers) (flat_map line_of (end_words count ∷ [])))

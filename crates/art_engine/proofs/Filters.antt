@@ -1,8 +1,10 @@
 -- Filters of lists, one within another, and what holds of all elements.
-use Rattle.std.proofs.Common.{◌≡◌, suc, List, [], ◌∷◌, ◌++◌, length, refl, ap, ap₂, sym, ◌∙◌, Bool, true, false, cond}
+use Rattle.std.proofs.Common.{◌≡◌, List, [], ◌∷◌, refl, ap, ap₂, sym, ◌∙◌, Bool, true, false, cond}
 use Rattle.std.specs.Prelude.{◌&&◌, map, filter}
 use Rattle.std.proofs.lemmas.Bool.{cond_both, false_from_ne_true, true≢false}
 use Rattle.std.specs.List.{AllByRecursion}
+use Rattle.art_arena.proofs.tree.Filters.{filter-map}
+use Rattle.art_walks.proofs.Common.{all-filter}
 
 module _ {X : Type 0} where
   -- what holds of each element holds of all in a list
@@ -42,56 +44,10 @@ module _ {X : Type 0} where
       go true ih = ap (λ l. cond (q x) (x ∷ l) l) ih
       go false ih = ih
 
-  pub All-passes : (p : X → Bool) (xs : List X) → AllByRecursion (λ x. p x ≡ true) (filter p xs)
-  All-passes p [] = tt
-  All-passes p (x ∷ xs) = let ih = All-passes p xs in cond_both (p x) (x ∷ filter p xs) (filter p xs) (AllByRecursion (λ x. p x ≡ true)) (λ e. (e, ih)) (λ e. ih)
-
-  pub All-filter : (P : X → Type 0) (p : X → Bool) (xs : List X) → AllByRecursion P xs → AllByRecursion P (filter p xs)
-  All-filter P p [] h = tt
-  All-filter P p (x ∷ xs) h = let ih = All-filter P p xs h.1 in cond_both (p x) (x ∷ filter p xs) (filter p xs) (AllByRecursion P) (λ e. (h.0, ih)) (λ e. ih)
-
-  pub filter-all : (p : X → Bool) (xs : List X) → AllByRecursion (λ x. p x ≡ true) xs → filter p xs ≡ xs
-  filter-all p [] h = refl
-  filter-all p (x ∷ xs) h = let first = h.0 in rw first (ap (λ l. x ∷ l) (filter-all p xs h.1))
-
-  pub filter-none : (p : X → Bool) (xs : List X) → AllByRecursion (λ x. p x ≡ false) xs → filter p xs ≡ []
-  filter-none p [] h = refl
-  filter-none p (x ∷ xs) h = let first = h.0 in rw first (filter-none p xs h.1)
-
-  pub All-map : (P Q : X → Type 0) → ((x : X) → P x → Q x) → (xs : List X) → AllByRecursion P xs → AllByRecursion Q xs
-  All-map P Q f [] h = tt
-  All-map P Q f (x ∷ xs) h = (f x h.0, All-map P Q f xs h.1)
-
-  pub All-append : (P : X → Type 0) (xs ys : List X) → AllByRecursion P xs → AllByRecursion P ys → AllByRecursion P (xs ++ ys)
-  All-append P [] ys h k = k
-  All-append P (x ∷ xs) ys h k = (h.0, All-append P xs ys h.1 k)
-
-  pub All-left : (P : X → Type 0) (xs ys : List X) → AllByRecursion P (xs ++ ys) → AllByRecursion P xs
-  All-left P [] ys h = tt
-  All-left P (x ∷ xs) ys h = (h.0, All-left P xs ys h.1)
-
-  pub All-right : (P : X → Type 0) (xs ys : List X) → AllByRecursion P (xs ++ ys) → AllByRecursion P ys
-  All-right P [] ys h = h
-  All-right P (x ∷ xs) ys h = All-right P xs ys h.1
-
 module _ {X Y : Type 0} (f : X → Y) where
-  pub length-map : (xs : List X) → length (map f xs) ≡ length xs
-  length-map [] = refl
-  length-map (x ∷ xs) = ap suc (length-map xs)
-
-  pub All-mapped : (P : Y → Type 0) (xs : List X) → AllByRecursion (λ x. P (f x)) xs → AllByRecursion P (map f xs)
-  All-mapped P [] h = tt
-  All-mapped P (x ∷ xs) h = (h.0, All-mapped P xs h.1)
-
   -- a test of what is made of the elements
   pub map-filter : (q : Y → Bool) (xs : List X) → map f (filter (λ x. q (f x)) xs) ≡ filter q (map f xs)
-  map-filter q [] = refl
-  map-filter q (x ∷ xs) = go (q (f x)) (map-filter q xs)
-    where
-      go : (b : Bool) → map f (filter (λ x. q (f x)) xs) ≡ filter q (map f xs)
-          → map f (cond b (x ∷ filter (λ x. q (f x)) xs) (filter (λ x. q (f x)) xs)) ≡ cond b (f x ∷ filter q (map f xs)) (filter q (map f xs))
-      go true ih = ap (λ l. f x ∷ l) ih
-      go false ih = ih
+  map-filter q xs = sym (filter-map q f xs)
 
   -- the elements that pass are made into what passes
   pub filter-mapped : (p : X → Bool) (q : Y → Bool) (xs : List X) → AllByRecursion (λ x. p x ≡ q (f x)) xs → map f (filter p xs) ≡ filter q (map f xs)
@@ -106,4 +62,4 @@ module _ {X Y Z : Type 0} (f : Y → Z) (r : X → Y) (g : X → Z) where
   -- and of those that pass
   pub filter-alike : (p : X → Bool) (q : Y → Bool) (xs : List X) → AllByRecursion (λ x. p x ≡ q (r x)) xs → AllByRecursion (λ x. f (r x) ≡ g x) xs
       → map f (filter q (map r xs)) ≡ map g (filter p xs)
-  filter-alike p q xs same alike = ap (map f) (sym (filter-mapped r p q xs same)) ∙ map-alike (filter p xs) (All-filter (λ x. f (r x) ≡ g x) p xs alike)
+  filter-alike p q xs same alike = ap (map f) (sym (filter-mapped r p q xs same)) ∙ map-alike (filter p xs) (all-filter (λ x. f (r x) ≡ g x) p xs alike)

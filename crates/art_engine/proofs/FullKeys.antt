@@ -1,10 +1,11 @@
 -- Full keys: their order is that of tenants and then keys, and they conflict where one tenant's keys do.
 use Rattle.std.proofs.Common.{◌≡◌, ℕ, suc, ◌+◌, ◌*◌, ◌/◌, ◌%◌, ◌^◌, ◌<◌, ◌≤◌, List, length, take, refl, ap, sym, ◌∙◌, subst, Bool, true, false, arith, inl, inr}
-use Rattle.std.specs.Prelude.{◌==◌, ◌||◌, ◌&&◌, nat_lt, nat_eq}
+use Rattle.std.specs.Prelude.{◌==◌, ◌&&◌, nat_lt, nat_eq}
 use Rattle.std.specs.declared.cmp.Ordering.{Ordering}
 use Rattle.std.specs.declared.cmp.Ordering.TheVariants.{Less, Equal, Greater}
 use Rattle.std.specs.Ordering.{nat_cmp, is_lt, ordering_then}
 use Rattle.std.specs.Cmp.Lexicographic.{slice_cmp, pointwise}
+use Rattle.std.proofs.Math.Bool.{and-false, and-or_distrib_left}
 use Rattle.std.proofs.lemmas.Bool.{eq-eqb, ne_eqb, eqb-true, lt-ltb, le-ltb, cases_eq, cases_lt, true≢false, and_parts}
 use Rattle.art_bytes.proofs.Common.{is_proper_front, conflicts, IsBefore, cmp_before, conflict_told}
 use Rattle.art_engine.proofs.Terms.{KeyRecord, KeyComesBefore, FullKeysKeepOrder, FullKeysKeepConflicts}
@@ -83,10 +84,6 @@ lt-suc m n = elim (cases_lt m n) [
   | inr high ↦ le-ltb (suc m) (suc n) (omega arith) ∙ sym (le-ltb m n high)
 ]
 
-and_false : (b : Bool) → (b && false) ≡ false
-and_false true = refl
-and_false false = refl
-
 -- two tenants differ in one of their four bytes
 pub apart : (t u : ℕ) (w x y z r : Bool) → t < 2 ^ 32 → u < 2 ^ 32 → (t / 16777216 % 256 == u / 16777216 % 256) ≡ w → (t / 65536 % 256 == u / 65536 % 256) ≡ x → (t / 256 % 256 == u / 256 % 256) ≡ y → (t % 256 == u % 256) ≡ z
     → (t ≡ u → ⊥) → (w && (x && (y && (z && r)))) ≡ false
@@ -115,7 +112,7 @@ front-full_key t u k j ht hu = go (t == u) refl
         ap (λ b. nat_lt (length (full_key t k)) (length (full_key u j)) && b)
         (apart t u (t / 16777216 % 256 == u / 16777216 % 256) (t / 65536 % 256 == u / 65536 % 256) (t / 256 % 256 == u / 256 % 256) (t % 256 == u % 256) (pointwise nat_eq k (take (length k) j))
         ht hu refl refl refl refl (λ same. true≢false (sym (eq-eqb t u same) ∙ e)))
-        ∙ and_false (nat_lt (length (full_key t k)) (length (full_key u j)))
+        ∙ and-false (nat_lt (length (full_key t k)) (length (full_key u j)))
 
 pub eq_turned : (t u : ℕ) → (t == u) ≡ (u == t)
 eq_turned t u = elim (cases_eq t u) [
@@ -123,12 +120,8 @@ eq_turned t u = elim (cases_eq t u) [
   | inr other ↦ ne_eqb t u other ∙ sym (ne_eqb u t (λ e. other (sym e)))
 ]
 
-pub both_or : (a b c : Bool) → ((a && b) || (a && c)) ≡ (a && (b || c))
-both_or true b c = refl
-both_or false b c = refl
-
 pub full_keys_keep_conflicts : FullKeysKeepConflicts
-full_keys_keep_conflicts t u k j ht hu = rw (front-full_key t u k j ht hu, front-full_key u t j k hu ht, eq_turned u t) (both_or (t == u) (is_proper_front k j) (is_proper_front j k))
+full_keys_keep_conflicts t u k j ht hu = rw (front-full_key t u k j ht hu, front-full_key u t j k hu ht, eq_turned u t) (sym (and-or_distrib_left (t == u) (is_proper_front k j) (is_proper_front j k)))
 
 -- full keys of records in order are in order, and neither is a front of the other
 pub full_before : (r s : KeyRecord) → r.tenant < 2 ^ 32 → s.tenant < 2 ^ 32 → KeyComesBefore r s → IsBefore (full_key r.tenant r.key) (full_key s.tenant s.key)

@@ -7,13 +7,14 @@ use Rattle.std.specs.declared.ops.Bound.TheVariants.{Included, Excluded}
 use Rattle.std.specs.Ordering.{nat_cmp, is_le, is_gt, ordering_then}
 use Rattle.std.specs.Cmp.Lexicographic.{slice_cmp}
 use Rattle.std.specs.BTreeMap.Range.{IsLeBy, range_contains}
+use Rattle.std.proofs.Math.Bool.{and-or_distrib_left, not-not}
 use Rattle.std.proofs.lemmas.Bool.{eq-eqb, ne_eqb, eqb-true, cases_lt, true≢false}
 use Rattle.std.proofs.lemmas.Cmp.{nat_list_cmp_total}
 use Rattle.art_bytes.proofs.Common.{is_below, bytes_cmp}
 use Rattle.art_arena.proofs.Common.{begins_with}
 use Rattle.art_operations.proofs.Common.{overlaps}
 use Rattle.art_lines.proofs.Common.{full_key}
-use Rattle.art_engine.proofs.FullKeys.{apart, both_or, cmp-full_key, cmp_low, cmp_high, cmp_itself, eq_turned}
+use Rattle.art_engine.proofs.FullKeys.{apart, cmp-full_key, cmp_low, cmp_high, cmp_itself, eq_turned}
 use Rattle.art_engine.proofs.Standing.{le-reverse, not_gt-reverse}
 
 -- a front of a full key, with the tenant whole
@@ -41,14 +42,10 @@ same_full t u k j ht hu = go (u == t) refl
 -- full keys that overlap
 pub overlaps_full : (t u : ℕ) (k j : List ℕ) → t < 2 ^ 32 → u < 2 ^ 32 → overlaps (full_key t k) (full_key u j) ≡ ((u == t) && overlaps k j)
 overlaps_full t u k j ht hu =
-    rw (begins_full t u k j ht hu, begins_full u t j k hu ht, eq_turned t u) (both_or (u == t) (begins_with k j) (begins_with j k))
+    rw (begins_full t u k j ht hu, begins_full u t j k hu ht, eq_turned t u) (sym (and-or_distrib_left (u == t) (begins_with k j) (begins_with j k)))
 
 le_turned : (a b : List ℕ) → is_le (slice_cmp nat_cmp a b) ≡ not (is_below b a)
 le_turned a b = ap is_le (nat_list_cmp_total.antisymm a b) ∙ le-reverse (slice_cmp nat_cmp b a)
-
-not_not : (b : Bool) → not (not b) ≡ b
-not_not true = refl
-not_not false = refl
 
 -- full keys from one on and below another one, both of the same tenant
 pub between_full : (t u : ℕ) (low high j : List ℕ) → t < 2 ^ 32 → u < 2 ^ 32
@@ -60,7 +57,7 @@ between_full t u low high j ht hu = rw (cmp-full_key t u low j ht hu, cmp-full_k
     | inr le ↦
         let same : u ≡ t = omega arith in
         let equal : nat_cmp t u ≡ Equal = ap (nat_cmp t) same ∙ cmp_itself t in
-        rw (equal, eq-eqb u t same, le_turned low j, le_turned high j) (ap (λ b. not (is_below j low) && b) (not_not (is_below j high)))
+        rw (equal, eq-eqb u t same, le_turned low j, le_turned high j) (ap (λ b. not (is_below j low) && b) (not-not (is_below j high)))
   ]
 ])
 

@@ -11,14 +11,14 @@ use Rattle.std.specs.Ordering.{is_lt}
 use Rattle.std.proofs.lemmas.Bool.{eqb-true, ltb-true, or_cases, and_parts, false_from_ne_true, true≢false}
 use Rattle.std.proofs.lemmas.List.{get_or-drop, length-take-le}
 use Rattle.art_bytes.proofs.Common.{IsBefore, is_below, conflicts, pair_key, flipped, top_bit, told_conflict}
-use Rattle.art_arena.proofs.Common.{AscendsByKey}
+use Rattle.art_arena.proofs.Common.{AscendsByKey, all_weaker}
 use Rattle.art_arena.proofs.tree.Lexicographic.{order_is_lexicographic}
 use Rattle.art_lines.proofs.Common.{nput_words, number_words, bytes, shown, text_of, line_of, nput_parts, number_parts}
 use Rattle.art_engine.proofs.Terms.{IsShortRecord, IsShortNumber, IsRecordIn, IsNumberRecordIn, full_key_of, number_of_bytes, KeyRecord, InOrder, KeyComesBefore, KeyFits, NumberFits, Pair, NumberPair, record_of, number_record_of, IsFull, IsOfTenant, ArePairs, IsNumberPair, AreNumberPairs}
 use Rattle.art_engine.proofs.Conflicts.{bytes_of}
 use Rattle.hex.specs.Hex.{lower_digits}
 use Rattle.hex.proofs.HexLemmas.{length-encode_with}
-use Rattle.art_engine.proofs.Filters.{All-map, All-mapped}
+use Rattle.art_arena.proofs.tree.Paths.{all_map}
 use Rattle.art_engine.proofs.FullKeys.{full_keys_keep_order, full_keys_keep_conflicts}
 use Rattle.art_engine.proofs.NumberKeys.{flip_back}
 use Rattle.art_lines.proofs.FullKeys.{full_key_again, tenant_small, front_small}
@@ -53,9 +53,9 @@ IsRecord p = IsFull p × KeyFits (record_of p)
 
 pub are_pairs : (ps : List Pair) → AscendsByKey bytes_of ps → AllByRecursion IsRecord ps → ArePairs ps
 are_pairs ps order all =
-    let full = All-map IsRecord IsFull (λ p h. h.0) ps all in
-    let fit = All-mapped record_of KeyFits ps (All-map IsRecord (λ p. KeyFits (record_of p)) (λ p h. h.1) ps all) in
-    let small = All-map KeyFits IsOfTenant (λ r fits. fits.tenant_fits) (map record_of ps) fit in
+    let full = all_weaker IsRecord IsFull (λ p h. h.0) ps all in
+    let fit = all_map record_of KeyFits ps (all_weaker IsRecord (λ p. KeyFits (record_of p)) (λ p h. h.1) ps all) in
+    let small = all_weaker KeyFits IsOfTenant (λ r fits. fits.tenant_fits) (map record_of ps) fit in
     record { stand = record { full = full; in_order = records_in_order ps full small order; tenants = small }; fit = fit }
 
 -- bytes after a tenant's four
@@ -116,7 +116,7 @@ IsNumberRecord p = IsNumberPair p × NumberFits (number_record_of p)
 
 pub are_number_pairs : (ns : List NumberPair) → AscendsByKey (λ p. p.0) ns → AllByRecursion IsNumberRecord ns → AreNumberPairs ns
 are_number_pairs ns order all = record {
-  stand = All-map IsNumberRecord IsNumberPair (λ p h. h.0) ns all;
+  stand = all_weaker IsNumberRecord IsNumberPair (λ p h. h.0) ns all;
   ascend = order;
-  fit = All-mapped number_record_of NumberFits ns (All-map IsNumberRecord (λ p. NumberFits (number_record_of p)) (λ p h. h.1) ns all);
+  fit = all_map number_record_of NumberFits ns (all_weaker IsNumberRecord (λ p. NumberFits (number_record_of p)) (λ p h. h.1) ns all);
 }

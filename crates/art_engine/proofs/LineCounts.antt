@@ -5,18 +5,12 @@ use Rattle.art_lines.proofs.Common.{Command, looks_up}
 use Rattle.art_lines.specs.declared.command.fields.Fields.{Fields}
 use Rattle.art_lines.specs.declared.command.word.LookUp.{LookUp}
 use Rattle.art_lines.specs.declared.command.word.LookUp.TheVariants as look_up
-use Rattle.art_engine.proofs.Terms.{Visits, exactly, key_visits, number_visits, visits_of, IsWithin, Grew, Records, AreRecords, Pair, NumberPair, all_records_of, ArePairs, AreNumberPairs}
+use Rattle.art_engine.proofs.Terms.{Visits, exactly, key_visits, number_visits, visits_of, IsWithin, Grew, Records}
 use Rattle.art_lines.specs.Reading.{command_of}
-use Rattle.art_engine.proofs.NumberPlaces.{are_in_order}
 
 -- so a line reads what its command does
 pub line_reads : (o : Option Command) (line : List ℕ) (held old : Records) (n : ℕ) → o ≡ command_of line → held ≡ old → IsWithin (visits_of o held) n → IsWithin (visits_of (command_of line) old) n
 line_reads o line held old n meant same within = subst (λ r. IsWithin (visits_of (command_of line) r) n) same (subst (λ p. IsWithin (visits_of p held) n) meant within)
-
--- what an index holds are records
-pub are_records : (ps : List Pair) (ns : List NumberPair) (old : Records) → all_records_of ps ns ≡ old → ArePairs ps → AreNumberPairs ns → AreRecords old
-are_records ps ns old same pairs numbers =
-    subst AreRecords same (record { keys_in_order = pairs.stand.in_order; numbers_in_order = are_in_order ns numbers; keys_fit = pairs.fit; numbers_fit = numbers.fit })
 
 -- one count that began at nothing, and one that stayed there
 keys_alone : (v : Visits) (x y a b n : ℕ) → x ≡ 0 → y ≡ 0 → n ≡ min (a + b) (2 ^ 64 - 1) → Grew v x a → Grew (exactly 0) y b → IsWithin v n

@@ -1,13 +1,13 @@
 -- The lines of a list, one pair after another.
-use Rattle.std.proofs.Common.{◌≡◌, ℕ, ℤ, suc, ◌+◌, ◌≤◌, List, [], ◌∷◌, ◌++◌, length, drop, map, refl, ap, sym, ◌∙◌, Bool, arith, append_assoc, append-nil, length-append}
-use Rattle.std.specs.Prelude.{flat_map, filter, decimal}
+use Rattle.std.proofs.Common.{◌≡◌, ℕ, ℤ, ◌+◌, ◌≤◌, List, [], ◌∷◌, ◌++◌, length, drop, map, refl, ap, sym, ◌∙◌, arith, append_assoc, append-nil, length-append}
+use Rattle.std.specs.Prelude.{flat_map, decimal}
 use Rattle.std.specs.List.{AllByRecursion}
 use Rattle.std.proofs.lemmas.Grind.{flat_map-append}
 use Rattle.art_lines.specs.Words.{Word}
 use Rattle.art_lines.proofs.Common.{shown, bytes, text_of, line_of, put_words, nput_words, end_words, pair_words, number_words, listed, numbers_listed, pair_parts, put_parts, nput_parts}
 use Rattle.art_engine.proofs.Terms.{number_of_bytes, KeyRecord, NumberRecord, KeyFits, NumberFits, IsListed, IsNumbered, Pair, NumberPair, record_of, number_record_of, IsFull}
-use Rattle.art_engine.proofs.Filters.{All-each, length-map, map-alike}
-use Rattle.std.proofs.lemmas.Bool.{cond_both}
+use Rattle.art_engine.proofs.Filters.{All-each, map-alike}
+use Rattle.std.proofs.lemmas.List.{length-map}
 use Rattle.art_engine.proofs.OwnLaws.{key_part, number_part}
 
 module _ {X : Type 0} (words : X → List Word) (last : List ℕ) where
@@ -35,7 +35,7 @@ lines_all : {X P : Type 0} (words : X → List Word) (part_words : P → List Wo
 lines_all words part_words part alike xs mine same =
     let lines : List (List Word) = map part_words (map part xs) in
     ap (λ l. flat_map line_of l ++ list_end (length xs)) (sym (map-alike part_words part words xs (All-each (λ x. part_words (part x) ≡ words x) (λ x. sym (alike x)) xs)))
-    ∙ ap (λ n. flat_map line_of lines ++ list_end n) (sym (length-map part xs))
+    ∙ ap (λ n. flat_map line_of lines ++ list_end n) (sym (length-map xs part))
     ∙ ap (λ e. flat_map line_of lines ++ e) (sym (append-nil (list_end (length (map part xs))))) ∙ sym (flat_map-append line_of lines (end_words (length (map part xs)) ∷ []))
     ∙ ap (λ m. flat_map line_of (map part_words m ++ end_words (length m) ∷ [])) same
 
@@ -55,13 +55,6 @@ shorter r fits =
 pub are_listed : (ps : List Pair) → AllByRecursion IsFull ps → AllByRecursion KeyFits (map record_of ps) → AllByRecursion IsListed ps
 are_listed [] full fits = tt
 are_listed (p ∷ ps) full fits = ((let long = ap length full.0 in omega arith, shorter (record_of p) fits.0), are_listed ps full.1 fits.1)
-
--- of a list no more pass a test than it has
-pub filter_shorter : {X : Type 0} (p : X → Bool) (xs : List X) → length (filter p xs) ≤ length xs
-filter_shorter p [] = omega arith
-filter_shorter p (x ∷ xs) =
-    let ih = filter_shorter p xs in
-    cond_both (p x) (x ∷ filter p xs) (filter p xs) (λ l. length l ≤ suc (length xs)) (λ e. omega arith) (λ e. omega arith)
 
 -- the words of the line of a number's pair, without the tenant
 abbrev pub words_numbered : NumberPair → List Word

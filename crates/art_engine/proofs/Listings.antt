@@ -5,7 +5,7 @@ use Rattle.std.specs.List.{AllByRecursion}
 use Rattle.std.proofs.lemmas.Nat.{mul-le}
 use Rattle.art_operations.proofs.Common.{ReadsAtLeast}
 use Rattle.art_engine.proofs.Terms.{longest, listing, exactly, GrewBy, Grew}
-use Rattle.art_engine.proofs.Filters.{All-map}
+use Rattle.art_arena.proofs.Common.{all_weaker}
 
 module _ {X : Type 0} (key : X → List ℕ) where
   longest-map : (xs : List X) → longest key xs ≡ longest (λ (k : List ℕ). k) (map key xs)
@@ -16,7 +16,7 @@ module _ {X : Type 0} (key : X → List ℕ) where
   pub within_longest : (xs : List X) → AllByRecursion (λ x. length (key x) ≤ longest key xs) xs
   within_longest [] = tt
   within_longest (x ∷ xs) =
-      (omega arith, All-map (λ y. length (key y) ≤ longest key xs) (λ y. length (key y) ≤ max (length (key x)) (longest key xs)) (λ y h. omega arith) xs (within_longest xs))
+      (omega arith, all_weaker (λ y. length (key y) ≤ longest key xs) (λ y. length (key y) ≤ max (length (key x)) (longest key xs)) (λ y h. omega arith) xs (within_longest xs))
 
 -- the longest goes by the keys alone
 pub longest_by_keys : {X Y : Type 0} (key : X → List ℕ) (other : Y → List ℕ) (xs : List X) (ys : List Y) → map key xs ≡ map other ys → longest key xs ≡ longest other ys

@@ -4,7 +4,7 @@ use Rattle.std.specs.Prelude.{◌==◌, slice_index}
 use Rattle.art_bytes.proofs.Common.{common_prefix, shared_prefix}
 use Rattle.art_arena.proofs.Common.{Tree, Forest, leaf, inner, no_child, child, Group, add_to, grouped, children_of, tree_below, tree_of, path_of, path_in}
 use Rattle.art_walks.proofs.Common.{path_length}
-use Rattle.art_engine.proofs.Filters.{length-map}
+use Rattle.std.proofs.lemmas.List.{length-map}
 
 module _ {X Y : Type 0} (f : X → Y) (key : Y → List ℕ) where
   -- the key of what an item is turned into
@@ -77,7 +77,7 @@ module _ {X Y : Type 0} (f : X → Y) (key : Y → List ℕ) where
   paths-turned : (k : List ℕ) (xs : List X) → path_length k (tree_of key (map f xs)) ≡ path_length k (tree_of key_after xs)
   paths-turned k [] = refl
   paths-turned k (x ∷ xs) =
-      ap (λ n. length (path_of (tree_below key n 0 (map f (x ∷ xs))) k)) (length-map f (x ∷ xs))
+      ap (λ n. length (path_of (tree_below key n 0 (map f (x ∷ xs))) k)) (length-map (x ∷ xs) f)
       ∙ ap (λ t. length (path_of t k)) (below-turned (length (x ∷ xs)) 0 (x ∷ xs)) ∙ path-turned (tree_below key_after (length (x ∷ xs)) 0 (x ∷ xs)) k
 
 -- a list of keys is its own

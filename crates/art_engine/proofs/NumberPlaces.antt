@@ -6,18 +6,21 @@ use Rattle.std.specs.Int.{from_be_bytes, w32}
 use Rattle.std.specs.List.{AllByRecursion, find}
 use Rattle.std.specs.Map.{lookup}
 use Rattle.std.specs.Ordering.{int_eq}
-use Rattle.std.proofs.lemmas.Bool.{cond_both, true≢false, false_from_ne_true, ltb-true, eqb-true}
+use Rattle.std.proofs.lemmas.Bool.{true≢false, false_from_ne_true, ltb-true, eqb-true}
 use Rattle.std.proofs.lemmas.List.{map-append}
 use Rattle.std.proofs.lemmas.Slice.Eq.{bytes_eq-Decides}
 use Rattle.art_bytes.proofs.Common.{IsBefore, pair_key, before_trans, before_not_self}
-use Rattle.art_arena.proofs.Common.{is_before, put_in_order, AscendsByKey, Shrinks, before_true, true_before, put_is}
+use Rattle.art_arena.proofs.Common.{is_before, put_in_order, AscendsByKey, Shrinks, before_true, true_before, put_is, all_weaker, all_append}
 use Rattle.art_operations.proofs.Common.{HasKey, without_key, shrinks-map, shrinks-unmap}
 use Rattle.art_engine.specs.declared.change.Changed.TheVariants as changed
 use Rattle.art_lines.proofs.Common.{of_tenant, nput, ndel, put_reply}
 use Rattle.art_engine.proofs.Terms.{number_key_of, number_of_bytes, number_pair, NumberRecord, NumberFits, own, InOrder, NumberComesBefore, value_at, with_pair, without_at, NumberPair, number_record_of, number_records_of, IsNumberPair, AreNumberPairs, IsChangeDone, changed_words}
 use Rattle.art_engine.proofs.Changing.{itself, has_found, option_map-map, some_mapped, gone_words, absent_words}
 use Rattle.art_engine.proofs.Dropping.{All-left_out, All-put, IsOwnTest, own_filter, own_find, left_in_place}
-use Rattle.art_engine.proofs.Filters.{filter-mapped, filter-none, All-each, All-filter, All-map, All-append, All-passes}
+use Rattle.art_engine.proofs.Filters.{filter-mapped, All-each}
+use Rattle.art_arena.proofs.tree.Filters.{filter_none, all_pass}
+use Rattle.art_walks.proofs.Common.{all-filter}
+use Rattle.art_map.proofs.Common.{ascends-filter}
 use Rattle.art_engine.proofs.OwnLaws.{number_part, number_made, number_ascends, records_from_lists}
 use Rattle.art_engine.proofs.FullKeys.{eq_turned}
 use Rattle.art_engine.proofs.OwnParts.{cut_put}
@@ -97,7 +100,7 @@ module _ (t : ℕ) (T : List ℕ → Bool) (G : ℤ → Bool) (tests : (u : ℕ)
 
   pub tests_same : (ns : List NumberPair) → AllByRecursion StandsUnder ns → AllByRecursion (λ p. T p.0 ≡ of_mine (number_record_of p)) ns
   tests_same ns stand =
-      All-map StandsUnder (λ p. T p.0 ≡ of_mine (number_record_of p)) (λ p under. let r = number_record_of p in ap T under.key ∙ tests r.tenant r.key under.fits) ns stand
+      all_weaker StandsUnder (λ p. T p.0 ≡ of_mine (number_record_of p)) (λ p under. let r = number_record_of p in ap T under.key ∙ tests r.tenant r.key under.fits) ns stand
 
   own_tests : (rs : List NumberRecord) → AllByRecursion (IsOwnTest (λ (r : NumberRecord). r.tenant) number_part t of_mine (λ p. G p.0)) rs
   own_tests rs = All-each (IsOwnTest (λ (r : NumberRecord). r.tenant) number_part t of_mine (λ p. G p.0)) (λ r. refl) rs
@@ -115,16 +118,9 @@ module _ (t : ℕ) (T : List ℕ → Bool) (G : ℤ → Bool) (tests : (u : ℕ)
       ≡ filter (λ r. nat_lt r.tenant t) (map number_record_of ns) ++ map (number_made t) (filter (λ p. not (G p.0)) (own t (number_records_of ns)).numbers)
       ++ filter (λ r. nat_lt t r.tenant) (map number_record_of ns)
   numbers_without ns stand order =
-      numbers_filter (λ k. not (T k)) (λ r. not (of_mine r)) ns (All-map (λ p. T p.0 ≡ of_mine (number_record_of p)) (λ p. not (T p.0) ≡ not (of_mine (number_record_of p))) (λ p e. ap not e) ns (tests_same ns stand))
+      numbers_filter (λ k. not (T k)) (λ r. not (of_mine r)) ns (all_weaker (λ p. T p.0 ≡ of_mine (number_record_of p)) (λ p. not (T p.0) ≡ not (of_mine (number_record_of p))) (λ p e. ap not e) ns (tests_same ns stand))
       ∙ left_in_place (λ (r : NumberRecord). r.tenant) number_part number_made (λ t p. refl) (λ t p. refl) (λ x. refl) t of_mine (λ p. G p.0)
       (map number_record_of ns) (own_tests (map number_record_of ns)) (number_ascends (map number_record_of ns) (numbers_order ns stand order))
-
--- what is left of pairs that ascend ascends
-pub ascends-filter : (T : NumberPair → Bool) (ns : List NumberPair) → AscendsByKey number_bytes ns → AscendsByKey number_bytes (filter T ns)
-ascends-filter T [] order = tt
-ascends-filter T (p ∷ ns) order =
-    let ih = ascends-filter T ns order.1 in
-    cond_both (T p) (p ∷ filter T ns) (filter T ns) (AscendsByKey number_bytes) (λ e. (All-filter (λ q. IsBefore p.0 q.0) T ns order.0, ih)) (λ e. ih)
 
 not_before_itself : (k : List ℕ) → is_before k k ≡ false
 not_before_itself k = false_from_ne_true (is_before k k) (λ e. before_not_self k (true_before k k e))
@@ -195,21 +191,21 @@ module _ (t : ℕ) (n : ℤ) (fits : HaveBytes t n) where
       go false false e f ih =
           let high = else_higher p stand.0 f e in
           let first = true_before (pair_key (t, n)) p.0 high in
-          let none : filter lower ns ≡ [] = filter-none lower ns (All-map (λ q. IsBefore p.0 q.0) (λ q. lower q ≡ false) (λ q b. not_lower q (before_trans (pair_key (t, n)) p.0 q.0 first b)) ns order.0) in
+          let none : filter lower ns ≡ [] = filter_none lower ns (all_weaker (λ q. IsBefore p.0 q.0) (λ q. lower q ≡ false) (λ q b. not_lower q (before_trans (pair_key (t, n)) p.0 q.0 first b)) ns order.0) in
           rw (high, none) (ap (λ l. p ∷ l) (ih ∙ ap (λ l. l ++ filter higher ns) none))
 
   all_lower : (ns : List NumberPair) → AllByRecursion (λ p. IsBefore p.0 (pair_key (t, n))) (filter lower ns)
-  all_lower ns = All-map (λ p. lower p ≡ true) (λ p. IsBefore p.0 (pair_key (t, n))) (λ p e. true_before p.0 (pair_key (t, n)) e) (filter lower ns) (All-passes lower ns)
+  all_lower ns = all_weaker (λ p. lower p ≡ true) (λ p. IsBefore p.0 (pair_key (t, n))) (λ p e. true_before p.0 (pair_key (t, n)) e) (filter lower ns) (all_pass lower ns)
 
   all_higher : (ns : List NumberPair) → AllByRecursion (λ p. IsBefore (pair_key (t, n)) p.0) (filter higher ns)
-  all_higher ns = All-map (λ p. higher p ≡ true) (λ p. IsBefore (pair_key (t, n)) p.0) (λ p e. true_before (pair_key (t, n)) p.0 e) (filter higher ns) (All-passes higher ns)
+  all_higher ns = all_weaker (λ p. higher p ≡ true) (λ p. IsBefore (pair_key (t, n)) p.0) (λ p e. true_before (pair_key (t, n)) p.0 e) (filter higher ns) (all_pass higher ns)
 
   ascends-put : (e : NumberPair) → e.0 ≡ pair_key (t, n) → (fs bs : List NumberPair) → AllByRecursion (λ p. IsBefore p.0 (pair_key (t, n))) fs → AllByRecursion (λ p. IsBefore (pair_key (t, n)) p.0) bs
       → AscendsByKey number_bytes fs → AscendsByKey number_bytes bs → AscendsByKey number_bytes (fs ++ e ∷ bs)
   ascends-put e is [] bs low high up_low up_high = (subst (λ k. AllByRecursion (λ q. IsBefore k q.0) bs) (sym is) high, up_high)
   ascends-put e is (f ∷ fs) bs low high up_low up_high =
-      let above = All-map (λ q. IsBefore (pair_key (t, n)) q.0) (λ q. IsBefore f.0 q.0) (λ q b. before_trans f.0 (pair_key (t, n)) q.0 low.0 b) bs high in
-      (All-append (λ q. IsBefore f.0 q.0) fs (e ∷ bs) up_low.0 (subst (IsBefore f.0) (sym is) low.0, above), ascends-put e is fs bs low.1 high up_low.1 up_high)
+      let above = all_weaker (λ q. IsBefore (pair_key (t, n)) q.0) (λ q. IsBefore f.0 q.0) (λ q b. before_trans f.0 (pair_key (t, n)) q.0 low.0 b) bs high in
+      (all_append (λ q. IsBefore f.0 q.0) fs (e ∷ bs) up_low.0 (subst (IsBefore f.0) (sym is) low.0, above), ascends-put e is fs bs low.1 high up_low.1 up_high)
 
   -- a pair that is put at it
   module _ (v : List ℕ) (e : NumberPair) (full : e.0 ≡ pair_key (t, n)) (value : e.1.items ≡ v) (ns new : List NumberPair) (are : AreNumberPairs ns)
@@ -218,7 +214,7 @@ module _ (t : ℕ) (n : ℤ) (fits : HaveBytes t n) where
     stand = stand_all ns are.stand are.fit
 
     put_ascends : AscendsByKey number_bytes (filter lower ns ++ e ∷ filter higher ns)
-    put_ascends = ascends-put e full (filter lower ns) (filter higher ns) (all_lower ns) (all_higher ns) (ascends-filter lower ns are.ascend) (ascends-filter higher ns are.ascend)
+    put_ascends = ascends-put e full (filter lower ns) (filter higher ns) (all_lower ns) (all_higher ns) (ascends-filter number_bytes lower ns are.ascend) (ascends-filter number_bytes higher ns are.ascend)
 
     new_is : new ≡ filter lower ns ++ e ∷ filter higher ns
     new_is =
@@ -232,8 +228,8 @@ module _ (t : ℕ) (n : ℤ) (fits : HaveBytes t n) where
     pub nput_keeps : NumberFits (number_made t (n, v)) → AreNumberPairs new
     nput_keeps fit = record {
       stand = subst (AllByRecursion IsNumberPair) (sym new_is)
-          (All-append IsNumberPair (filter lower ns) (e ∷ filter higher ns) (All-filter IsNumberPair lower ns are.stand)
-          (full ∙ sym (ap number_key_of made_is), All-filter IsNumberPair higher ns are.stand));
+          (all_append IsNumberPair (filter lower ns) (e ∷ filter higher ns) (all-filter IsNumberPair lower ns are.stand)
+          (full ∙ sym (ap number_key_of made_is), all-filter IsNumberPair higher ns are.stand));
       ascend = subst (AscendsByKey number_bytes) (sym new_is) put_ascends;
       fit = subst (λ l. AllByRecursion NumberFits (map number_record_of l)) (sym is)
           (All-put NumberFits number_record_of number_bytes (λ p. not (bytes_eq (number_bytes p) (number_bytes e))) e ns are.fit (subst NumberFits (sym made_is) fit));
@@ -241,7 +237,7 @@ module _ (t : ℕ) (n : ℤ) (fits : HaveBytes t n) where
 
     lower_same : (ns : List NumberPair) → AllByRecursion StandsUnder ns → AllByRecursion (λ p. is_before p.0 (pair_key (t, n)) ≡ stands_before (number_record_of p).tenant (number_record_of p).key t n) ns
     lower_same ns h =
-        All-map StandsUnder (λ p. is_before p.0 (pair_key (t, n)) ≡ stands_before (number_record_of p).tenant (number_record_of p).key t n)
+        all_weaker StandsUnder (λ p. is_before p.0 (pair_key (t, n)) ≡ stands_before (number_record_of p).tenant (number_record_of p).key t n)
         (λ p under. let r = number_record_of p in ap (λ k. is_before k (pair_key (t, n))) under.key ∙ tested r.tenant t r.key n under.fits fits) ns h
 
     abbrev stands_after : NumberRecord → Bool
@@ -252,7 +248,7 @@ module _ (t : ℕ) (n : ℤ) (fits : HaveBytes t n) where
 
     higher_same : (ns : List NumberPair) → AllByRecursion StandsUnder ns → AllByRecursion (λ p. is_before (pair_key (t, n)) p.0 ≡ stands_after (number_record_of p)) ns
     higher_same ns h =
-        All-map StandsUnder (λ p. is_before (pair_key (t, n)) p.0 ≡ stands_after (number_record_of p))
+        all_weaker StandsUnder (λ p. is_before (pair_key (t, n)) p.0 ≡ stands_after (number_record_of p))
         (λ p under. let r = number_record_of p in ap (is_before (pair_key (t, n))) under.key ∙ tested t r.tenant n r.key fits under.fits ∙ turned r.tenant r.key) ns h
 
     pub nput_records : map number_record_of new
@@ -292,8 +288,8 @@ module _ (t : ℕ) (n : ℤ) (fits : HaveBytes t n) where
 
     pub ndel_keeps : new ≡ without_key number_bytes (pair_key (t, n)) ns → AreNumberPairs new
     ndel_keeps is = subst AreNumberPairs (sym is) (record {
-      stand = All-filter IsNumberPair (λ p. not (is_number_key p.0)) ns are.stand;
-      ascend = ascends-filter (λ p. not (is_number_key p.0)) ns are.ascend;
+      stand = all-filter IsNumberPair (λ p. not (is_number_key p.0)) ns are.stand;
+      ascend = ascends-filter number_bytes (λ p. not (is_number_key p.0)) ns are.ascend;
       fit = All-left_out NumberFits number_record_of (λ p. not (is_number_key p.0)) ns are.fit;
     })
 

@@ -5,13 +5,14 @@ use Rattle.std.specs.List.{AllByRecursion}
 use Rattle.std.specs.Str.{bytes_eq}
 use Rattle.std.proofs.lemmas.Bool.{both_ways, false_from_ne_true, not-true}
 use Rattle.std.proofs.lemmas.Slice.Eq.{bytes_eq-Decides}
-use Rattle.art_arena.proofs.Common.{put_in_order, all_at}
+use Rattle.art_arena.proofs.Common.{put_in_order, all_at, all_weaker}
 use Rattle.art_operations.proofs.Common.{IsBlocked, overlaps, overlapping, without_key, without_overlapping, overlaps_same, overlaps_conflict}
 use Rattle.art_lines.proofs.Common.{full_key}
 use Rattle.art_engine.proofs.Terms.{KeyFits, own, with_own, overlapped, with_value_over, Pair, record_of, records_of, AreFull, ArePairs}
 use Rattle.art_engine.proofs.Conflicts.{bytes_of}
 use Rattle.art_engine.proofs.Dropping.{All-put}
-use Rattle.art_engine.proofs.Filters.{filter-all, All-map, All-passes, length-map}
+use Rattle.art_arena.proofs.tree.Filters.{filter_all, all_pass}
+use Rattle.std.proofs.lemmas.List.{length-map}
 use Rattle.art_engine.proofs.FullTests.{overlaps_full}
 use Rattle.art_engine.proofs.OwnLaws.{key_part, key_made, records_from_lists}
 use Rattle.art_engine.proofs.Placing.{full_record, IsPutAmong, put_among}
@@ -20,15 +21,15 @@ use Rattle.art_engine.proofs.Removing.{IsFullTest, passing, without_keeps, witho
 -- what does not overlap a key is not at it, and blocks it not
 module _ (k : List ℕ) (ps : List Pair) where
   none_at : without_key bytes_of k (without_overlapping bytes_of k ps) ≡ without_overlapping bytes_of k ps
-  none_at = filter-all (λ p. not (bytes_eq (bytes_of p) k)) (without_overlapping bytes_of k ps)
-      (All-map (λ p. not (overlaps k (bytes_of p)) ≡ true) (λ p. not (bytes_eq (bytes_of p) k) ≡ true) other (without_overlapping bytes_of k ps) (All-passes (λ p. not (overlaps k (bytes_of p))) ps))
+  none_at = filter_all (λ p. not (bytes_eq (bytes_of p) k)) (without_overlapping bytes_of k ps)
+      (all_weaker (λ p. not (overlaps k (bytes_of p)) ≡ true) (λ p. not (bytes_eq (bytes_of p) k) ≡ true) other (without_overlapping bytes_of k ps) (all_pass (λ p. not (overlaps k (bytes_of p))) ps))
     where
       other : (p : Pair) → not (overlaps k (bytes_of p)) ≡ true → not (bytes_eq (bytes_of p) k) ≡ true
       other p h = ap not (false_from_ne_true (bytes_eq (bytes_of p) k) (λ e. both_ways _ (not-true _ h) (overlaps_same k (bytes_of p) ((bytes_eq-Decides (bytes_of p) k).0 e))))
 
   none_blocks : IsBlocked bytes_of k (without_overlapping bytes_of k ps) → ⊥
   none_blocks (p, i, c) =
-      both_ways _ (not-true _ (all_at (λ p. not (overlaps k (bytes_of p)) ≡ true) p (without_overlapping bytes_of k ps) (All-passes (λ p. not (overlaps k (bytes_of p))) ps) i))
+      both_ways _ (not-true _ (all_at (λ p. not (overlaps k (bytes_of p)) ≡ true) p (without_overlapping bytes_of k ps) (all_pass (λ p. not (overlaps k (bytes_of p))) ps) i))
       (overlaps_conflict k (bytes_of p) c)
 
 module _ (t : ℕ) (k v : List ℕ) (ps new : List Pair) (e : Pair) (are : AreFull ps) (fits : t < 2 ^ 32) (full : bytes_of e ≡ full_key t k) (value : e.1.items ≡ v)
@@ -65,5 +66,5 @@ module _ (t : ℕ) (k v : List ℕ) (ps new : List Pair) (e : Pair) (are : AreFu
   pub over_count : length (overlapping bytes_of (bytes_of e) ps) ≡ length (overlapped k (own t (records_of ps)).keys)
   over_count =
       ap (λ j. length (overlapping bytes_of j ps)) full
-      ∙ sym (length-map record_of (filter (λ p. overlaps (full_key t k) p.0.items) ps)) ∙ sym (length-map key_part (map record_of (filter (λ p. overlaps (full_key t k) p.0.items) ps)))
+      ∙ sym (length-map (filter (λ p. overlaps (full_key t k) p.0.items) ps) record_of) ∙ sym (length-map (map record_of (filter (λ p. overlaps (full_key t k) p.0.items) ps)) key_part)
       ∙ ap length (passing t (overlaps (full_key t k)) (overlaps k) tests ps are)

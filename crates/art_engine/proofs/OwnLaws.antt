@@ -4,7 +4,10 @@ use Rattle.std.proofs.Common.{◌≡◌, ◌≢◌, ℕ, ℤ, ◌<◌, ◌≤◌
 use Rattle.std.specs.Prelude.{◌==◌, nat_lt, map, filter}
 use Rattle.std.proofs.lemmas.Bool.{cond_both, eq-eqb, ne_eqb, eqb-true, ltb-true, lt-ltb, le-ltb, cases_lt}
 use Rattle.std.proofs.lemmas.List.Elements.{filter-append}
-use Rattle.art_engine.proofs.Filters.{filter-apart, filter-within, filter-none, All-each, All-map, All-mapped}
+use Rattle.art_engine.proofs.Filters.{filter-apart, filter-within, All-each}
+use Rattle.art_arena.proofs.tree.Filters.{filter_none}
+use Rattle.art_arena.proofs.Common.{all_weaker}
+use Rattle.art_arena.proofs.tree.Paths.{all_map}
 
 -- a list of records as it is for each kind: with its tenant, its own part, and back
 module _ {X P : Type 0} (tenant_of : X → ℕ) (part_of : X → P) (made : ℕ → P → X)
@@ -27,7 +30,7 @@ module _ {X P : Type 0} (tenant_of : X → ℕ) (part_of : X → P) (made : ℕ 
   made_mine t (p ∷ ps) = rw (eq-eqb (tenant_of (made t p)) t (makes_tenant t p)) (ap (λ l. made t p ∷ l) (made_mine t ps))
 
   none_made : (p : X → Bool) (t : ℕ) → ((q : P) → p (made t q) ≡ false) → (qs : List P) → filter p (map (made t) qs) ≡ []
-  none_made p t none qs = filter-none p (map (made t) qs) (All-mapped (made t) (λ x. p x ≡ false) qs (All-each (λ q. p (made t q) ≡ false) none qs))
+  none_made p t none qs = filter_none p (map (made t) qs) (all_map (made t) (λ x. p x ≡ false) qs (All-each (λ q. p (made t q) ≡ false) none qs))
 
   made_other : (s t : ℕ) → s ≢ t → (ps : List P) → mine s (map (made t) ps) ≡ []
   made_other s t apart ps = none_made (λ x. tenant_of x == s) t (λ p. ne_eqb (tenant_of (made t p)) s (λ e. apart (sym e ∙ makes_tenant t p))) ps
@@ -114,12 +117,12 @@ module _ {X P : Type 0} (tenant_of : X → ℕ) (part_of : X → P) (made : ℕ 
       go false true e f ih =
           let same = eqb-true (tenant_of x) t f in
           let under : nat_lt t (tenant_of x) ≡ false = le-ltb t (tenant_of x) (omega arith) in
-          let none : before t xs ≡ [] = filter-none (λ y. nat_lt (tenant_of y) t) xs (All-map (λ y. tenant_of x ≤ tenant_of y) (λ y. nat_lt (tenant_of y) t ≡ false) (λ y le. le-ltb (tenant_of y) t (omega arith)) xs h.0) in
+          let none : before t xs ≡ [] = filter_none (λ y. nat_lt (tenant_of y) t) xs (all_weaker (λ y. tenant_of x ≤ tenant_of y) (λ y. nat_lt (tenant_of y) t ≡ false) (λ y le. le-ltb (tenant_of y) t (omega arith)) xs h.0) in
           rw (e, f, under, none) (ap (λ l. x ∷ l) (rw none at ih))
       go false false e f ih =
           let above : t < tenant_of x = elim (cases_lt t (tenant_of x)) [ inl lt ↦ lt | inr ge ↦ elim (cases_lt (tenant_of x) t) [ inl lt ↦ let g = sym (lt-ltb (tenant_of x) t lt) ∙ e in cc | inr le ↦ let g = sym (eq-eqb (tenant_of x) t (omega arith)) ∙ f in cc ] ] in
-          let none : before t xs ≡ [] = filter-none (λ y. nat_lt (tenant_of y) t) xs (All-map (λ y. tenant_of x ≤ tenant_of y) (λ y. nat_lt (tenant_of y) t ≡ false) (λ y le. le-ltb (tenant_of y) t (omega arith)) xs h.0) in
-          let no_mine : mine t xs ≡ [] = filter-none (λ y. tenant_of y == t) xs (All-map (λ y. tenant_of x ≤ tenant_of y) (λ y. (tenant_of y == t) ≡ false) (λ y le. ne_eqb (tenant_of y) t (λ k. omega arith)) xs h.0) in
+          let none : before t xs ≡ [] = filter_none (λ y. nat_lt (tenant_of y) t) xs (all_weaker (λ y. tenant_of x ≤ tenant_of y) (λ y. nat_lt (tenant_of y) t ≡ false) (λ y le. le-ltb (tenant_of y) t (omega arith)) xs h.0) in
+          let no_mine : mine t xs ≡ [] = filter_none (λ y. tenant_of y == t) xs (all_weaker (λ y. tenant_of x ≤ tenant_of y) (λ y. (tenant_of y == t) ≡ false) (λ y le. ne_eqb (tenant_of y) t (λ k. omega arith)) xs h.0) in
           rw (e, f, lt-ltb t (tenant_of x) above, none, no_mine) (ap (λ l. x ∷ l) (rw (none, no_mine) at ih))
 
   pub in_place : (t : ℕ) (xs : List X) → Ascends xs → put_back t (map part_of (mine t xs)) xs ≡ xs
@@ -163,11 +166,11 @@ others_are_untouched s t mine r apart = own_from _ _ _ _
 
 pub key_ascends : (rs : List KeyRecord) → InOrder KeyComesBefore rs → InOrder (λ (x y : KeyRecord). x.tenant ≤ y.tenant) rs
 key_ascends [] h = tt
-key_ascends (r ∷ rs) h = (All-map (KeyComesBefore r) (λ s. r.tenant ≤ s.tenant) (λ s b. elim b [ inl lt ↦ omega arith | inr same ↦ let e = same.0 in omega arith ]) rs h.0, key_ascends rs h.1)
+key_ascends (r ∷ rs) h = (all_weaker (KeyComesBefore r) (λ s. r.tenant ≤ s.tenant) (λ s b. elim b [ inl lt ↦ omega arith | inr same ↦ let e = same.0 in omega arith ]) rs h.0, key_ascends rs h.1)
 
 pub number_ascends : (rs : List NumberRecord) → InOrder NumberComesBefore rs → InOrder (λ (x y : NumberRecord). x.tenant ≤ y.tenant) rs
 number_ascends [] h = tt
-number_ascends (r ∷ rs) h = (All-map (NumberComesBefore r) (λ s. r.tenant ≤ s.tenant) (λ s b. elim b [ inl lt ↦ omega arith | inr same ↦ let e = same.0 in omega arith ]) rs h.0, number_ascends rs h.1)
+number_ascends (r ∷ rs) h = (all_weaker (NumberComesBefore r) (λ s. r.tenant ≤ s.tenant) (λ s b. elim b [ inl lt ↦ omega arith | inr same ↦ let e = same.0 in omega arith ]) rs h.0, number_ascends rs h.1)
 
 pub own_is_in_place : OwnIsInPlace
 own_is_in_place t r are = records_from_lists _ _ _ _

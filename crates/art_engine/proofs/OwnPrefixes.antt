@@ -4,10 +4,10 @@ use Rattle.std.specs.Prelude.{◌==◌, map}
 use Rattle.std.specs.List.{AllByRecursion}
 use Rattle.art_bytes.proofs.Common.{big_endian, flipped}
 use Rattle.std.specs.Int.{w64}
-use Rattle.art_arena.proofs.Common.{begins_with}
+use Rattle.art_arena.proofs.Common.{begins_with, all_weaker}
 use Rattle.art_lines.proofs.Common.{full_key}
 use Rattle.art_engine.proofs.Terms.{number_of_bytes, NumberPair, Pair, record_of, number_record_of, IsFull, IsOfTenant, OwnIsUnderPrefix}
-use Rattle.art_engine.proofs.Filters.{All-each, All-map, filter-alike}
+use Rattle.art_engine.proofs.Filters.{All-each, filter-alike}
 use Rattle.art_engine.proofs.FullTests.{begins_full}
 use Rattle.std.proofs.Math.Bool.{and-true}
 use Rattle.art_engine.proofs.NumberPlaces.{StandsUnder, stand_all}
@@ -24,7 +24,7 @@ begin_keys t small (p ∷ ps) full fits =
 -- and so do the bytes of a number
 pub begin_numbers : (t : ℕ) → t < 2 ^ 32 → (ns : List NumberPair) → AllByRecursion StandsUnder ns
     → AllByRecursion (λ p. begins_with (full_key t []) p.0 ≡ ((number_record_of p).tenant == t)) ns
-begin_numbers t small ns stand = All-map StandsUnder (λ p. begins_with (full_key t []) p.0 ≡ ((number_record_of p).tenant == t)) begins ns stand
+begin_numbers t small ns stand = all_weaker StandsUnder (λ p. begins_with (full_key t []) p.0 ≡ ((number_record_of p).tenant == t)) begins ns stand
   where
     begins : (p : NumberPair) → StandsUnder p → begins_with (full_key t []) p.0 ≡ ((number_record_of p).tenant == t)
     begins p under =

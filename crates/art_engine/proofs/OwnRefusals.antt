@@ -3,20 +3,19 @@ use Rattle.std.proofs.Common.{◌≡◌, ◌≢◌, ℕ, ◌<◌, ◌^◌, List,
 use Rattle.std.specs.Prelude.{◌==◌, filter, IsSome}
 use Rattle.std.specs.List.{AllByRecursion}
 use Rattle.art_bytes.proofs.Common.{BeginsWith, big_endian, flipped, pair_key}
-use Rattle.art_arena.proofs.Common.{Shrinks, with_front, all_at}
+use Rattle.art_arena.proofs.Common.{Shrinks, with_front, all_at, all_weaker}
 use Rattle.art_arena.proofs.tree.FrontShrinks.{own_shrinks}
 use Rattle.std.specs.Int.{w64}
 use Rattle.art_lines.proofs.Common.{full_key}
 use Rattle.art_engine.proofs.Terms.{full_key_of, number_key_of, number_of_bytes, KeyRecord, NumberRecord, KeyFits, NumberFits, Records, no_records, own, with_own, value_at, DeletionsGoByOwnKeys, DeletionsGoByOwnNumbers}
 use Rattle.art_engine.proofs.Counting.{own_records}
-use Rattle.art_engine.proofs.Filters.{All-map}
 use Rattle.art_engine.proofs.NumberKeys.{number_back}
 use Rattle.art_engine.proofs.OwnLaws.{key_part, key_made, number_part, number_made, made_from_mine, own_reads_back}
 use Rattle.std.specs.Str.{bytes_eq}
 use Rattle.std.specs.Ordering.{int_eq}
 
 own_front : (t : ℕ) → t < 2 ^ 32 → (rs : List KeyRecord) → AllByRecursion KeyFits rs → with_front full_key_of (full_key t []) rs ≡ filter (λ r. r.tenant == t) rs
-own_front t small rs fits = own_records full_key_of (λ r. r.tenant) (λ r. r.key) (λ r. refl) t small rs (All-map KeyFits (λ r. r.tenant < 2 ^ 32) (λ r fit. fit.tenant_fits) rs fits)
+own_front t small rs fits = own_records full_key_of (λ r. r.tenant) (λ r. r.key) (λ r. refl) t small rs (all_weaker KeyFits (λ r. r.tenant < 2 ^ 32) (λ r fit. fit.tenant_fits) rs fits)
 
 -- the tenant's records, as if there were no others
 alone_is : (t : ℕ) (records : Records) → filter (λ r. r.tenant == t) records.keys ≡ (with_own t (own t records) no_records).keys
@@ -39,7 +38,7 @@ deletions_go_by_own_keys t key records other small are i mine differs =
 
 own_number_front : (t : ℕ) → t < 2 ^ 32 → (rs : List NumberRecord) → AllByRecursion NumberFits rs → with_front number_key_of (full_key t []) rs ≡ filter (λ r. r.tenant == t) rs
 own_number_front t small rs fits =
-    own_records number_key_of (λ r. r.tenant) (λ r. big_endian 8 (flipped w64 r.key)) (λ r. refl) t small rs (All-map NumberFits (λ r. r.tenant < 2 ^ 32) (λ r fit. fit.tenant_fits) rs fits)
+    own_records number_key_of (λ r. r.tenant) (λ r. big_endian 8 (flipped w64 r.key)) (λ r. refl) t small rs (all_weaker NumberFits (λ r. r.tenant < 2 ^ 32) (λ r fit. fit.tenant_fits) rs fits)
 
 alone_numbers : (t : ℕ) (records : Records) → filter (λ r. r.tenant == t) records.numbers ≡ (with_own t (own t records) no_records).numbers
 alone_numbers t records =

@@ -11,14 +11,13 @@ use Rattle.std.proofs.lemmas.List.{map-append}
 use Rattle.std.proofs.lemmas.Nat.{from_be_bytes-to_be_bytes_4}
 use Rattle.std.proofs.Math.Seq.{take-append_seam, drop-append_seam}
 use Rattle.art_bytes.proofs.Common.{IsBefore, is_below}
-use Rattle.art_arena.proofs.Common.{put_in_order, AscendsByKey, same_key, other_key}
+use Rattle.art_arena.proofs.Common.{put_in_order, AscendsByKey, same_key, other_key, all_left, all_right}
 use Rattle.art_operations.proofs.Common.{without_key, IsBlocked, put_new, put_replaced}
 use Rattle.art_engine.specs.declared.change.Changed.TheVariants as changed
 use Rattle.art_lines.proofs.Common.{full_key, put_reply}
 use Rattle.art_engine.proofs.Terms.{full_pair, Own, KeyRecord, Records, own, with_own, InOrder, KeyComesBefore, KeyFits, value_at, has_conflict, with_pair, puts, with_changed, Pair, record_of, records_of, IsFull, AreFull, ArePairs, IsOfTenant, IsPutDone, changed_words}
 use Rattle.art_engine.proofs.Conflicts.{bytes_of, blocked_told, free_told}
 use Rattle.art_engine.proofs.Dropping.{All-put}
-use Rattle.art_engine.proofs.Filters.{All-left, All-right}
 use Rattle.art_engine.proofs.FullKeys.{full_before, cmp_itself}
 use Rattle.art_engine.proofs.OwnLaws.{key_made}
 use Rattle.art_engine.proofs.Standing.{AllBefore, AllAfter, stands_to, standing, cmp_same, Parted, absent, present, parted}
@@ -90,7 +89,7 @@ module _ (t : ℕ) (k : List ℕ) (small : t < 2 ^ 32) where
       ∙ sym (ap (λ l. value_at bytes_eq k (pairs_of_tenant t l)) split ∙ value_in_gap t k (map record_of fs) (map record_of bs) low high)
   found_among ps full (present fs m bs e low here high) =
       let split : map record_of ps ≡ map record_of fs ++ record_of m ∷ map record_of bs = ap (map record_of) e ∙ map-append record_of fs (m ∷ bs) in
-      let is = full_there m (All-right IsFull fs (m ∷ bs) (subst (AllByRecursion IsFull) e full)).0 here in
+      let is = full_there m (all_right IsFull fs (m ∷ bs) (subst (AllByRecursion IsFull) e full)).0 here in
       let hit : lookup (is_full_key t k) (m ∷ bs) ≡ Some m.1 = rw (same_key (bytes_of m) (full_key t k) is) refl in
       ap (λ l. option_map (λ v. v.items) (lookup (is_full_key t k) l)) e ∙ ap (option_map (λ v. v.items)) (skips fs (m ∷ bs) low ∙ hit)
       ∙ sym (ap (λ l. value_at bytes_eq k (pairs_of_tenant t l)) split ∙ value_there t k (map record_of fs) (map record_of bs) (record_of m) low here)
@@ -128,8 +127,8 @@ module _ (t : ℕ) (k v : List ℕ) (e : Pair) (fits : t < 2 ^ 32) (full : bytes
         is = is_made;
         full = full_is t k v e full is_made;
         fits = fits;
-        before = new_after t k v (map record_of fs) low (All-left _ (map record_of fs) (map record_of bs) parts);
-        following = new_before t k v (map record_of bs) high (All-right _ (map record_of fs) (map record_of bs) parts);
+        before = new_after t k v (map record_of fs) low (all_left _ (map record_of fs) (map record_of bs) parts);
+        following = new_before t k v (map record_of bs) high (all_right _ (map record_of fs) (map record_of bs) parts);
       } in
       let keeps = put_keeps t k v fs [] bs e are between in
       (record { keeps = keeps; records_are = put_records t k v fs [] bs e are between }, (put_new bytes_of e fs bs (pairs_ascend (fs ++ e ∷ bs) keeps)).new_is)
@@ -138,7 +137,7 @@ module _ (t : ℕ) (k v : List ℕ) (e : Pair) (fits : t < 2 ^ 32) (full : bytes
       → AllAfter t k (map record_of bs) → IsPutAmong t k v (fs ++ m ∷ bs) (fs ++ e ∷ bs) × IsNewList e (fs ++ m ∷ bs) (fs ++ e ∷ bs)
   put_present fs m bs are low here high =
       let order = subst (InOrder KeyComesBefore) (map-append record_of fs (m ∷ bs)) are.in_order in
-      let same = full_there t k fits m (All-right IsFull fs (m ∷ bs) are.full).0 here ∙ sym full in
+      let same = full_there t k fits m (all_right IsFull fs (m ∷ bs) are.full).0 here ∙ sym full in
       let between : FitsBetween t k v fs (m ∷ []) bs e = record {
         low = low;
         here = (here, tt);
@@ -195,7 +194,7 @@ module _ (ps : List Pair) (t : ℕ) (k v : List ℕ) (are : AreFull ps) (fits : 
           ap (λ l. value_at bytes_eq k (pairs_of_tenant t l)) (ap (map record_of) e ∙ map-append record_of fs bs) ∙ value_in_gap t k (map record_of fs) (map record_of bs) low high
       go (present fs m bs e low here high) =
           let held = subst AreFull e are in
-          let same = full_there t k fits m (All-right IsFull fs (m ∷ bs) held.full).0 here in
+          let same = full_there t k fits m (all_right IsFull fs (m ∷ bs) held.full).0 here in
           absurd ((put_replaced bytes_of m fs m bs refl (pairs_ascend (fs ++ m ∷ bs) held)).free (subst (λ j. IsBlocked bytes_of j (fs ++ m ∷ bs)) (sym same) (subst (IsBlocked bytes_of (full_key t k)) e blocked)))
 
   pub conflict_placed : IsBlocked bytes_of (full_key t k) ps → IsPutDone changed.Conflict (records_of ps) t k v (records_of ps)

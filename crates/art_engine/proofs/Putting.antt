@@ -1,16 +1,18 @@
 -- What a put does to the records, where the pairs around its place are known.
 use Rattle.std.proofs.Common.{◌≡◌, ℕ, ◌<◌, ◌≤◌, ◌^◌, List, [], ◌∷◌, ◌++◌, refl, ap, sym, ◌∙◌, subst, Bool, true, false, cond, arith, append-nil, append_assoc, inl, inr, Some, None}
-use Rattle.std.specs.Prelude.{◌==◌, ◌||◌, nat_lt, map, filter, option_map, IsTrue}
+use Rattle.std.specs.Prelude.{◌==◌, nat_lt, map, filter, option_map, IsTrue}
 use Rattle.std.specs.List.{AllByRecursion, find}
 use Rattle.std.specs.Str.{bytes_eq}
 use Rattle.std.specs.declared.cmp.Ordering.TheVariants.{Less, Equal, Greater}
-use Rattle.std.proofs.lemmas.Bool.{both_ways, cond_both, false_from_ne_true, true≢false, eq-eqb, eqb-true, le-ltb}
+use Rattle.std.proofs.Math.Bool.{or_comm}
+use Rattle.std.proofs.lemmas.Bool.{both_ways, cond_both, false_from_ne_true, true≢false, eq-eqb, eqb-true, le-ltb, or_parts}
 use Rattle.std.proofs.lemmas.List.{map-append}
 use Rattle.std.proofs.lemmas.List.Elements.{filter-append}
 use Rattle.std.proofs.lemmas.Slice.Eq.{bytes_eq-Decides}
 use Rattle.art_bytes.proofs.Common.{is_below, is_proper_front, conflicts}
 use Rattle.art_engine.proofs.Terms.{KeyRecord, own, with_own, InOrder, KeyComesBefore, value_at, has_conflict, with_pair, Pair, record_of, records_of, IsFull, AreFull, IsOfTenant}
-use Rattle.art_engine.proofs.Filters.{filter-all, filter-none, All-map, All-append, All-left, All-right}
+use Rattle.art_arena.proofs.tree.Filters.{filter_all, filter_none}
+use Rattle.art_arena.proofs.Common.{all_weaker, all_append, all_left, all_right}
 use Rattle.art_engine.proofs.OwnLaws.{key_part, key_made, key_ascends, made_from_mine, three_parts, records_from_lists}
 use Rattle.art_engine.proofs.Standing.{AllBefore, AllAfter, stands_to, standing, not_below_itself, not_both_below}
 
@@ -36,7 +38,7 @@ module _ {X : Type 0} where
 
   pub InOrder-left : (B : X → X → Type 0) (fs bs : List X) → InOrder B (fs ++ bs) → InOrder B fs
   InOrder-left B [] bs h = tt
-  InOrder-left B (a ∷ fs) bs h = (All-left (B a) fs bs h.0, InOrder-left B fs bs h.1)
+  InOrder-left B (a ∷ fs) bs h = (all_left (B a) fs bs h.0, InOrder-left B fs bs h.1)
 
   InOrder-right : (B : X → X → Type 0) (fs bs : List X) → InOrder B (fs ++ bs) → InOrder B bs
   InOrder-right B [] bs h = h
@@ -47,12 +49,12 @@ module _ {X : Type 0} where
       → InOrder B (fs ++ x ∷ bs)
   InOrder-put B [] ms bs x order before following = (following, InOrder-right B ms bs order)
   InOrder-put B (a ∷ fs) ms bs x order before following =
-      let rest = All-right (B a) fs (ms ++ bs) order.0 in
-      (All-append (B a) fs (x ∷ bs) (All-left (B a) fs (ms ++ bs) order.0) (before.0, All-right (B a) ms bs rest), InOrder-put B fs ms bs x order.1 before.1 following)
+      let rest = all_right (B a) fs (ms ++ bs) order.0 in
+      (all_append (B a) fs (x ∷ bs) (all_left (B a) fs (ms ++ bs) order.0) (before.0, all_right (B a) ms bs rest), InOrder-put B fs ms bs x order.1 before.1 following)
 
   pub InOrder-before : (B : X → X → Type 0) (fs bs : List X) (m : X) → InOrder B (fs ++ m ∷ bs) → AllByRecursion (λ a. B a m) fs
   InOrder-before B [] bs m h = tt
-  InOrder-before B (a ∷ fs) bs m h = ((All-right (B a) fs (m ∷ bs) h.0).0, InOrder-before B fs bs m h.1)
+  InOrder-before B (a ∷ fs) bs m h = ((all_right (B a) fs (m ∷ bs) h.0).0, InOrder-before B fs bs m h.1)
 
   pub InOrder-following : (B : X → X → Type 0) (fs bs : List X) (m : X) → InOrder B (fs ++ m ∷ bs) → AllByRecursion (B m) bs
   InOrder-following B [] bs m h = h.0
@@ -80,13 +82,13 @@ module _ (t : ℕ) (k : List ℕ) where
   after_tenant r e = elim (standing t k r Greater e) [ inl low ↦ omega arith | inr up ↦ let s = up.0 in omega arith ]
 
   pairs_before : (rs : List KeyRecord) → AllBefore t k rs → AllByRecursion (λ p. IsTrue (is_below p.0 k)) (pairs_of_tenant t rs)
-  pairs_before rs h = pairs_all (λ j. IsTrue (is_below j k)) t rs (All-map (λ r. stands_to t k r ≡ Less) (λ r. r.tenant ≡ t → IsTrue (is_below r.key k)) before_key rs h)
+  pairs_before rs h = pairs_all (λ j. IsTrue (is_below j k)) t rs (all_weaker (λ r. stands_to t k r ≡ Less) (λ r. r.tenant ≡ t → IsTrue (is_below r.key k)) before_key rs h)
 
   pairs_after : (rs : List KeyRecord) → AllAfter t k rs → AllByRecursion (λ p. IsTrue (is_below k p.0)) (pairs_of_tenant t rs)
-  pairs_after rs h = pairs_all (λ j. IsTrue (is_below k j)) t rs (All-map (λ r. stands_to t k r ≡ Greater) (λ r. r.tenant ≡ t → IsTrue (is_below k r.key)) after_key rs h)
+  pairs_after rs h = pairs_all (λ j. IsTrue (is_below k j)) t rs (all_weaker (λ r. stands_to t k r ≡ Greater) (λ r. r.tenant ≡ t → IsTrue (is_below k r.key)) after_key rs h)
 
   pairs_at : (rs : List KeyRecord) → AllAt t k rs → AllByRecursion (λ p. p.0 ≡ k) (pairs_of_tenant t rs)
-  pairs_at rs h = pairs_all (λ j. j ≡ k) t rs (All-map (λ r. stands_to t k r ≡ Equal) (λ r. r.tenant ≡ t → r.key ≡ k) (λ r e same. (standing t k r Equal e).1) rs h)
+  pairs_at rs h = pairs_all (λ j. j ≡ k) t rs (all_weaker (λ r. stands_to t k r ≡ Equal) (λ r. r.tenant ≡ t → r.key ≡ k) (λ r e same. (standing t k r Equal e).1) rs h)
 
   pairs_append : (fs bs : List KeyRecord) → pairs_of_tenant t (fs ++ bs) ≡ pairs_of_tenant t fs ++ pairs_of_tenant t bs
   pairs_append fs bs = ap (map key_part) (filter-append (λ r. r.tenant == t) fs bs) ∙ map-append key_part (filter (λ r. r.tenant == t) fs) (filter (λ r. r.tenant == t) bs)
@@ -100,8 +102,8 @@ module _ (t : ℕ) (k : List ℕ) where
   -- the value at a key that is in a gap, and at one that is there
   pub value_in_gap : (fs bs : List KeyRecord) → AllBefore t k fs → AllAfter t k bs → value_at bytes_eq k (pairs_of_tenant t (fs ++ bs)) ≡ None
   value_in_gap fs bs low high = ap (λ ps. value_at bytes_eq k ps) (pairs_append fs bs) ∙ ap (option_map (λ p. p.1))
-      (find-skips (λ p. bytes_eq p.0 k) (pairs_of_tenant t fs) (pairs_of_tenant t bs) (All-map (λ p. IsTrue (is_below p.0 k)) (λ p. bytes_eq p.0 k ≡ false) (λ p. below_other p.0) (pairs_of_tenant t fs) (pairs_before fs low))
-      ∙ find-none (λ p. bytes_eq p.0 k) (pairs_of_tenant t bs) (All-map (λ p. IsTrue (is_below k p.0)) (λ p. bytes_eq p.0 k ≡ false) (λ p. above_other p.0) (pairs_of_tenant t bs) (pairs_after bs high)))
+      (find-skips (λ p. bytes_eq p.0 k) (pairs_of_tenant t fs) (pairs_of_tenant t bs) (all_weaker (λ p. IsTrue (is_below p.0 k)) (λ p. bytes_eq p.0 k ≡ false) (λ p. below_other p.0) (pairs_of_tenant t fs) (pairs_before fs low))
+      ∙ find-none (λ p. bytes_eq p.0 k) (pairs_of_tenant t bs) (all_weaker (λ p. IsTrue (is_below k p.0)) (λ p. bytes_eq p.0 k ≡ false) (λ p. above_other p.0) (pairs_of_tenant t bs) (pairs_after bs high)))
 
   pub value_there : (fs bs : List KeyRecord) (r : KeyRecord) → AllBefore t k fs → stands_to t k r ≡ Equal → value_at bytes_eq k (pairs_of_tenant t (fs ++ r ∷ bs)) ≡ Some r.value
   value_there fs bs r low here =
@@ -109,7 +111,7 @@ module _ (t : ℕ) (k : List ℕ) where
       let mine : (r.tenant == t) ≡ true = eq-eqb r.tenant t is.0 in
       let same : bytes_eq r.key k ≡ true = (bytes_eq-Decides r.key k).1 is.1 in
       ap (λ ps. value_at bytes_eq k ps) (pairs_append fs (r ∷ bs)) ∙ ap (option_map (λ p. p.1))
-      (find-skips (λ p. bytes_eq p.0 k) (pairs_of_tenant t fs) (pairs_of_tenant t (r ∷ bs)) (All-map (λ p. IsTrue (is_below p.0 k)) (λ p. bytes_eq p.0 k ≡ false) (λ p. below_other p.0) (pairs_of_tenant t fs) (pairs_before fs low)))
+      (find-skips (λ p. bytes_eq p.0 k) (pairs_of_tenant t fs) (pairs_of_tenant t (r ∷ bs)) (all_weaker (λ p. IsTrue (is_below p.0 k)) (λ p. bytes_eq p.0 k ≡ false) (λ p. below_other p.0) (pairs_of_tenant t fs) (pairs_before fs low)))
       ∙ rw (mine, same) refl
 
   below_itself_not : (p : List ℕ × List ℕ) → p.0 ≡ k → is_below p.0 k ≡ false
@@ -127,16 +129,16 @@ module _ (t : ℕ) (k : List ℕ) where
       let lower : filter (λ p. is_below p.0 k) (A ++ (M ++ B)) ≡ A =
       filter-append (λ p. is_below p.0 k) A (M ++ B) ∙ ap (λ l. filter (λ p. is_below p.0 k) A ++ l) (filter-append (λ p. is_below p.0 k) M B)
       ∙ rw (
-        filter-all (λ p. is_below p.0 k) A (pairs_before fs low),
-        filter-none (λ p. is_below p.0 k) M (All-map (λ p. p.0 ≡ k) (λ p. is_below p.0 k ≡ false) below_itself_not M (pairs_at ms here)),
-        filter-none (λ p. is_below p.0 k) B (All-map (λ p. IsTrue (is_below k p.0)) (λ p. is_below p.0 k ≡ false) (λ p. not_both_below k p.0) B (pairs_after bs high)),
+        filter_all (λ p. is_below p.0 k) A (pairs_before fs low),
+        filter_none (λ p. is_below p.0 k) M (all_weaker (λ p. p.0 ≡ k) (λ p. is_below p.0 k ≡ false) below_itself_not M (pairs_at ms here)),
+        filter_none (λ p. is_below p.0 k) B (all_weaker (λ p. IsTrue (is_below k p.0)) (λ p. is_below p.0 k ≡ false) (λ p. not_both_below k p.0) B (pairs_after bs high)),
       ) (append-nil A) in
       let upper : filter (λ p. is_below k p.0) (A ++ (M ++ B)) ≡ B =
       filter-append (λ p. is_below k p.0) A (M ++ B) ∙ ap (λ l. filter (λ p. is_below k p.0) A ++ l) (filter-append (λ p. is_below k p.0) M B)
       ∙ rw (
-        filter-none (λ p. is_below k p.0) A (All-map (λ p. IsTrue (is_below p.0 k)) (λ p. is_below k p.0 ≡ false) (λ p. not_both_below p.0 k) A (pairs_before fs low)),
-        filter-none (λ p. is_below k p.0) M (All-map (λ p. p.0 ≡ k) (λ p. is_below k p.0 ≡ false) above_itself_not M (pairs_at ms here)),
-        filter-all (λ p. is_below k p.0) B (pairs_after bs high),
+        filter_none (λ p. is_below k p.0) A (all_weaker (λ p. IsTrue (is_below p.0 k)) (λ p. is_below k p.0 ≡ false) (λ p. not_both_below p.0 k) A (pairs_before fs low)),
+        filter_none (λ p. is_below k p.0) M (all_weaker (λ p. p.0 ≡ k) (λ p. is_below k p.0 ≡ false) above_itself_not M (pairs_at ms here)),
+        filter_all (λ p. is_below k p.0) B (pairs_after bs high),
       ) refl in
       ap (with_pair is_below k v) parts ∙ rw (lower, upper) refl
 
@@ -146,10 +148,10 @@ module _ (t : ℕ) (k : List ℕ) where
       ≡ fs ++ key_made t (k, v) ∷ bs
   records_put v fs ms bs order low here high =
       let lt : KeyRecord → Bool = λ r. nat_lt r.tenant t in let gt : KeyRecord → Bool = λ r. nat_lt t r.tenant in let eq : KeyRecord → Bool = λ r. r.tenant == t in
-      let no_lt_ms : filter lt ms ≡ [] = filter-none lt ms (All-map (λ r. stands_to t k r ≡ Equal) (λ r. lt r ≡ false) (λ r e. let s = (standing t k r Equal e).0 in le-ltb r.tenant t (omega arith)) ms here) in
-      let no_gt_ms : filter gt ms ≡ [] = filter-none gt ms (All-map (λ r. stands_to t k r ≡ Equal) (λ r. gt r ≡ false) (λ r e. let s = (standing t k r Equal e).0 in le-ltb t r.tenant (omega arith)) ms here) in
-      let no_lt_bs : filter lt bs ≡ [] = filter-none lt bs (All-map (λ r. stands_to t k r ≡ Greater) (λ r. lt r ≡ false) (λ r e. le-ltb r.tenant t (after_tenant r e)) bs high) in
-      let no_gt_fs : filter gt fs ≡ [] = filter-none gt fs (All-map (λ r. stands_to t k r ≡ Less) (λ r. gt r ≡ false) (λ r e. le-ltb t r.tenant (before_tenant r e)) fs low) in
+      let no_lt_ms : filter lt ms ≡ [] = filter_none lt ms (all_weaker (λ r. stands_to t k r ≡ Equal) (λ r. lt r ≡ false) (λ r e. let s = (standing t k r Equal e).0 in le-ltb r.tenant t (omega arith)) ms here) in
+      let no_gt_ms : filter gt ms ≡ [] = filter_none gt ms (all_weaker (λ r. stands_to t k r ≡ Equal) (λ r. gt r ≡ false) (λ r e. let s = (standing t k r Equal e).0 in le-ltb t r.tenant (omega arith)) ms here) in
+      let no_lt_bs : filter lt bs ≡ [] = filter_none lt bs (all_weaker (λ r. stands_to t k r ≡ Greater) (λ r. lt r ≡ false) (λ r e. le-ltb r.tenant t (after_tenant r e)) bs high) in
+      let no_gt_fs : filter gt fs ≡ [] = filter_none gt fs (all_weaker (λ r. stands_to t k r ≡ Less) (λ r. gt r ≡ false) (λ r e. le-ltb t r.tenant (before_tenant r e)) fs low) in
       let lows : filter lt (fs ++ (ms ++ bs)) ≡ filter lt fs =
       filter-append lt fs (ms ++ bs) ∙ ap (λ l. filter lt fs ++ l) (filter-append lt ms bs) ∙ rw (no_lt_ms, no_lt_bs) (append-nil (filter lt fs)) in
       let highs : filter gt (fs ++ (ms ++ bs)) ≡ filter gt bs =
@@ -176,23 +178,14 @@ pub no_conflict_with : (t : ℕ) (k : List ℕ) (rs : List KeyRecord) → has_co
 no_conflict_with t k [] h = tt
 no_conflict_with t k (r ∷ rs) h = go (r.tenant == t) refl h (no_conflict_with t k rs)
   where
-    parts : (a b : Bool) → (a || b) ≡ false → (a ≡ false) × (b ≡ false)
-    parts true b e = absurd (true≢false e)
-    parts false b e = (refl, e)
-
     go : (b : Bool) → (r.tenant == t) ≡ b → has_conflict k (map key_part (cond b (r ∷ filter (λ s. s.tenant == t) rs) (filter (λ s. s.tenant == t) rs))) ≡ false
         → (has_conflict k (pairs_of_tenant t rs) ≡ false → AllByRecursion (λ r. r.tenant ≡ t → conflicts k r.key ≡ false) rs)
         → AllByRecursion (λ r. r.tenant ≡ t → conflicts k r.key ≡ false) (r ∷ rs)
-    go true e f ih = let both = parts (conflicts k r.key) (has_conflict k (pairs_of_tenant t rs)) f in (λ _. both.0, ih both.1)
+    go true e f ih = let both = or_parts (conflicts k r.key) (has_conflict k (pairs_of_tenant t rs)) f in (λ _. both.0, ih both.1)
     go false e f ih = (λ same. absurd (true≢false (sym (eq-eqb r.tenant t same) ∙ e)), ih f)
 
 pub conflicts_back : (a b : List ℕ) → conflicts a b ≡ false → conflicts b a ≡ false
-conflicts_back a b h = go (is_proper_front a b) (is_proper_front b a) h
-  where
-    go : (x y : Bool) → (x || y) ≡ false → (y || x) ≡ false
-    go true y e = absurd (true≢false e)
-    go false true e = e
-    go false false e = refl
+conflicts_back a b h = or_comm (is_proper_front b a) (is_proper_front a b) ∙ h
 
 -- a new record among those of a gap, without a conflict
 module _ (t : ℕ) (k v : List ℕ) where
@@ -212,7 +205,7 @@ module _ (t : ℕ) (k v : List ℕ) where
   pub same_after : (rs : List KeyRecord) (m : KeyRecord) → stands_to t k m ≡ Equal → AllByRecursion (λ r. KeyComesBefore r m) rs → AllByRecursion (λ r. KeyComesBefore r (key_made t (k, v))) rs
   same_after rs m here h =
       let is = standing t k m Equal here in
-      All-map (λ r. KeyComesBefore r m) (λ r. KeyComesBefore r (key_made t (k, v))) (λ r b. step r m is.0 is.1 b) rs h
+      all_weaker (λ r. KeyComesBefore r m) (λ r. KeyComesBefore r (key_made t (k, v))) (λ r b. step r m is.0 is.1 b) rs h
     where
       step : (r m : KeyRecord) → m.tenant ≡ t → m.key ≡ k → KeyComesBefore r m → KeyComesBefore r (key_made t (k, v))
       step r m e f (inl lt) = inl (omega arith)
@@ -221,7 +214,7 @@ module _ (t : ℕ) (k v : List ℕ) where
   pub same_before : (rs : List KeyRecord) (m : KeyRecord) → stands_to t k m ≡ Equal → AllByRecursion (KeyComesBefore m) rs → AllByRecursion (λ r. KeyComesBefore (key_made t (k, v)) r) rs
   same_before rs m here h =
       let is = standing t k m Equal here in
-      All-map (KeyComesBefore m) (λ r. KeyComesBefore (key_made t (k, v)) r) (λ r b. step r m is.0 is.1 b) rs h
+      all_weaker (KeyComesBefore m) (λ r. KeyComesBefore (key_made t (k, v)) r) (λ r b. step r m is.0 is.1 b) rs h
     where
       step : (r m : KeyRecord) → m.tenant ≡ t → m.key ≡ k → KeyComesBefore m r → KeyComesBefore (key_made t (k, v)) r
       step r m e f (inl lt) = inl (omega arith)
@@ -262,10 +255,10 @@ module _ (t : ℕ) (k v : List ℕ) (fs ms bs : List Pair) (e : Pair) (are : Are
 
   pub put_keeps : AreFull (fs ++ e ∷ bs)
   put_keeps = record {
-    full = All-append IsFull fs (e ∷ bs) (All-left IsFull fs (ms ++ bs) are.full) (f.full, All-right IsFull ms bs (All-right IsFull fs (ms ++ bs) are.full));
+    full = all_append IsFull fs (e ∷ bs) (all_left IsFull fs (ms ++ bs) are.full) (f.full, all_right IsFull ms bs (all_right IsFull fs (ms ++ bs) are.full));
     in_order = subst (InOrder KeyComesBefore) (sym new_list) (InOrder-put KeyComesBefore F M B (key_made t (k, v)) order f.before f.following);
     tenants = subst (AllByRecursion IsOfTenant) (sym new_list)
-        (All-append IsOfTenant F (key_made t (k, v) ∷ B) (All-left IsOfTenant F (M ++ B) fit) (f.fits, All-right IsOfTenant M B (All-right IsOfTenant F (M ++ B) fit)));
+        (all_append IsOfTenant F (key_made t (k, v) ∷ B) (all_left IsOfTenant F (M ++ B) fit) (f.fits, all_right IsOfTenant M B (all_right IsOfTenant F (M ++ B) fit)));
   }
 
   pub put_records : records_of (fs ++ e ∷ bs) ≡ with_own t (record { keys = with_pair is_below k v (own t (records_of (fs ++ (ms ++ bs)))).keys; numbers = (own t (records_of (fs ++ (ms ++ bs)))).numbers }) (records_of (fs ++ (ms ++ bs)))

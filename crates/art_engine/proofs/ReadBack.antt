@@ -1,12 +1,12 @@
 -- The lines of a dump, carried out from no records: what they are answered, and what they leave.
-use Rattle.std.proofs.Common.{◌≡◌, ℕ, zero, suc, ℤ, ◌+◌, List, [], ◌∷◌, ◌++◌, length, map, refl, ap, ap₂, sym, ◌∙◌, subst, Bool, true, false, cond, arith, append-nil, append_assoc, inl, inr, Option, Some, None}
+use Rattle.std.proofs.Common.{◌≡◌, ℕ, ℤ, ◌+◌, List, [], ◌∷◌, ◌++◌, length, map, refl, ap, ap₂, sym, ◌∙◌, subst, Bool, true, false, cond, arith, append-nil, append_assoc, inl, inr, Option, Some, None}
 use Rattle.std.specs.Prelude.{◌==◌, ◌||◌, ◌&&◌, nat_lt, int_lt, filter, flat_map, replicate, codes, IsTrue, option_map}
 use Rattle.std.specs.List.{AllByRecursion, fold}
 use Rattle.std.specs.Ordering.{int_eq}
 use Rattle.std.specs.declared.cmp.Ordering.TheVariants.{Less}
 use Rattle.std.proofs.lemmas.Bool.{cond_both, eq-eqb, ne_eqb, eqb-true, lt-ltb, le-ltb}
 use Rattle.std.proofs.lemmas.Grind.{flat_map-append}
-use Rattle.std.proofs.lemmas.List.{map-append}
+use Rattle.std.proofs.lemmas.List.{map-append, replicate-append-replicate}
 use Rattle.art_bytes.proofs.Common.{conflicts, is_below}
 use Rattle.art_lines.proofs.Common.{lines_of, name, text_of, line_of, put, nput, Command, of_tenant, put_reply, end_words}
 use Rattle.art_lines.specs.Words.{Word}
@@ -16,7 +16,9 @@ use Rattle.art_engine.proofs.Terms.{dump_of, answers, reply_to, records_after, d
 use Rattle.art_engine.proofs.Dropping.{IsOwnTest, own_find}
 use Rattle.art_engine.proofs.Dumping.{words_put, words_nput}
 use Rattle.art_engine.proofs.DumpTexts.{put_spelled, nput_spelled, end_spelled, put_lines, nput_lines, end_line, OneLine, lines_are}
-use Rattle.art_engine.proofs.Filters.{filter-all, filter-none, All-each, All-map, All-append}
+use Rattle.art_engine.proofs.Filters.{All-each}
+use Rattle.art_arena.proofs.tree.Filters.{filter_all, filter_none}
+use Rattle.art_arena.proofs.Common.{all_weaker, all_append}
 use Rattle.art_engine.proofs.OwnLaws.{key_part, key_made, key_ascends, number_part, number_made, number_ascends, in_place, records_from_lists}
 use Rattle.art_engine.proofs.NumberKeys.{int_lt_turned}
 use Rattle.art_engine.proofs.OwnParts.{cut_put}
@@ -60,7 +62,7 @@ module _ (fs : List KeyRecord) (x : KeyRecord) (order : InOrder KeyComesBefore (
   befores = InOrder-before KeyComesBefore fs [] x order
 
   low : AllBefore x.tenant x.key fs
-  low = All-map (λ r. KeyComesBefore r x) (λ r. stands_to x.tenant x.key r ≡ Less) step fs befores
+  low = all_weaker (λ r. KeyComesBefore r x) (λ r. stands_to x.tenant x.key r ≡ Less) step fs befores
     where
       step : (r : KeyRecord) → KeyComesBefore r x → stands_to x.tenant x.key r ≡ Less
       step r (inl lt) = stands_before x.tenant x.key r (inl lt)
@@ -141,7 +143,7 @@ module _ (ks : List KeyRecord) (keys_order : InOrder KeyComesBefore ks) (fs : Li
       let Q : NumberRecord → Bool = λ r. (r.tenant == x.tenant) && int_eq r.key x.key in
       ap (option_map (λ (p : ℤ × List ℕ). p.1))
       (sym (own_find (λ (r : NumberRecord). r.tenant) number_part x.tenant Q (λ p. int_eq p.0 x.key) fs (All-each (IsOwnTest (λ (r : NumberRecord). r.tenant) number_part x.tenant Q (λ p. int_eq p.0 x.key)) (λ r. refl) fs))
-      ∙ ap (option_map number_part) (find-none Q fs (All-map (λ r. NumberComesBefore r x) (λ r. Q r ≡ false) not_same fs all_before)))
+      ∙ ap (option_map number_part) (find-none Q fs (all_weaker (λ r. NumberComesBefore r x) (λ r. Q r ≡ false) not_same fs all_before)))
 
   number_new : NumberFits x → reply_to (record { keys = ks; numbers = fs }) (text_of (words_nput x)) ≡ new_line
   number_new fits =
@@ -156,8 +158,8 @@ module _ (ks : List KeyRecord) (keys_order : InOrder KeyComesBefore ks) (fs : Li
       (sym (cut_put (λ (r : NumberRecord). r.tenant) number_part number_made (λ t p. refl) (λ t p. refl) (λ x. refl) x.tenant fs
       (number_ascends fs (InOrder-left NumberComesBefore fs (x ∷ []) order)) (λ p. int_lt p.0 x.key) (λ p. int_lt x.key p.0) (x.key, x.value))
       ∙ ap₂ (λ a b. a ++ x ∷ b)
-      (filter-all (λ r. nat_lt r.tenant x.tenant || ((r.tenant == x.tenant) && int_lt r.key x.key)) fs (All-map (λ r. NumberComesBefore r x) (λ r. (nat_lt r.tenant x.tenant || ((r.tenant == x.tenant) && int_lt r.key x.key)) ≡ true) is_lower fs all_before))
-      (filter-none (λ r. nat_lt x.tenant r.tenant || ((r.tenant == x.tenant) && int_lt x.key r.key)) fs (All-map (λ r. NumberComesBefore r x) (λ r. (nat_lt x.tenant r.tenant || ((r.tenant == x.tenant) && int_lt x.key r.key)) ≡ false) not_higher fs all_before)))
+      (filter_all (λ r. nat_lt r.tenant x.tenant || ((r.tenant == x.tenant) && int_lt r.key x.key)) fs (all_weaker (λ r. NumberComesBefore r x) (λ r. (nat_lt r.tenant x.tenant || ((r.tenant == x.tenant) && int_lt r.key x.key)) ≡ true) is_lower fs all_before))
+      (filter_none (λ r. nat_lt x.tenant r.tenant || ((r.tenant == x.tenant) && int_lt x.key r.key)) fs (all_weaker (λ r. NumberComesBefore r x) (λ r. (nat_lt x.tenant r.tenant || ((r.tenant == x.tenant) && int_lt x.key r.key)) ≡ false) not_higher fs all_before)))
 
 -- the end is bad
 end_reply : (r : Records) (n : ℕ) → reply_to r (text_of (end_words n)) ≡ line_of (name (codes "bad") ∷ []) ++ []
@@ -166,15 +168,11 @@ end_reply r n = reply_by r (text_of (end_words n)) None (end_spelled n)
 end_after : (r : Records) (n : ℕ) → records_after r (text_of (end_words n)) ≡ r
 end_after r n = after_by r (text_of (end_words n)) None (end_spelled n)
 
-replicate-append : {X : Type 0} (m n : ℕ) (x : X) → replicate m x ++ replicate n x ≡ replicate (m + n) x
-replicate-append zero n x = let e : n ≡ 0 + n = omega arith in ap (λ k. replicate k x) e
-replicate-append (suc m) n x = let e : suc m + n ≡ suc (m + n) = omega arith in ap (λ l. x ∷ l) (replicate-append m n x) ∙ ap (λ k. replicate k x) (sym e)
-
 module _ (r : Records) (are : AreRecords r) where
   dump_lines : lines_of (dump_text r) ≡ map text_of (map words_put r.keys) ++ (map text_of (map words_nput r.numbers) ++ text_of (end_words (length r.keys + length r.numbers)) ∷ [])
   dump_lines =
       let e : List Word = end_words (length r.keys + length r.numbers) in
-      lines_are (dump_of r) (All-append OneLine (key_lines r ++ number_lines r) (e ∷ []) (All-append OneLine (key_lines r) (number_lines r) (put_lines r.keys are.keys_fit) (nput_lines r.numbers are.numbers_fit)) (end_line (length r.keys + length r.numbers), tt))
+      lines_are (dump_of r) (all_append OneLine (key_lines r ++ number_lines r) (e ∷ []) (all_append OneLine (key_lines r) (number_lines r) (put_lines r.keys are.keys_fit) (nput_lines r.numbers are.numbers_fit)) (end_line (length r.keys + length r.numbers), tt))
       ∙ map-append text_of (key_lines r ++ number_lines r) (e ∷ []) ∙ ap (λ l. l ++ text_of e ∷ []) (map-append text_of (key_lines r) (number_lines r))
       ∙ append_assoc (map text_of (key_lines r)) (map text_of (number_lines r)) (text_of e ∷ [])
 
@@ -196,7 +194,7 @@ module _ (r : Records) (are : AreRecords r) where
             ∙ ap (λ t. flat_map line_of (news (length r.keys)) ++ t)
             (replies-append middle N (E ∷ []) ∙ ap₂ (λ a r. a ++ replies r (E ∷ [])) numbers.0 numbers.1 ∙ ap (λ t. flat_map line_of (news (length r.numbers)) ++ t) (ap (λ t. t ++ []) (end_reply r (length r.keys + length r.numbers)) ∙ append-nil _))
             ∙ sym (append_assoc (flat_map line_of (news (length r.keys))) (flat_map line_of (news (length r.numbers))) (flat_map line_of bad))
-            ∙ ap (λ t. t ++ flat_map line_of bad) (sym (flat_map-append line_of (news (length r.keys)) (news (length r.numbers))) ∙ ap (flat_map line_of) (replicate-append (length r.keys) (length r.numbers) (name (codes "new") ∷ [])))
+            ∙ ap (λ t. t ++ flat_map line_of bad) (sym (flat_map-append line_of (news (length r.keys)) (news (length r.numbers))) ∙ ap (flat_map line_of) (replicate-append-replicate (length r.keys) (length r.numbers) (name (codes "new") ∷ [])))
             ∙ sym (flat_map-append line_of (news (length r.keys + length r.numbers)) bad),
         ap (after no_records) dump_lines ∙ after-append no_records K (N ++ E ∷ [])
             ∙ ap (λ r. after r (N ++ E ∷ [])) keys.1 ∙ after-append middle N (E ∷ []) ∙ ap (λ r. after r (E ∷ [])) numbers.1 ∙ end_after r (length r.keys + length r.numbers),

@@ -4,21 +4,23 @@ use Rattle.std.specs.Prelude.{◌&&◌, int_lt, ℤ, option_map}
 use Rattle.std.specs.Map.{lookup, lookup_entry}
 use Rattle.std.specs.Global.{Vec}
 use Rattle.std.specs.List.{AllByRecursion}
+use Rattle.std.proofs.lemmas.List.Filters.{length-filter_both}
 use Rattle.std.specs.declared.ops.Bound.TheVariants.{Included, Excluded}
 use Rattle.std.specs.BTreeMap.Range.{range_contains}
 use Rattle.art_bytes.proofs.Common.{is_below, bytes_cmp, pair_key}
-use Rattle.art_arena.proofs.Common.{begins_with}
+use Rattle.art_arena.proofs.Common.{begins_with, all_weaker}
 use Rattle.art_operations.proofs.Common.{OpeningReads, ReadsAtLeast}
-use Rattle.art_walks.proofs.Common.{ReadsPathOf}
+use Rattle.art_walks.proofs.Common.{ReadsPathOf, all-filter}
 use Rattle.art_engine.proofs.Terms.{exactly, listing, longest, path_nodes, GrewBy, Grew, full_key_of, number_key_of, own, value_at, numbers_from_to, own_pair, IsListed, own_number, IsNumbered, Pair, NumberPair, record_of, records_of, number_record_of, number_records_of, IsNumberPair}
 use Rattle.art_engine.proofs.Terms.{AreFull, ArePairs, AreNumberPairs}
 use Rattle.art_lines.proofs.Common.{full_key}
 use Rattle.art_engine.proofs.Changing.{keys_are, option_map-map}
 use Rattle.art_engine.proofs.Conflicts.{bytes_of}
 use Rattle.art_engine.proofs.Counting.{path_is_short}
-use Rattle.art_engine.proofs.Filters.{All-each, All-filter, All-map, length-map, map-alike}
+use Rattle.art_engine.proofs.Filters.{All-each, map-alike}
+use Rattle.std.proofs.lemmas.List.{length-map}
 use Rattle.art_engine.proofs.FullTests.{begins_full, between_full, same_full}
-use Rattle.art_engine.proofs.ListedLines.{are_listed, are_numbered, filter_shorter}
+use Rattle.art_engine.proofs.ListedLines.{are_listed, are_numbered}
 use Rattle.art_engine.proofs.Listings.{listing_grew, path_grew, longest_by_keys, within_longest}
 use Rattle.art_engine.proofs.MappedTrees.{paths_by_keys}
 use Rattle.art_engine.proofs.NumberKeys.{HaveBytes, between_numbers}
@@ -53,17 +55,17 @@ module _ (t : ℕ) (T G : List ℕ → Bool) (tests : IsFullTest t T G) (ps : Li
   own_left = sym (own_pairs left) ∙ passing t T G tests ps are.stand
 
   pub left_listed : AllByRecursion IsListed left
-  left_listed = All-filter IsListed (λ p. T p.0.items) ps (are_listed ps are.stand.full are.fit)
+  left_listed = all-filter IsListed (λ p. T p.0.items) ps (are_listed ps are.stand.full are.fit)
 
   pub left_few : length ps < 2 ^ 64 → length left < 2 ^ 64
-  left_few few = let less = filter_shorter (λ (p : Pair). T p.0.items) ps in omega arith
+  left_few few = let parted = length-filter_both (λ (p : Pair). T p.0.items) (λ p. not (T p.0.items)) (λ p. refl) ps in omega arith
 
   -- it is listed by so many reads
   pub left_grew : (bound full old mid new : ℕ) → length ps < 2 ^ 64 → full ≡ bound + 4 → ReadsAtLeast 0 old mid → OpeningReads (longest full_key_of (map record_of ps)) full old mid
       → GrewBy (length left) mid new
       → Grew (listing (length (filter (λ p. G p.0) (own t (records_of ps)).keys)) bound (longest full_key_of (map record_of ps))) old new
   left_grew bound full old mid new few whole kept opens is =
-      let number : length left ≡ length (filter (λ p. G p.0) (own t (records_of ps)).keys) = sym (length-map own_pair left) ∙ ap length own_left in
+      let number : length left ≡ length (filter (λ p. G p.0) (own t (records_of ps)).keys) = sym (length-map left own_pair) ∙ ap length own_left in
       subst (λ n. Grew (listing n bound (longest full_key_of (map record_of ps))) old new) number
       (listing_grew bound full (longest full_key_of (map record_of ps)) old mid new (length left) kept opens whole (left_few few) is)
 
@@ -114,7 +116,7 @@ number_path t n ns are old new reads =
 
 -- the bytes of a number are twelve
 pub numbers_within : (ns : List NumberPair) → AllByRecursion IsNumberPair ns → AllByRecursion (λ p. length p.0 ≤ 12) ns
-numbers_within ns stand = All-map IsNumberPair (λ p. length p.0 ≤ 12) (λ p is. let long = ap length is in omega arith) ns stand
+numbers_within ns stand = all_weaker IsNumberPair (λ p. length p.0 ≤ 12) (λ p is. let long = ap length is in omega arith) ns stand
 
 -- pairs without their tenant
 pub own_numbers : (ns : List NumberPair) → map number_part (map number_record_of ns) ≡ map own_number ns
@@ -134,13 +136,13 @@ module _ (t : ℕ) (low high : ℤ) (fits_low : HaveBytes t low) (fits_high : Ha
       ∙ numbers_passing t between (λ m. not (int_lt m low) && not (int_lt high m)) (λ u m h. between_numbers t u low high m fits_low fits_high h) ns (stand_all ns are.stand are.fit)
 
   pub numbers_left_listed : AllByRecursion IsNumbered numbers_left
-  numbers_left_listed = All-filter IsNumbered (λ p. between p.0) ns (are_numbered ns are.fit)
+  numbers_left_listed = all-filter IsNumbered (λ p. between p.0) ns (are_numbered ns are.fit)
 
   pub numbers_left_few : length ns < 2 ^ 64 → length numbers_left < 2 ^ 64
-  numbers_left_few few = let less = filter_shorter (λ (p : NumberPair). between p.0) ns in omega arith
+  numbers_left_few few = let parted = length-filter_both (λ (p : NumberPair). between p.0) (λ p. not (between p.0)) (λ p. refl) ns in omega arith
 
   pub numbers_left_grew : (old mid new : ℕ) → length ns < 2 ^ 64 → ReadsAtLeast 0 old mid → OpeningReads 12 12 old mid → GrewBy (length numbers_left) mid new
       → Grew (listing (length (numbers_from_to low high (own t (number_records_of ns)).numbers)) 8 12) old new
   numbers_left_grew old mid new few kept opens is =
-      let number : length numbers_left ≡ length (numbers_from_to low high (own t (number_records_of ns)).numbers) = sym (length-map own_number numbers_left) ∙ ap length own_numbers_left in
+      let number : length numbers_left ≡ length (numbers_from_to low high (own t (number_records_of ns)).numbers) = sym (length-map numbers_left own_number) ∙ ap length own_numbers_left in
       subst (λ n. Grew (listing n 8 12) old new) number (listing_grew 8 12 12 old mid new (length numbers_left) kept opens (omega arith) (numbers_left_few few) is)

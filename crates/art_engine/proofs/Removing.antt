@@ -5,7 +5,9 @@ use Rattle.std.specs.List.{AllByRecursion, find}
 use Rattle.std.specs.Map.{lookup_entry}
 use Rattle.art_lines.proofs.Common.{full_key}
 use Rattle.art_engine.proofs.Terms.{full_key_of, KeyRecord, InOrder, KeyComesBefore, Pair, record_of, IsFull, AreFull, IsOfTenant}
-use Rattle.art_engine.proofs.Filters.{All-filter, All-map, filter-mapped}
+use Rattle.art_engine.proofs.Filters.{filter-mapped}
+use Rattle.art_walks.proofs.Common.{all-filter}
+use Rattle.art_arena.proofs.Common.{all_weaker}
 use Rattle.art_engine.proofs.Dropping.{InOrder-filter, IsOwnTest, own_filter, own_find, left_mine, left_before, left_after, left_in_place}
 use Rattle.art_engine.proofs.OwnLaws.{key_part, key_made, key_ascends}
 use Rattle.art_engine.proofs.Putting.{pairs_of_tenant}
@@ -13,7 +15,7 @@ use Rattle.art_engine.proofs.Putting.{pairs_of_tenant}
 module _ (T : List ℕ → Bool) where
   -- what passes of pairs is what passes of their records
   pub records_filter : (ps : List Pair) → AllByRecursion IsFull ps → map record_of (filter (λ p. T p.0.items) ps) ≡ filter (λ r. T (full_key_of r)) (map record_of ps)
-  records_filter ps full = filter-mapped record_of (λ p. T p.0.items) (λ r. T (full_key_of r)) ps (All-map IsFull (λ p. T p.0.items ≡ T (full_key_of (record_of p))) (λ p e. ap T e) ps full)
+  records_filter ps full = filter-mapped record_of (λ p. T p.0.items) (λ r. T (full_key_of r)) ps (all_weaker IsFull (λ p. T p.0.items ≡ T (full_key_of (record_of p))) (λ p e. ap T e) ps full)
 
   pub records_find : (ps : List Pair) → AllByRecursion IsFull ps → option_map record_of (lookup_entry (λ k. T k.items) ps) ≡ find (λ r. T (full_key_of r)) (map record_of ps)
   records_find [] full = refl
@@ -30,7 +32,7 @@ IsFullTest t T G = (u : ℕ) (j : List ℕ) → u < 2 ^ 32 → T (full_key u j) 
 
 module _ (t : ℕ) (T G : List ℕ → Bool) (tests : IsFullTest t T G) where
   own_tests : (rs : List KeyRecord) → AllByRecursion IsOfTenant rs → AllByRecursion (IsOwnTest (λ (r : KeyRecord). r.tenant) key_part t (λ r. T (full_key_of r)) (λ p. G p.0)) rs
-  own_tests rs fits = All-map IsOfTenant (IsOwnTest (λ (r : KeyRecord). r.tenant) key_part t (λ r. T (full_key_of r)) (λ p. G p.0)) (λ r. tests r.tenant r.key) rs fits
+  own_tests rs fits = all_weaker IsOfTenant (IsOwnTest (λ (r : KeyRecord). r.tenant) key_part t (λ r. T (full_key_of r)) (λ p. G p.0)) (λ r. tests r.tenant r.key) rs fits
 
   -- those that pass are the tenant's whose keys pass
   pub passing : (ps : List Pair) → AreFull ps → map key_part (map record_of (filter (λ p. T p.0.items) ps)) ≡ filter (λ p. G p.0) (pairs_of_tenant t (map record_of ps))
@@ -54,9 +56,9 @@ module _ (t : ℕ) (T G : List ℕ → Bool) (tests : IsFullTest t T G) where
   without_keeps ps are =
       let same : filter (λ r. not (T (full_key_of r))) (map record_of ps) ≡ map record_of (without ps) = sym (records_without ps are.full) in
       record {
-        full = All-filter IsFull (λ p. not (T p.0.items)) ps are.full;
+        full = all-filter IsFull (λ p. not (T p.0.items)) ps are.full;
         in_order = subst (InOrder KeyComesBefore) same (InOrder-filter KeyComesBefore (λ r. not (T (full_key_of r))) (map record_of ps) are.in_order);
-        tenants = subst (AllByRecursion IsOfTenant) same (All-filter IsOfTenant (λ r. not (T (full_key_of r))) (map record_of ps) are.tenants);
+        tenants = subst (AllByRecursion IsOfTenant) same (all-filter IsOfTenant (λ r. not (T (full_key_of r))) (map record_of ps) are.tenants);
       }
 
   -- the tenant's others among them are those whose keys do not pass, and all of other tenants stay

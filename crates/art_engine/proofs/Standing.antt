@@ -6,13 +6,13 @@ use Rattle.std.specs.declared.cmp.Ordering.{Ordering}
 use Rattle.std.specs.declared.cmp.Ordering.TheVariants.{Less, Equal, Greater}
 use Rattle.std.specs.Ordering.{nat_cmp, is_lt, is_le, is_gt, ordering_then, ordering_reverse}
 use Rattle.std.specs.Cmp.Lexicographic.{slice_cmp}
-use Rattle.std.proofs.lemmas.Cmp.{nat_list_cmp_total}
+use Rattle.std.proofs.lemmas.Cmp.{nat_list_cmp_total, tied_itself}
 use Rattle.std.proofs.lemmas.Map.Text.{is_eq-slice_cmp}
 use Rattle.std.proofs.lemmas.Slice.Eq.{bytes_eq-Decides}
 use Rattle.std.proofs.lemmas.Bool.{lt-ltb, eq-eqb, ne_eqb, le-ltb, cases_lt}
 use Rattle.art_bytes.proofs.Common.{is_below}
 use Rattle.art_engine.proofs.Terms.{KeyRecord, InOrder, KeyComesBefore, Pair, record_of}
-use Rattle.art_engine.proofs.Filters.{All-map}
+use Rattle.art_arena.proofs.Common.{all_weaker}
 
 -- how a record stands to a tenant's key: tenants compare first, then keys
 abbrev pub stands_to : ℕ → List ℕ → KeyRecord → Ordering
@@ -42,8 +42,7 @@ pub cmp_less : (a b : List ℕ) → IsTrue (is_below a b) → slice_cmp nat_cmp 
 cmp_less a b h = lt_is (slice_cmp nat_cmp a b) h
 
 pub cmp_same : (a : List ℕ) → slice_cmp nat_cmp a a ≡ Equal
-cmp_same [] = refl
-cmp_same (x ∷ xs) = let no : nat_lt x x ≡ false = le-ltb x x (omega arith) in rw (no, eq-eqb x x refl) (cmp_same xs)
+cmp_same a = tied_itself nat_list_cmp_total a
 
 pub cmp_equal : (a b : List ℕ) → slice_cmp nat_cmp a b ≡ Equal → a ≡ b
 cmp_equal a b h = (bytes_eq-Decides a b).0 (sym (is_eq-slice_cmp a b) ∙ rw h refl)
@@ -124,12 +123,12 @@ after_of_same t k r s (inr up) e f = inr (sym up.0 ∙ e, subst (λ x. IsTrue (i
 after_found : (t : ℕ) (k : List ℕ) (r : KeyRecord) (rs : List KeyRecord) → stands_to t k r ≡ Equal → AllByRecursion (KeyComesBefore r) rs → AllAfter t k rs
 after_found t k r rs here order =
     let same = standing t k r Equal here in
-    All-map (KeyComesBefore r) (λ s. stands_to t k s ≡ Greater) (λ s before. stands_after t k s (after_of_same t k r s before same.0 same.1)) rs order
+    all_weaker (KeyComesBefore r) (λ s. stands_to t k s ≡ Greater) (λ s before. stands_after t k s (after_of_same t k r s before same.0 same.1)) rs order
 
 after_from : (t : ℕ) (k : List ℕ) (r : KeyRecord) (rs : List KeyRecord) → stands_to t k r ≡ Greater → AllByRecursion (KeyComesBefore r) rs → AllAfter t k rs
 after_from t k r rs here order =
     let first = standing t k r Greater here in
-    All-map (KeyComesBefore r) (λ s. stands_to t k s ≡ Greater) (λ s before. stands_after t k s (after_after t k r s before first)) rs order
+    all_weaker (KeyComesBefore r) (λ s. stands_to t k s ≡ Greater) (λ s before. stands_after t k s (after_after t k r s before first)) rs order
 
 -- Pairs whose records are in order fall into those before a tenant's key, the one at it if there is one, and those after.
 pub data Parted (t : ℕ) (k : List ℕ) (ps : List Pair) : Type 0 where

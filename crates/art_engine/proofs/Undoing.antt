@@ -15,7 +15,9 @@ use Rattle.std.proofs.lemmas.Bool.{cond_both, eqb-true}
 use Rattle.std.proofs.lemmas.List.Elements.{filter-append}
 use Rattle.art_bytes.proofs.Common.{is_below}
 use Rattle.art_lines.proofs.Common.{name, put, del, of_tenant, put_reply}
-use Rattle.art_engine.proofs.Filters.{filter-all, filter-none, All-filter, All-map}
+use Rattle.art_arena.proofs.tree.Filters.{filter_all, filter_none}
+use Rattle.art_walks.proofs.Common.{all-filter}
+use Rattle.art_arena.proofs.Common.{all_weaker}
 use Rattle.art_engine.proofs.OwnLaws.{own_reads_back, own_is_in_place, with_own_again, key_part, number_part}
 use Rattle.art_engine.proofs.Standing.{cmp_equal, cmp_greater, below_trans, not_both_below}
 use Rattle.art_engine.proofs.NumberKeys.{lt-int_cmp, int_lt_turned}
@@ -59,7 +61,7 @@ module _ {K V : Type 0} (lt same : K → K → Bool) (k : K) (itself : same k k 
 
   kept : (t : K × V → Bool) (ps : List (K × V)) → AreOthers ps → filter (λ p. not (same p.0 k)) (filter t ps) ≡ filter t ps
   kept t ps others =
-      filter-all (λ p. not (same p.0 k)) (filter t ps) (All-filter (λ p. not (same p.0 k) ≡ true) t ps (All-map (λ p. same p.0 k ≡ false) (λ p. not (same p.0 k) ≡ true) (λ p e. ap not e) ps others))
+      filter_all (λ p. not (same p.0 k)) (filter t ps) (all-filter (λ p. not (same p.0 k) ≡ true) t ps (all_weaker (λ p. same p.0 k ≡ false) (λ p. not (same p.0 k) ≡ true) (λ p e. ap not e) ps others))
 
   joined : (ps : List (K × V)) → Ascend ps → AreOthers ps → filter (λ p. lt p.0 k) ps ++ filter (λ p. lt k p.0) ps ≡ ps
   joined [] order others = refl
@@ -69,9 +71,9 @@ module _ {K V : Type 0} (lt same : K → K → Bool) (k : K) (itself : same k k 
       go true e ih = let up = turned p.0 k e in rw (e, up) (ap (λ l. p ∷ l) ih)
       go false e ih =
           let up = apart p.0 others.0 e in
-          let high = All-map (λ (q : K × V). lt p.0 q.0 ≡ true) (λ q. lt k q.0 ≡ true) (λ q h. upward p.0 q.0 up h) ps order.0 in
-          let none = filter-none (λ (q : K × V). lt q.0 k) ps (All-map (λ (q : K × V). lt k q.0 ≡ true) (λ q. lt q.0 k ≡ false) (λ q h. turned k q.0 h) ps high) in
-          let all = filter-all (λ (q : K × V). lt k q.0) ps high in
+          let high = all_weaker (λ (q : K × V). lt p.0 q.0 ≡ true) (λ q. lt k q.0 ≡ true) (λ q h. upward p.0 q.0 up h) ps order.0 in
+          let none = filter_none (λ (q : K × V). lt q.0 k) ps (all_weaker (λ (q : K × V). lt k q.0 ≡ true) (λ q. lt q.0 k ≡ false) (λ q h. turned k q.0 h) ps high) in
+          let all = filter_all (λ (q : K × V). lt k q.0) ps high in
           rw (e, up, none, all) refl
 
   pub undone : (v : V) (ps : List (K × V)) → Ascend ps → AreOthers ps → filter (λ p. not (same p.0 k)) (filter (λ p. lt p.0 k) ps ++ (k, v) ∷ filter (λ p. lt k p.0) ps) ≡ ps

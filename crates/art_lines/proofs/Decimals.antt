@@ -20,9 +20,6 @@ use Rattle.art_lines.specs.Reading.{natural_in, tenant_in, number_in}
 
 -- ---- digits that a text begins with
 
-pub none_read : (text : List ℕ) → AreFirstDigits text 0 0
-none_read text = record { within = omega arith; digits = λ k lt. absurd (omega arith); shown = refl }
-
 value_append : (n : ℕ) (xs ys : List ℕ) → digits_value_after 10 n (xs ++ ys) ≡ digits_value_after 10 (digits_value_after 10 n xs) ys
 value_append n [] ys = refl
 value_append n (x ∷ xs) ys = value_append (n * 10 + digit_value x) xs ys

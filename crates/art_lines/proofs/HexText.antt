@@ -27,7 +27,3 @@ encode_lower-nil = refl
 pub shown-bytes : (bs : List ℕ) → 0 < length bs → shown (bytes bs) ≡ encode_lower bs
 shown-bytes [] h = absurd (omega arith)
 shown-bytes (b ∷ bs) h = refl
-
-pub length_nil : (xs : List ℕ) → length xs ≡ 0 → xs ≡ []
-length_nil [] h = refl
-length_nil (x ∷ xs) h = absurd (omega (arith, h))

@@ -116,8 +116,8 @@ fn answer_lines(rt: &HostRuntime, index: &mut Index) -> io::Result<()> {
     Ok(())
 }
 
-/// Lists the index by word.
-fn list(rt: &HostRuntime, index: &Index) -> io::Result<()> {
+/// Lists all words, each with its numbers.
+fn list_words(rt: &HostRuntime, index: &Index) -> io::Result<()> {
     for (word, numbers) in index.iter() {
         let told = numbers_text(rt.alloc(), numbers)?;
         match str::from_utf8(word.to_bytes()) {
@@ -131,5 +131,5 @@ fn list(rt: &HostRuntime, index: &Index) -> io::Result<()> {
 fn main(rt: HostRuntime) -> io::Result<()> {
     let mut index = TreeMap::new(rt.alloc());
     answer_lines(&rt, &mut index)?;
-    list(&rt, &index)
+    list_words(&rt, &index)
 }

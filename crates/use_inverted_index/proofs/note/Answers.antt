@@ -13,7 +13,7 @@ returns-in-Err-insert-clause-err c =
     let w = c.insert.new.self in
     still-noted c.args.word (entry_key c.entry.result) old _ w c.entry.ensures.entry.same_key
     (ap (λ m. m.pairs) (c.index-3-1.given.1 (sym c.entry.ensures.same_map)) ∙ (c.or_insert.follows.holds w (subst (λ r. IsOk r) (sym c.in-Ok.is) refl)).0 ∙ ap (λ m. with_pair_put ended (entry_key c.entry.result) w m.pairs) c.entry.ensures.unchanged)
-    (c.in-Err-insert.ensures.err ∙ ap (λ s. s.keys) c.in-Ok.ensures.value ∙ lent-numbers c.args.word old _ c.new.result c.entry.ensures.entry.value c.new.ensures)
+    (c.in-Err-insert.ensures.err ∙ ap (λ s. s.keys) c.in-Ok.ensures.value ∙ lent-numbers c.args.word old _ c.new.result c.entry.ensures.entry.value c.new.ensures.keys)
 
 pub returns-clause-found : goal.returns-clause-found
 returns-clause-found c =
@@ -21,4 +21,4 @@ returns-clause-found c =
     let w = c.insert.new.self in λ other.
     put-noted c.args.word (entry_key c.entry.result) old _ w c.entry.ensures.entry.same_key
     (ap (λ m. m.pairs) (c.index-3-1.given.1 (sym c.entry.ensures.same_map)) ∙ (c.or_insert.follows.holds w (subst (λ r. IsOk r) (sym c.in-Ok.is) refl)).0 ∙ ap (λ m. with_pair_put ended (entry_key c.entry.result) w m.pairs) c.entry.ensures.unchanged) other
-    ∙ ap (λ v. cond (bytes_eq c.args.word other) v (numbers_of other old)) (c.in-Ok-insert.ensures.keys ∙ ap (with_key_put number_bytes c.args.number) (ap (λ s. s.keys) c.in-Ok.ensures.value ∙ lent-numbers c.args.word old _ c.new.result c.entry.ensures.entry.value c.new.ensures))
+    ∙ ap (λ v. cond (bytes_eq c.args.word other) v (numbers_of other old)) (c.in-Ok-insert.ensures.keys ∙ ap (with_key_put number_bytes c.args.number) (ap (λ s. s.keys) c.in-Ok.ensures.value ∙ lent-numbers c.args.word old _ c.new.result c.entry.ensures.entry.value c.new.ensures.keys))

@@ -1,7 +1,7 @@
 use Rattle.std.proofs.Common.{arith, ◌≡◌, ℕ, List, [], ◌++◌, sym, ◌∙◌, refl, ap, length, subst, ◌≤◌}
 use Rattle.std.proofs.Common.{inl, inr}
 use Rattle.std.proofs.lemmas.Bool.{eqb-true, eqb-false}
-use Rattle.art_lines.proofs.HexText.{length_nil}
+use Rattle.std.proofs.lemmas.List.{nil_from_length}
 use Rattle.art_lines.specs.Lines.{whole_lines_of}
 use Rattle.art_lines.specs.Reading.{command_of}
 use Rattle.art_engine.proofs.Terms.{AreNext, IsLineDone, answer, most_ahead, to_come, read_of, texts_of, total}
@@ -20,7 +20,7 @@ pub returns-then-is_empty-clause-carried : goal.returns-then-is_empty-clause-car
 returns-then-is_empty-clause-carried g c = λ start text before none h.
     let e = c.in_ok-execute_parsed.ensures in let k = c.prefetch.ensures.kept in
     let held : List ℕ = c.args.held.now.items in let part : List ℕ = c.args.part.now in
-    let empty : held ≡ [] = length_nil held (eqb-true _ _ (sym c.if-is_empty.ensures)) in
+    let empty : held ≡ [] = nil_from_length held (eqb-true _ _ (sym c.if-is_empty.ensures)) in
     let memory = c.in_ok-execute_parsed.field-0.memory in
     let done : IsLineDone memory c.args.index.now part c.execute_parsed.new.self = done_from memory c.args.index.now c.prefetch.new.self c.execute_parsed.new.self part k.0 k.1 k.2
     (record {
@@ -41,7 +41,7 @@ returns-then-is_empty-clause-carried g c = λ start text before none h.
     done (e.output ∙ ap (λ r. g.W.Sink.taken c.args.sink.now ++ answer memory r part) k.0) empty
 
 pub returns-then-is_empty-clause-emptied : goal.returns-then-is_empty-clause-emptied
-returns-then-is_empty-clause-emptied g c = length_nil c.args.held.now.items (eqb-true _ _ (sym c.if-is_empty.ensures))
+returns-then-is_empty-clause-emptied g c = nil_from_length c.args.held.now.items (eqb-true _ _ (sym c.if-is_empty.ensures))
 
 pub returns-then-is_empty-clause-comes : goal.returns-then-is_empty-clause-comes
 returns-then-is_empty-clause-comes g c = λ following is.
@@ -82,7 +82,7 @@ pub returns-in_err-execute_parsed-clause-cut : goal.returns-in_err-execute_parse
 returns-in_err-execute_parsed-clause-cut g c = when_err c.from_residual.result (λ start text before none h.
     let k = c.prefetch.ensures.kept in
     let held : List ℕ = c.args.held.now.items in
-    let empty : held ≡ [] = length_nil held (eqb-true _ _ (sym c.if-is_empty.ensures)) in
+    let empty : held ≡ [] = nil_from_length held (eqb-true _ _ (sym c.if-is_empty.ensures)) in
     cut_run-line start c.args.index.now c.execute_parsed.new.self text c.args.part.now c.args.part.now held before (g.W.Sink.taken c.args.sink.now) (g.W.Sink.taken c.execute_parsed.new.sink)
     h none (whole_in_piece start c.args.index.now text held before (g.W.Sink.taken c.args.sink.now) c.args.part.now c.args.part.now h empty refl)
     (cut_from c.args.index.now c.prefetch.new.self c.execute_parsed.new.self c.args.part.now (g.W.Sink.taken c.args.sink.now) (g.W.Sink.taken c.execute_parsed.new.sink) k.0 k.1 k.2 c.in_err-execute_parsed.ensures.cut))

@@ -1,8 +1,9 @@
 use Rattle.std.proofs.Common.{rules, ◌≡◌, ◌<◌, length, arith, ◌∙◌, ap, sym}
 use Rattle.std.proofs.lemmas.Bool.{eqb-true, eqb-false}
+use Rattle.std.proofs.lemmas.List.{nil_from_length}
 use Rattle.hex.specs.Hex.{encode_lower}
 use Rattle.art_lines.proofs.Cuts.{taken_none, taken_more, taken_all, taken_cut, taken_from, writes_cut}
-use Rattle.art_lines.proofs.HexText.{encode_lower-parts, encode_lower-nil, shown-bytes, length_nil}
+use Rattle.art_lines.proofs.HexText.{encode_lower-parts, encode_lower-nil, shown-bytes}
 use Rattle.art_lines.proofs.reply.write_bytes.Goals as goal
 
 pub loop-rest-init : goal.loop-rest-init
@@ -27,7 +28,7 @@ returns-in_err-write_part g c =
 pub returns : goal.returns
 returns g c =
     let nothing : length c.loop-rest.rest.now ≡ 0 = eqb-true _ _ (sym c.is_empty-in-loop-rest.ensures ∙ c.loop-rest-test.false) in
-    let none = ap encode_lower (length_nil c.loop-rest.rest.now nothing) ∙ encode_lower-nil in
+    let none = ap encode_lower (nil_from_length c.loop-rest.rest.now nothing) ∙ encode_lower-nil in
     record {
       ok = taken_all _ _ _ (taken_from _ _ _ _ _ none c.loop-rest.invariant.taken);
       cut = search rules;

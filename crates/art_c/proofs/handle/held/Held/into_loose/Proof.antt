@@ -23,9 +23,10 @@ use Rattle.std.specs.contracts.impls.GlobalAllocator.TheImpl.{ghosts}
 use Rattle.core.specs.declared.option.Option.TheVariants.{Some}
 use Rattle.core.specs.Option.{IsSome}
 use Rattle.std.proofs.raw_atomic.Walks.{proved_at, leaves}
+use Rattle.art_arena.proofs.Common.{some_of}
 use Rattle.art_c.specs.Held.{store_row}
 use Rattle.art_c.specs.contracts.handle.held.Held as held
-use Rattle.art_c.proofs.Values.{both, al, loose_good, loose_in, word, word_good, held_out, the_some}
+use Rattle.art_c.proofs.Values.{both, al, loose_good, loose_in, word, word_good, held_out}
 use Rattle.art_c.specs.contracts.handle.held.Held.into_loose as f
 use Rattle.art_c.proofs.handle.held.Held.into_loose.Statement.{statement}
 use Rattle.art_c.proofs.handle.held.Held.into_loose.Code as code
@@ -37,7 +38,7 @@ into_loose_spec 𝓤 𝓛 𝓜 𝓡 wired =
     let hs : Stays En.signature.params En.kept = (stay_dropped (plain (λ _. held.the_row)) yes, (stay_dropped (plain (λ _. Z)) yes, tt)) in
     proved_at 𝓛 En hs c 𝓜 𝓡 (Goes-dropped 𝓛 0 (plain (λ _. held.the_row)) yes (λ κs x f. refl), (Goes-dropped 𝓛 0 (plain (λ _. Z)) yes (λ κs x f. refl), tt)) f.Key.name fn (code.unfolded 𝓤 H 𝓜 𝓡 wired) (λ z are.
     let κs = z.0.0 in let v = z.0.3.0 in let a = z.0.3.1.0 in let Post : Val → SProp 𝓤 = (walk_of 𝓛 En hs c).post z in let Run : List Val → SProp 𝓤 = λ ws. WpFn 𝓤 H 𝓣.C 𝓣.Λ fn ws Post in
-    qed 𝓛 ((‵ ftrue ⊛ ‵ (owns (types_at En.signature.params κs) z.0.3 z.0.4)) ∷ raw (fact 𝓤 (IsSome v.store)) ∷ []) ∵ move ! (1 ∷ []) $ heard ! (IsSome v.store) (λ some. let there = the_some v.store some in let x = there.0 in
+    qed 𝓛 ((‵ ftrue ⊛ ‵ (owns (types_at En.signature.params κs) z.0.3 z.0.4)) ∷ raw (fact 𝓤 (IsSome v.store)) ∷ []) ∵ move ! (1 ∷ []) $ heard ! (IsSome v.store) (λ some. let there = some_of v.store some in let x = there.0 in
     split ! $ drop ! $ fsplit ! $ held_out ! v x there.1 z.0.4.0 (λ b o e ws. move ! (1 ∷ []) $ fsplit ! $
     handle_tells (al R Z LZ ghosts) ! a z.0.4.1.0 (λ h ea fits. move ! (1 ∷ []) $ drop ! $
     let w : Val = word (block_ptr b o) in let typed = loose_good R Z LZ ghosts b o h fits in
