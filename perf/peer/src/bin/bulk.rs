@@ -69,6 +69,12 @@ fn split(step: &str, size: u64, at: u64) {
     tell(step, start, off.len());
 }
 
+fn walk(step: &str, map: &BTreeMap<Key, u64>) {
+    let start = now();
+    let sum = map.iter().fold(0, |sum, (key, _)| sum + usize::from(key[7]) + 1);
+    tell(step, start, sum);
+}
+
 fn main() {
     let mut text = String::new();
     std::io::stdin().read_to_string(&mut text).unwrap();
@@ -86,6 +92,17 @@ fn main() {
     append("append,few", &mut low, &mut map_of(0, size, 1000));
     split("split_off,middle", size, size / 2);
     split("split_off,few", size, size - size / 1000);
+    let mut map = BTreeMap::new();
+    for (key, number) in shuffled_below(size) {
+        map.insert(key, number);
+    }
+    walk("walk,shuffled", &map);
+    // (the B-tree has no `compact`: one of sorted pairs stands in its place)
+    let pairs = map.into_iter();
+    let start = now();
+    let map: BTreeMap<Key, u64> = pairs.collect();
+    tell("compact", start, map.len());
+    walk("walk,compacted", &map);
     let (first, second) = (set_of(0, 2 * size, 2), set_of(0, 3 * size, 3));
     let start = now();
     let sum = first.union(&second).fold(0, |sum, key| sum + usize::from(key[7]) + 1);
