@@ -8,6 +8,8 @@ use Rattle.art_nodes.specs.Name.{Name}
 use Rattle.art_nodes.specs.InnerNode.{InnerNode}
 use Rattle.art_arena.specs.arena.Arena.{Arena, held_at, inner_held}
 use Rattle.art_arena.specs.arena.Descents.{GoesOn}
+use Rattle.art_arena.specs.declared.descent.Passing.{Passing}
+use Rattle.art_arena.specs.declared.descent.Passing.TheVariants.{ByBytes}
 use Rattle.art_lines.specs.Commands.{Command, of_tenant, over, del, get, find, list, span, nget, ndel, nspan}
 use Rattle.art_lines.specs.Keys.{full_key}
 use Rattle.art_lines.specs.Lines.{whole_lines_of}
@@ -32,11 +34,12 @@ abbrev pub most_ahead : Option Command → ℕ
 most_ahead command = unwrap_or (option_map (λ full. suc (length full)) (path_ahead command)) 0
 
 -- From one place of a path, a node and how many bytes of the key lead there, to the next: there is none, or the node is
--- an inner one whose prefix the key meets, as much of it as is stored, and goes on from by its next byte.
-abbrev pub IsStepAhead : {K V : Type 0} → Arena K V → List ℕ → Name × ℕ → Name × ℕ → Type 0
-IsStepAhead arena key from to = (to ≡ from)
+-- an inner one from which the key goes on by its next byte. By bytes the key meets its prefix, as much as is stored.
+abbrev pub IsStepAhead : {K V : Type 0} → Passing → Arena K V → List ℕ → Name × ℕ → Name × ℕ → Type 0
+IsStepAhead passing arena key from to = (to ≡ from)
     ⊎ ((node : InnerNode) × (byte : ℕ) × (held_at arena from.0 ≡ Some (inner_held node))
-    × GoesOn key from.1 node byte to.0 to.1 × (starts_with nat_eq (drop from.1 key) node.header.stored ≡ true))
+    × GoesOn key from.1 node byte to.0 to.1
+    × (passing ≡ ByBytes → starts_with nat_eq (drop from.1 key) node.header.stored ≡ true))
 
 -- the sum of some numbers
 abbrev pub total : List ℕ → ℕ

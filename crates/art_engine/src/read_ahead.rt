@@ -3,8 +3,9 @@
 //! they are executed. So the paths of several are descended at a time, a step of each in turn. The processor waits for
 //! many nodes at once, and each line then finds in the cache what it reads.
 //!
-//! A descent follows the line's full key and no further, and each node is counted. No reply rests on what is
-//! prefetched: if a line between changes a tree, a later path may have been prefetched in vain.
+//! A descent follows the line's full key and no further, and each node is counted. It passes prefixes as the look-up
+//! of the line does, by their lengths or by their bytes. No reply rests on what is prefetched: if a line between
+//! changes a tree, a later path may have been prefetched in vain.
 ghost use Rattle.std.specs.Prelude.{◌≡◌, ◌≤◌, ◌<◌, ◌+◌, [], IfSome, IsTrue, drop, length, option_map, take, ◌++◌, map};
 ghost use Rattle.std.specs.List.{sum_by};
 ghost use Rattle.std.specs.Prelude.{if◌then◌else◌};

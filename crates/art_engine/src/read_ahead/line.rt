@@ -11,7 +11,7 @@ ghost use Rattle.art_engine.specs.Ahead.{path_ahead, most_ahead, IsStepAhead};
 use crate::read_ahead::path_reader::PathReader;
 use crate::read_ahead::{ParsedLine, Roots};
 use arrayvec::ArrayVec;
-use art_arena::{InnerRef, NextStep};
+use art_arena::{InnerRef, NextStep, Passing};
 use art_lines::command::fields::Fields;
 use art_lines::command::read_line;
 use art_lines::command::word::{Change, LookUp, Word};
@@ -25,7 +25,7 @@ pub(crate) const KEY: usize = 132;
 
 /// A line that is parsed before its turn. It has the node that comes next on the path of its key, how many bytes of the
 /// key lead there, how many nodes were read, and how many may be still. Of a line that has a path the key is that of
-/// its command.
+/// its command, and prefixes are passed as its look-up passes them.
 #[derive(Drop)]
 pub(crate) struct Line {
     text: ArrayVec<u8, SHORT>,
@@ -33,6 +33,7 @@ pub(crate) struct Line {
     fields: Fields,
     key: ArrayVec<u8, KEY>,
     of_number: bool,
+    passing: Passing,
     node: OpaqueNodePtr,
     depth: usize,
     read: u64,
@@ -43,23 +44,27 @@ pub(crate) struct Line {
     ghost path: { 0 < read + left → path_ahead (command_of text.items) ≡ Some key.items },
 }
 
-/// The child to which a key goes on from an inner node after so many of its bytes. It goes no further where it doesn't
-/// meet the prefix, as much of it as is stored.
+/// The child to which a key goes on from an inner node after so many of its bytes. By bytes it goes no further where it
+/// doesn't meet the prefix, as much of it as is stored.
 #[inline(always)]
 fn next_of<K, const PREFIX_LEN: usize>(
     inner: &InnerRef<'_, K, Vec<u8>, PREFIX_LEN>,
     key: &[u8],
     depth: usize,
+    passing: Passing,
 ) -> Option<NextStep>
     ensures goes { IfSome result (λ step. GoesOn key.now depth inner.now.node step.byte step.child step.depth) }
-    ensures meets { IfSome result (λ step.
-        starts_with nat_eq (drop depth key.now) inner.now.node.header.stored ≡ true) }
+    ensures meets { IfSome result (λ step. passing ≡ Passing.ByBytes
+        → starts_with nat_eq (drop depth key.now) inner.now.node.header.stored ≡ true) }
 {
     if depth > key.len() {
         return None;
     }
-    let rest = &key[depth..];
-    if !rest.starts_with(inner.read_prefix()) {
+    let is_met = match passing {
+        Passing::ByLength => true,
+        Passing::ByBytes => key[depth..].starts_with(inner.read_prefix()),
+    };
+    if !is_met {
         return None;
     }
     inner.next_step(key, depth)
@@ -106,6 +111,16 @@ fn is_of_number(word: Word) -> bool {
     )
 }
 
+/// How the look-up of a word passes the prefix of a node. One that compares the key of its leaf as a whole passes it by
+/// its length, whatever its bytes are. So does what is read ahead of it: else a miss would wait for the nodes below.
+fn passing_of(word: Word) -> Passing {
+    match word {
+        Word::LookUp(LookUp::Get | LookUp::Find | LookUp::NGet) => Passing::ByLength,
+        Word::Change(Change::Del | Change::NDel) => Passing::ByLength,
+        _ => Passing::ByBytes,
+    }
+}
+
 impl Line {
     /// The empty line.
     pub(crate) fn new() -> Self {
@@ -118,6 +133,7 @@ impl Line {
             fields,
             key: ArrayVec::new(),
             of_number: false,
+            passing: Passing::ByBytes,
             node: OpaqueNodePtr::default(),
             depth: 0,
             read: 0,
@@ -142,6 +158,7 @@ impl Line {
             return;
         };
         self.of_number = is_of_number(word);
+        self.passing = passing_of(word);
         let Some(root) = roots.of(self.of_number) else {
             return;
         };
@@ -185,8 +202,8 @@ impl Line {
     ) -> Option<&'a LeafNode<K, Vec<u8>>>
         ensures counted { self.new.read + count_of reader.old.reader ≡ self.old.read + count_of reader.new.reader }
         ensures one { self.new.read ≤ self.old.read + 1 }
-        ensures along { IsStepAhead reader.old.arena.now self.old.key.items (self.old.node, self.old.depth)
-            (self.new.node, self.new.depth) }
+        ensures along { IsStepAhead self.old.passing reader.old.arena.now self.old.key.items
+            (self.old.node, self.old.depth) (self.new.node, self.new.depth) }
         ensures text { self.new.text.items ≡ self.old.text.items }
     {
         if self.left == 0 {
@@ -204,7 +221,7 @@ impl Line {
                 Some(leaf)
             }
             Err(inner) => {
-                match next_of(&inner, self.key.as_slice(), self.depth) {
+                match next_of(&inner, self.key.as_slice(), self.depth, self.passing) {
                     Some(next) => {
                         self.node = next.child;
                         self.depth = next.depth;
