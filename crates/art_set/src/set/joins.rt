@@ -58,9 +58,9 @@ impl<K: AsBytes, const PREFIX_LEN: usize> TreeSet<K, PREFIX_LEN> {
         Ok(TreeSet { alloc, map })
     }
 
-    /// Makes a set of clones of the keys, in the same order, with nodes of its own. If a clone of a key equals its
-    /// original, it has the same keys. A clone of a key has to be a key of its type, as it is if it equals its
-    /// original.
+    /// Makes a set of clones of the keys, in the same order, with nodes of its own. It has memory for as many nodes of
+    /// each kind as there are slots for here, and for no more. If a clone of a key equals its original, it has the same
+    /// keys. A clone of a key has to be a key of its type, as it is if it equals its original.
     ///
     /// Fails if a key can't be cloned, or if out of memory. What was made is dropped then. The set is only read.
     ///
@@ -97,7 +97,8 @@ impl<K: NoPrefixesBytes + Drop, const PREFIX_LEN: usize> TreeSet<K, PREFIX_LEN> 
     /// them is empty, it allocates nothing and can't fail.
     ///
     /// Of the room for leaves, only the keys that come anew use some. Of each other kind, a key of the other set uses
-    /// room for four nodes at most.
+    /// room for four nodes at most. The other set has no room left, since all its memory is freed. If this set is
+    /// empty, the two change places, and so does their room.
     ///
     /// ```
     /// let mut set = TreeSet::new(rt.alloc());
