@@ -5,6 +5,9 @@
 Each Rust block of crates/art_NAME/README.md is a part of crates/callers/src/NAME.rt, letter for letter (for art_lines
 of engine.rt), and each library that has such callers shows one. uses/README.md has a section for each program
 crates/use_NAME: its Rust block is a part of src/main.rt, letter for letter, and its text blocks are stdin and stdout.
+
+The benchmarks of perf/crates are callers, too. ./bench proves them, and rt ci may not: they read a clock. So each
+definition and lemma of a library that they cite has to stand where they cite it.
 """
 import os
 import re
@@ -15,6 +18,8 @@ import cases
 CALLERS = "crates/callers/src"
 # Libraries whose callers stand among those of another one.
 CALLED_IN = {"art_lines": "art_engine"}
+BENCHES = "perf/crates"
+CITED = re.compile(r"(?m)^(?:ghost )?use Rattle\.(art_\w+)\.((?:specs|proofs)\.[\w.]+)\.\{([^}]*)\}")
 
 
 def read(path):
@@ -57,6 +62,17 @@ def use_fault(name, page):
     return None
 
 
+def bench_fault(name):
+    """Says which definition or lemma a benchmark cites that is not there, or nothing."""
+    for path in glob(f"{BENCHES}/{name}/**/*.in", recursive=True):
+        for crate, module, names in CITED.findall(read(path)):
+            text = read(f"crates/{crate}/{module.replace('.', '/')}.antt") or ""
+            for it in names.split(", "):
+                if not re.search(rf"\bpub\b[^\n]*(?<![\w-]){re.escape(it)}(?![\w-])", text):
+                    return f"{path} cites {it} of {crate}, which {module} hasn't"
+    return None
+
+
 def main():
     told = cases.Tally(cases.given(__doc__).word)
     files = [os.path.basename(it).removesuffix(".rt") for it in glob(f"{CALLERS}/*.rt")]
@@ -64,6 +80,7 @@ def main():
     faults = {name: fault(name) for name in sorted(names)}
     uses = sorted(it.split("/")[1] for it in glob("crates/use_*/src/main.rt"))
     faults.update({name: use_fault(name, read("uses/README.md") or "") for name in uses})
+    faults.update({name: bench_fault(name) for name in sorted(os.listdir(BENCHES))})
     for name, why in faults.items():
         if told.wants(name):
             told.count(name, why)
