@@ -15,6 +15,8 @@ import tempfile
 
 TOP = os.path.dirname(os.path.dirname(os.path.abspath(__file__)))
 PROGRAM = "crates/art_index/out/art_index"
+# Where build.sh of the yardsticks leaves them, if PERF_BIN names no other folder.
+MEAS = f"{os.environ.get('PERF_BIN') or os.path.expanduser('~/.cache/art-perf/bin')}/meas"
 TENANT = 500
 
 
@@ -30,8 +32,7 @@ def keys_of(given):
 
 def by_program(given, room, ops):
     """Processor time that the program takes for these lines after the load, in nanoseconds."""
-    meas = os.path.expanduser("~/.cache/art-perf/bin/meas")
-    words = [meas, f"{room}/load", ops, "/dev/null", given.program]
+    words = [MEAS, f"{room}/load", ops, "/dev/null", given.program]
     said = subprocess.run(words, capture_output=True, text=True, check=True).stdout.split()
     return float(said[2]) * 1e9
 
@@ -76,7 +77,7 @@ def main():
     given = reader.parse_args()
     if not os.access(given.program, os.X_OK):
         reader.error(f"there is no program {given.program}: rt run art_index makes it")
-    if not os.path.exists(os.path.expanduser("~/.cache/art-perf/bin/meas")):
+    if not os.path.exists(MEAS):
         if not os.access(f"{given.perf}/build.sh", os.X_OK):
             reader.error(f"{given.perf} is no folder of yardsticks: it has no build.sh")
         subprocess.run([f"{given.perf}/build.sh"], check=True, stdout=sys.stderr)

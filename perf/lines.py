@@ -1,6 +1,6 @@
 #!/usr/bin/env python3
-"""perf/lines.py --perf PERF [--quick] [--sizes N,N] [--repeats N] [--seed N] [--only REGEX] [--growth N] [PROGRAM]: keys
-as users have them, and shapes that nothing was made for.
+"""perf/lines.py --perf PERF [--quick] [--sizes N,N] [--repeats N] [--seed N] [--only REGEX] [--growth N]
+[--before PROGRAM] [PROGRAM]: keys as users have them, and shapes that nothing was made for.
 
 Prints a table: nanoseconds of processor time for each line, or for each record that a listing replies. It has the
 program and two peers of PERF, a folder of yardsticks: Rust's B-tree, and libjudy where it is installed. Programs take
@@ -14,8 +14,9 @@ eight beginnings of 200 bytes); and numbers: nums_dense, nums_random, nums_time 
 Lines: `get` looks all up in another order than they went in, `again` in the same. Misses are of two kinds: of `early` a
 byte differs as near to the beginning as can be, so that the way ends above any leaf; of `leaf` the last one does, so that
 the way ends at a leaf. Where too few keys can be missed so, there is no row. `span` has ten records, `long` a thousand.
---quick takes the program as it stands, built without proofs and checks (tools/quick.py). --growth N prints another table:
-load, `get` and bytes of peak memory a record from 10^4 to N, for keys that --only names (of hashes and nums_random).
+--quick takes the program as it stands, built without proofs and checks (tools/quick.py). --before PROGRAM times one of
+an earlier text in the same run, and prints the ratio to it. --growth N prints another table: load, `get` and bytes of
+peak memory a record from 10^4 to N, for keys that --only names (of hashes and nums_random).
 """
 import argparse
 import base64
@@ -34,6 +35,7 @@ import quick
 
 PROGRAM = f"{quick.TOP}/crates/art_index/out/art_index"
 PEERS = ("btree", "judy")
+BEFORE = "before"
 # Milliseconds of the first of January 2026, where numbers by time begin.
 BEGIN = 1_767_225_600_000
 KEYS = ("routes", "mail", "paths", "zipf", "hosts", "dna", "hashes", "series", "shared")
@@ -205,7 +207,8 @@ def replies(bin_, load, lines, program):
 
 
 def row(bin_, programs, load, lines, count, repeats):
-    """Nanoseconds of each program, and the ratio of the first to the best of the others."""
+    """Nanoseconds of each program, and the ratio of the first to the best peer, and to what was before it, if that is
+    there."""
     if len({replies(bin_, load, lines, program) for program in programs.values()}) > 1:
         sys.exit("the replies of the programs differ")
     least = {name: float("inf") for name in programs}
@@ -213,8 +216,11 @@ def row(bin_, programs, load, lines, count, repeats):
     for turn in range(repeats):
         for name in names[turn % len(names):] + names[:turn % len(names)]:
             least[name] = min(least[name], measured(bin_, load, lines, programs[name]))
-    here, *peers = (least[name] * 1e9 / count for name in programs)
-    return [f"{cost:.0f}" for cost in (here, *peers)] + [f"{here / min(peers):.2f}"]
+    costs = {name: least[name] * 1e9 / count for name in programs}
+    here, *others = costs.values()
+    before = [f"{here / costs.pop(BEFORE):.2f}"] if BEFORE in costs else []
+    _, *peers = costs.values()
+    return [f"{cost:.0f}" for cost in (here, *others)] + [f"{here / min(peers):.2f}"] + before
 
 
 def loading(keys, held):
@@ -229,8 +235,9 @@ def drawn(given, keys, size):
 
 
 def tables(given, bin_, programs):
-    print(f"| Keys, lines | Records | {' | '.join(programs)} | to the best peer |")
-    print("|---|" + "---:|" * (len(programs) + 2))
+    ratios = ["to the best peer"] + [f"to {BEFORE}"] * (BEFORE in programs)
+    print(f"| Keys, lines | Records | {' | '.join([*programs, *ratios])} |")
+    print("|---|" + "---:|" * (len(programs) + 1 + len(ratios)))
     for size in map(int, given.sizes.split(",")):
         for keys in KEYS + NUMBERS:
             works = [it for it in ASKED if re.search(given.only, f"{keys} {it}")]
@@ -278,6 +285,7 @@ def main():
     parser.add_argument("--only", default="")
     parser.add_argument("--growth", type=int, default=0)
     parser.add_argument("--quick", action="store_true")
+    parser.add_argument("--before")
     parser.add_argument("program", nargs="?", default=PROGRAM)
     given = parser.parse_args()
     if not os.access(f"{given.perf}/build.sh", os.X_OK):
@@ -288,12 +296,12 @@ def main():
         sys.exit(f"there is no program {given.program}: rt run art_index makes it, and --quick takes one without proofs")
     bin_ = os.environ.get("PERF_BIN") or tempfile.mkdtemp(prefix="art-perf.")
     subprocess.run(["./build.sh"], cwd=given.perf, env={**os.environ, "PERF_BIN": bin_}, check=True)
-    programs = {"here": given.program}
-    programs |= {name: f"{bin_}/peer_{name}" for name in PEERS if os.path.exists(f"{bin_}/peer_{name}")}
+    peers = {name: f"{bin_}/peer_{name}" for name in PEERS if os.path.exists(f"{bin_}/peer_{name}")}
+    programs = {"here": given.program} | ({BEFORE: given.before} if given.before else {}) | peers
     if given.sizes:
         tables(given, bin_, programs)
     if given.growth:
-        growth(given, bin_, programs)
+        growth(given, bin_, {name: it for name, it in programs.items() if name != BEFORE})
 
 
 if __name__ == "__main__":
