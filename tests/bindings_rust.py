@@ -18,10 +18,11 @@ from cases import TOP, read
 
 CRATE = f"{TOP}/bindings/rust"
 EXAMPLES = ("films", "paths", "sizes")
-CALLS = 31  # of examples/refused.rs
-TAKE_NO_MEMORY = {1, 5, 9, 20, 21}  # (a stored key's value is set in its place)
-NEVER_FAIL = {19}  # (a walk goes on in the room that it has)
-SANITIZED = ("--lib", "--test", "differential", "--test", "panics", "--test", "map", "--test", "keys")
+CALLS = 33  # of examples/refused.rs
+TAKE_NO_MEMORY = {1, 5, 9, 18, 21}  # (a stored key's value is set in its place)
+NEVER_FAIL = {19, 20, 31}  # (a walk, a look-up in what is frozen, giving memory back: they go on in what they have)
+SANITIZED = ("--lib", "--test", "differential", "--test", "panics", "--test", "map", "--test", "keys",
+             "--test", "hostile", "--test", "faces")
 SANITIZED_CALLS = 200_000  # of tests/differential.rs, with the sanitizer and in --quick; else it makes a million
 TYPES = {"artmap_words *": "*mut Handle", "const void *": "*const u8", "void *": "*mut u8", "size_t *": "*mut usize",
          "size_t ": "usize", "uint32_t ": "u32", "uint64_t ": "u64", "uint64_t *": "*mut u64", "bool ": "bool",
@@ -101,7 +102,10 @@ def tests(env):
 
 
 def tidy(env):
-    """Neither the compiler, clippy, rustdoc nor rustfmt has a word to say; the oldest toolchain that is here builds it."""
+    """Neither the compiler, clippy, rustdoc nor rustfmt has a word to say; the oldest toolchain that is here builds it.
+
+    Clippy has one (`incompatible_msrv`) where the crate calls what std doesn't have in the Rust that Cargo.toml names.
+    """
     target = {**env, "CARGO_TARGET_DIR": f"{env['CARGO_TARGET_DIR']}/tidy"}
     for words in (["clippy", "--offline", "--locked", "--all-targets", "--", "-D", "warnings"],
                   ["fmt", "--check"], ["doc", "--offline", "--locked", "--no-deps"]):
@@ -119,7 +123,8 @@ def tidy(env):
         least = min(versions)
         ran = run(["cargo", f"+{versions[least]}", "build", "--offline", "--locked", "--all-targets"], target)
         told(f"the oldest toolchain here, {least[0]}.{least[1]}", ran.returncode == 0, ran.stderr[-4000:])
-        told(f"it is that which the crate names, {said}", f"{least[0]}.{least[1]}" == said, least)
+        named = tuple(map(int, said.split(".")))
+        told(f"the crate names one that is no newer, {said}", named <= least, least)
 
 
 def sanitized(env):

@@ -24,6 +24,28 @@ fn ascending() -> Pairs {
     (0..600).map(|at| (format!("{}{at:03}", "l".repeat(50)), vec![7])).collect()
 }
 
+fn sparse() -> Map {
+    let mut map: Map = ascending().into_iter().collect();
+    map.retain(|key, _| key.ends_with('3'));
+    map
+}
+
+fn nested() -> ArtMap<Vec<u8>, u32> {
+    let key = |at: u8| [vec![7; 100], vec![at; 9]].concat();
+    ArtMap::try_from_iter((0..60).map(|at| (key(at), 7)).chain([(vec![9], 9)])).unwrap_or_default()
+}
+
+/// What is given, where the pairs in its way are gone; or all as it was.
+fn made_way(given: &mut Given) -> Result<usize, AllocError> {
+    match given.nested.try_prefix_insert(given.begins.take().unwrap_or_default(), 8) {
+        Ok(count) => Ok(100 * count + given.nested.len()),
+        Err(why) => {
+            given.begins = Some(why.into_pair().0);
+            if given.nested == given.nested_was { Err(AllocError) } else { exit(4) }
+        }
+    }
+}
+
 /// What a call is given is made before the window opens.
 struct Given {
     all: Pairs,
@@ -35,6 +57,12 @@ struct Given {
     large: Map,
     numbers: ArtMap<u32, u32>,
     long: ArtMap<String, u32>,
+    /// With room that no pair uses.
+    sparse: Map,
+    /// Keys of which some begin with one that comes, and that key.
+    nested: ArtMap<Vec<u8>, u32>,
+    nested_was: ArtMap<Vec<u8>, u32>,
+    begins: Option<Vec<u8>>,
     frozen: FrozenMap<String, Vec<u8>>,
     part: String,
     together: [ArtMap<Parts, u32>; 2],
@@ -57,6 +85,10 @@ fn given() -> Given {
         large: ascending().into_iter().collect(),
         numbers: (0..600).map(|it| (it, it)).collect(),
         long: (0..9).map(|it| ("m".repeat(100 * it), 7)).collect(),
+        sparse: sparse(),
+        nested: nested(),
+        nested_was: nested(),
+        begins: Some(vec![7; 100]),
         frozen: some.freeze(),
         part: all[2].0[..51].to_string(),
         together: [0, 30].map(|from| (from..from + 50).map(|it| (parts(it), it)).collect()),
@@ -153,7 +185,7 @@ fn call(map: &mut Map, which: usize, given: &mut Given) -> Result<usize, AllocEr
         11 => map.try_split_off(given.all[4].0.as_str()).map(|it| it.len()),
         12 => map.try_append(&mut given.other).map(|()| given.other.len()).map_err(|_| AllocError),
         13 => {
-            for taken in map.try_extract_if::<str, _, _>(.., |key, _| key.ends_with('a') || key == last) {
+            for taken in map.try_extract_if(.., |key, _| key.ends_with('a') || key == last) {
                 drop(taken?);
             }
             Ok(map.len())
@@ -185,13 +217,18 @@ fn call(map: &mut Map, which: usize, given: &mut Given) -> Result<usize, AllocEr
             Err(_) => exit(3),
         }),
         30 => map.try_compact().map(|()| map.len()),
+        31 => {
+            given.sparse.shrink_to_fit();
+            Ok(given.sparse.values().map(Vec::len).sum())
+        }
+        32 => made_way(given),
         _ => exit(3),
     }
 }
 
 /// Those that stop where they are.
 fn leaves_some(which: usize) -> bool {
-    [8, 10, 13, 16, 29].contains(&which)
+    [8, 10, 13].contains(&which)
 }
 
 fn window(is_open: bool) {

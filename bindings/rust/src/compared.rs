@@ -10,6 +10,7 @@
 //! | `insert` | the same where the keys are [`NoPrefixes`](crate::NoPrefixes); [`try_insert`](crate::ArtMap::try_insert) |
 //! | `entry` | the same where the keys are `NoPrefixes`; [`try_entry`](crate::ArtMap::try_entry) |
 //! | `remove`, `remove_entry`, `pop_first`, `pop_last`, `retain`, `extract_if` | the same, and with `try_` before the name |
+//! | `Debug` of all walks, also those that write | the same |
 //! | `append` | the same where the keys are `NoPrefixes`; [`try_append`](crate::ArtMap::try_append) |
 //! | `split_off` | the same, and [`try_split_off`](crate::ArtMap::try_split_off) |
 //! | `range`, `range_mut` | the same, and with `try_`; wrong bounds are a panic of an empty map, too |
@@ -19,11 +20,12 @@
 //! | `VacantEntry`: `key`, `into_key`, `insert`, `insert_entry` | the same; `try_insert`, `try_insert_entry` |
 //! | `Clone`, `Debug`, `Default`, `Eq`, `Ord`, `Hash`, `Index`, `IntoIterator` | the same, and `try_clone` |
 //! | `Extend`, `FromIterator`, `From<[(K, V); N]>` | the same where the keys are `NoPrefixes`; `try_extend`, `try_from_iter` |
+//! | (time) | `collect` of pairs that don't ascend ends with a second tree, in order: slower than std's by that, and the walks after it are not |
 //! | `Iter`, `Keys`, `Values`, `Range`, their `_mut` and `Into` forms, `ExtractIf` | the same; from both ends, exact, fused as there |
 //! | `Default` of `Iter`, `IterMut`, `Keys`, `Values`, `Range` | absent: a walk here is one over some map |
 //! | `Send`, `UnwindSafe` | the same |
 //! | serde's `Serialize` and `Deserialize` of it | the same, by the feature `serde` |
-//! | `Sync` | a [`FrozenMap`](crate::FrozenMap) or [`FrozenSet`](crate::FrozenSet) for each thread: a handle has one call at a time |
+//! | `Sync` | a [`FrozenMap`](crate::FrozenMap) or [`FrozenSet`](crate::FrozenSet) is: a map's one handle has one call at a time |
 //! | what is experimental: `new_in`, `try_insert`, `merge`, cursors | absent; blart's `try_insert` has the name |
 //! | - | [`try_reserve`](crate::ArtMap::try_reserve), [`shrink_to_fit`](crate::ArtMap::shrink_to_fit), as of a `Vec` |
 //!
@@ -41,6 +43,18 @@
 //! | `Iter`, `Range`, `IntoIter`, `ExtractIf` | `SetIter`, `SetRange`, `SetIntoIter`, `SetExtractIf` |
 //! | serde's `Serialize` and `Deserialize` of it | the same, by the feature `serde` |
 //! | what is experimental: `new_in`, `get_or_insert`, `get_or_insert_with`, `entry`, cursors | absent |
+//!
+//! # Frozen maps and sets
+//!
+//! | `BTreeMap`, `BTreeSet` | `FrozenMap`, `FrozenSet` |
+//! |---|---|
+//! | all calls that take `&self` and read | the same, and with `try_` where the bytes of a key may find no memory |
+//! | `union`, `difference`, `symmetric_difference`, `intersection`, `is_subset`, `is_superset`, `is_disjoint` | the same, of two frozen sets |
+//! | `&`, `\|`, `^`, `-` | absent: `collect` the walk |
+//! | `Clone` | the same pairs once more; [`freeze_clone`](crate::ArtMap::freeze_clone) of a map copies |
+//! | `Debug`, `Eq`, `Ord`, `Hash`, `Index`, `IntoIterator` of `&` | the same |
+//! | `Send`, `Sync` | the same |
+//! | calls that change | [`thaw`](crate::FrozenMap::thaw) first |
 //!
 //! # blart's `TreeMap`
 //!

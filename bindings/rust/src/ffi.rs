@@ -6,7 +6,8 @@
 //!    a `Words` is the one copy that is used from then on; it is no `Copy`, and has no `Clone`.
 //! 2. A call runs while `&Words` or `&mut Words` is held, and calls nothing of Rust. `Words` is not `Sync`, since its handle
 //!    stands in an `UnsafeCell`. So it has one call at a time. It is `Send`, as the rule allows: Rust orders what a thread
-//!    does before it hands a value on before what the next one does with it.
+//!    does before it hands a value on before what the next one does with it. Those of a frozen map that threads have
+//!    together stand each in a `Mutex` (`pool.rs`), which a call holds.
 //! 3. Pointers and lengths are those of slices, which Rust has at most `isize::MAX` long, or of locals. What is read or
 //!    written is initialised.
 //! 4. What a call writes is `&mut` or a local, and so overlaps nothing else: the handles by their cells, one room, locals.
@@ -14,10 +15,28 @@
 //! 6. A call in a handler of signals or after a fork needs `unsafe` of the user's own.
 //!
 //! At each block stands the clause of `art_c` that says what its call answers (`crates/art_c`).
+//!
+//! # Code of a caller's
+//!
+//! A `Key`, its bytes, an `Ord`, a `Clone`, a `Drop` and a closure may panic in each of their calls, and tell something else
+//! each time: that breaks none of the rules. No call of `artmap.h` runs code of a caller's. What it reads is a slice of
+//! bytes that was taken once: `as_ref` is called once for each `to_bytes`, and the same slice goes to all calls that belong
+//! together. Rust keeps it as it is meanwhile, whatever a second `as_ref` would tell. (`Key::with_bytes` is sealed: no
+//! type of a caller's runs around a call.) So each block below holds for any bytes, but those of [`WalkMut`], which need
+//! more:
+//!
+//! - *One slot, one word.* The words of a tree are the indexes of the full slots, each once. What changes one changes the
+//!   other, before code of a caller's runs (`store`, `take`, `take_at`, `take_all` and what `bulk.rs` has): a pair lies in its
+//!   slot before the tree has its word, and `Apart` or `Parted` free the slots that the tree has not, also where a panic goes
+//!   on. A key that waits to go in has its slot, and the run its bytes: nothing of a caller's runs between the two. A run
+//!   goes in only where the tree itself has no key that is not below it, so that no word is replaced unseen.
+//! - *Each pair once.* A walk goes on from the pair that it lent last, by the word that the tree has for the bytes told. Where
+//!   a key tells others, that word is another one, and the walk panics.
 use crate::Key;
 use crate::error::{AllocError, or_end};
 use crate::slab::{Slab, Slot};
 use crate::walk::{Limits, Walk, Way};
+pub(crate) use span::{From, Put, Stop, To};
 use std::cell::UnsafeCell;
 use std::ffi::c_void;
 use std::marker::PhantomData;
@@ -89,6 +108,7 @@ const NO_ROOM: u32 = 4;
 const NO_MEMORY: u32 = 5;
 const NO_MAP: u32 = 6;
 const NOT_ABOVE: u32 = 7;
+#[allow(dead_code, reason = "a run has the bytes that its lengths tell")]
 const CUT_OFF: u32 = 8;
 const MORE: u32 = 9;
 #[allow(dead_code, reason = "no call changes a map that is frozen")]
@@ -110,45 +130,6 @@ fn not_told(code: u32) -> ! {
     unreachable!("libartmap.a is not that of this crate: a call answered {code}")
 }
 
-/// Where a walk begins.
-#[derive(Clone, Copy)]
-pub(crate) enum From<'a> {
-    /// At its end of the map.
-    End,
-    /// With the pair of the key, if it is stored.
-    Key(&'a [u8]),
-    /// With the pair after the key.
-    After(&'a [u8]),
-}
-
-/// Where a walk ends.
-#[derive(Clone, Copy)]
-pub(crate) enum To<'a> {
-    End,
-    /// With the pair of the key, if it is stored.
-    Key(&'a [u8]),
-    /// With the pair before the key.
-    Before(&'a [u8]),
-    /// With the last one whose key begins with these bytes.
-    Prefix(&'a [u8]),
-}
-
-/// What came of a put.
-#[derive(Clone, Copy, PartialEq, Eq, Debug)]
-pub(crate) enum Put {
-    New,
-    /// The word that it had.
-    Replaced(u64),
-    Conflict,
-}
-
-/// Why pairs were not all put in.
-#[derive(Clone, Copy, PartialEq, Eq, Debug)]
-pub(crate) enum Stop {
-    Conflict,
-    Memory,
-}
-
 /// A map from byte strings to words, made by its first pair. Without one the handle has no map, and reads as an empty one.
 pub(crate) struct Words {
     handle: UnsafeCell<Handle>,
@@ -166,6 +147,11 @@ impl Words {
     /// Needs no memory.
     pub(crate) const fn new() -> Words {
         Words { handle: UnsafeCell::new(Handle { held: ptr::null_mut(), is_made: false }) }
+    }
+
+    #[cfg(test)]
+    pub(crate) fn is_made(&mut self) -> bool {
+        self.handle.get_mut().is_made
     }
 
     #[cfg(test)]
@@ -223,11 +209,16 @@ impl Words {
 
     /// The word of the key that begins the query, or equals it.
     pub(crate) fn find(&self, query: &[u8]) -> Option<u64> {
+        self.find_len(query).map(|found| found.1)
+    }
+
+    /// The length and the word of the key that begins the query, or equals it.
+    pub(crate) fn find_len(&self, query: &[u8]) -> Option<(usize, u64)> {
         let (mut len, mut word) = (0, 0);
         let at = self.handle.get();
         // SAFETY: rules 1 to 4; both are locals. Clause of `artmap_words_find`: IsLenWordRead.
         match unsafe { artmap_words_find(at, query.as_ptr(), query.len(), &raw mut len, &raw mut word) } {
-            DONE => Some(word),
+            DONE => Some((len, word)),
             NOT_FOUND | NO_MAP => None,
             code => not_told(code),
         }
@@ -348,8 +339,8 @@ impl Words {
             DONE => (taken, None),
             CONFLICT => (taken, Some(Stop::Conflict)),
             NO_MEMORY => (taken, Some(Stop::Memory)),
-            // (the buffer is made by `Run`, which sees to both)
-            code @ (NOT_ABOVE | CUT_OFF) => unreachable!("a run of pairs is no run: {code}"),
+            NOT_ABOVE => (taken, Some(Stop::NotAbove)),
+            // (the lengths are those of the keys, as `Run` holds them)
             code => not_told(code),
         }
     }
@@ -457,6 +448,23 @@ impl<'a, K: Key, V, L: Limits> WalkMut<'a, K, V, L> {
         WalkMut { words, len: slots.len(), slots: slots.as_mut_ptr(), walk, front: None, back: None, of: PhantomData }
     }
 
+    /// Has a call take the pairs that are left.
+    pub(crate) fn each_left(&self, mut call: impl FnMut(&K, &V))
+    where
+        L: Clone,
+    {
+        let (mut walk, mut last) = (self.walk.clone(), self.front);
+        while let Some(index) = or_end(walk.next_sure(self.words, Way::Up, |_| last.expect("a key was lent"))) {
+            assert!(index < self.len, "libartmap.a is not that of this crate: it told the word {index}");
+            // SAFETY: as in `next`, of a copy of the walk (rules 1 to 4; `artmap_words_walk_words`: IsWordsWalked): so this slot
+            // is none that was lent, and it is lent here while `self` is, which `next` wants alone.
+            let slot: &Slot<K, V> = unsafe { &*self.slots.add(index) };
+            let Some((key, value)) = slot.pair() else { break };
+            last = Some(key);
+            call(key, value);
+        }
+    }
+
     /// The next pair from one of the ends.
     pub(crate) fn next(&mut self, way: Way) -> Option<(&'a K, &'a mut V)> {
         let last = match way {
@@ -467,9 +475,11 @@ impl<'a, K: Key, V, L: Limits> WalkMut<'a, K, V, L> {
         assert!(index < self.len, "libartmap.a is not that of this crate: it told the word {index}");
         // SAFETY: rules 1 to 4 are kept by `Words`. Clause of `artmap_words_walk_words`: IsWordsWalked: the words are those of
         // pairs that ascend (or descend), all after the key given. `next_sure` goes on after the very pair that was lent
-        // last at this end, since `artmap_words_get` (IsWordRead) told its word for the bytes of that key; and it ends at the
-        // word that the other end lent last. So no pair is met twice. No two pairs of a map have one word, since a word is
-        // put in as that of a free slot. So this slot is lent once while `'a` lasts, and the slots are lent to `self` alone.
+        // last at this end, since `artmap_words_get` (IsWordRead) told its word for the bytes that the walk is then given, the
+        // same slice; and it ends at the word that the other end lent last. So no pair is met twice, and no number of pairs
+        // is relied on. No two pairs of a tree have one word (One slot, one word, above): a hostile `Key` can't have it
+        // otherwise, since none of its code runs between a tree's change and that of the slots. So this slot is lent once
+        // while `'a` lasts, and the slots are lent to `self` alone. The index is below `len`, as was seen.
         let slot: &'a mut Slot<K, V> = unsafe { &mut *self.slots.add(index) };
         let (key, value) = slot.lend(index);
         match way {
@@ -480,5 +490,6 @@ impl<'a, K: Key, V, L: Limits> WalkMut<'a, K, V, L> {
     }
 }
 
+mod span;
 #[cfg(test)]
 mod tests;

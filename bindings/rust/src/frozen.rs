@@ -3,16 +3,19 @@ use crate::error::{AllocError, or_end};
 use crate::ffi::Words;
 use crate::iter::{Iter, IterBytes, Keys, Prefix, Range, Values};
 use crate::map::ArtMap;
+use crate::pool::Pool;
 use crate::slab::Slab;
-use crate::view::View;
+use crate::view::{MAP, Reader, View};
 use crate::walk::Way;
 use crate::{Key, KeyPrefix};
 use std::borrow::Borrow;
+use std::cmp::Ordering;
 use std::fmt;
+use std::hash::{Hash, Hasher};
 use std::ops::{Index, RangeBounds};
 use std::sync::Arc;
 
-/// A map that nobody changes. A clone is another handle on the same pairs, for another thread.
+/// A map that nobody changes. A clone has the same pairs, for another thread.
 ///
 /// [`ArtMap::freeze`] makes it, and [`thaw`](Self::thaw) gives the map back.
 ///
@@ -30,16 +33,24 @@ use std::sync::Arc;
 /// map.insert("c", 3);
 /// ```
 ///
-/// A handle has one call at a time, so it is `Send` and not `Sync`:
+/// Many threads may read one of them, too: it is `Sync`, and stands in a `static` or an `RwLock`. A handle of the library has
+/// one call at a time, so up to nine handles are kept, and a call takes one that is free:
 ///
-/// ```compile_fail
-/// fn is_shared<T: Sync>(_: T) {}
-/// is_shared(artmap::ArtMap::from([(1, 1)]).freeze());
 /// ```
-pub struct FrozenMap<K, V> {
-    // (the words go first: who has the slots alone has the tree alone)
-    words: Words,
-    slab: Arc<Slab<K, V>>,
+/// use artmap::{ArtMap, FrozenMap};
+/// use std::sync::LazyLock;
+/// use std::thread;
+///
+/// static NAMES: LazyLock<FrozenMap<&str, u32>> = LazyLock::new(|| ArtMap::from([("a", 1)]).freeze());
+///
+/// assert_eq!(thread::spawn(|| NAMES.get("a")).join().unwrap(), Some(&1));
+/// ```
+pub struct FrozenMap<K, V>(Arc<Frozen<K, V>>);
+
+/// What all clones have.
+struct Frozen<K, V> {
+    pool: Pool,
+    slab: Slab<K, V>,
 }
 
 impl<K: Key, V> ArtMap<K, V> {
@@ -55,7 +66,27 @@ impl<K: Key, V> ArtMap<K, V> {
     pub fn freeze(mut self) -> FrozenMap<K, V> {
         self.lay_out();
         or_end(self.words.freeze());
-        FrozenMap { words: self.words, slab: Arc::new(self.slab) }
+        FrozenMap::of(self.words, self.slab)
+    }
+
+    /// A copy that nobody changes, in one pass: a snapshot for readers, beside which this map goes on. Its pairs and nodes are
+    /// in the order of the keys. It takes time by the pairs, as a clone does.
+    ///
+    /// ```
+    /// let mut map = artmap::ArtMap::from([(1, 'a')]);
+    /// let frozen = map.freeze_clone();
+    /// map.insert(2, 'b');
+    /// assert_eq!((frozen.len(), map.len()), (1, 2));
+    /// ```
+    #[must_use]
+    pub fn freeze_clone(&self) -> FrozenMap<K, V>
+    where
+        K: Clone,
+        V: Clone,
+    {
+        let mut made = or_end(self.try_copied());
+        or_end(made.words.freeze());
+        FrozenMap::of(made.words, made.slab)
     }
 }
 
@@ -72,19 +103,18 @@ impl<K, V> FrozenMap<K, V> {
     ///
     /// # Errors
     ///
-    /// Where there is another handle. This one is handed back.
-    pub fn thaw(mut self) -> Result<ArtMap<K, V>, Self> {
-        match Arc::try_unwrap(self.slab) {
-            Ok(slab) if self.words.thaw() => Ok(ArtMap { words: self.words, slab }),
-            Ok(slab) => Err(FrozenMap { words: self.words, slab: Arc::new(slab) }),
-            Err(slab) => {
-                self.slab = slab;
-                Err(self)
-            }
-        }
+    /// Where there is another clone. This one is handed back.
+    pub fn thaw(self) -> Result<ArtMap<K, V>, Self> {
+        let Frozen { pool, slab } = Arc::try_unwrap(self.0).map_err(FrozenMap)?;
+        let mut words = pool.into_words();
+        if words.thaw() { Ok(ArtMap { words, slab }) } else { Err(FrozenMap::of(words, slab)) }
     }
 
-    /// Another handle on the same pairs.
+    fn of(words: Words, slab: Slab<K, V>) -> Self {
+        FrozenMap(Arc::new(Frozen { pool: Pool::new(words), slab }))
+    }
+
+    /// Another one of the same pairs. It needs no memory.
     ///
     /// ```
     /// let frozen = artmap::ArtMap::from([(1, 'a')]).freeze();
@@ -93,9 +123,9 @@ impl<K, V> FrozenMap<K, V> {
     ///
     /// # Errors
     ///
-    /// Where memory lacks.
+    /// Never.
     pub fn try_clone(&self) -> Result<Self, AllocError> {
-        Ok(FrozenMap { words: self.words.share()?, slab: Arc::clone(&self.slab) })
+        Ok(self.clone())
     }
 
     /// How many pairs there are.
@@ -105,7 +135,7 @@ impl<K, V> FrozenMap<K, V> {
     /// ```
     #[must_use]
     pub fn len(&self) -> usize {
-        self.slab.len()
+        self.0.slab.len()
     }
 
     /// Whether there is no pair.
@@ -118,8 +148,8 @@ impl<K, V> FrozenMap<K, V> {
         self.len() == 0
     }
 
-    fn view(&self) -> View<'_, K, V> {
-        View { words: &self.words, slab: &self.slab }
+    pub(crate) fn view(&self) -> View<'_, K, V> {
+        View { words: Reader::Many(&self.0.pool), slab: &self.0.slab }
     }
 }
 
@@ -185,6 +215,7 @@ impl<K: Key, V> FrozenMap<K, V> {
     /// ```
     /// assert_eq!(artmap::ArtMap::from([(1, 'a'), (2, 'b')]).freeze().first_key_value(), Some((&1, &'a')));
     /// ```
+    #[must_use]
     pub fn first_key_value(&self) -> Option<(&K, &V)> {
         self.view().end(Way::Up)
     }
@@ -194,6 +225,7 @@ impl<K: Key, V> FrozenMap<K, V> {
     /// ```
     /// assert_eq!(artmap::ArtMap::from([(1, 'a'), (2, 'b')]).freeze().last_key_value(), Some((&2, &'b')));
     /// ```
+    #[must_use]
     pub fn last_key_value(&self) -> Option<(&K, &V)> {
         self.view().end(Way::Down)
     }
@@ -249,7 +281,7 @@ impl<K: Key, V> FrozenMap<K, V> {
         K: Borrow<Q>,
         R: RangeBounds<Q>,
     {
-        self.view().range(&range)
+        self.view().range(&range, MAP)
     }
 
     /// As [`ArtMap::prefix`].
@@ -358,7 +390,7 @@ impl<K: Key, V> FrozenMap<K, V> {
         K: Borrow<Q>,
         R: RangeBounds<Q>,
     {
-        self.view().try_range(&range)
+        self.view().try_range(&range, MAP)
     }
 
     /// As [`ArtMap::try_prefix`].
@@ -378,7 +410,7 @@ impl<K: Key, V> FrozenMap<K, V> {
 
 impl<K, V> Clone for FrozenMap<K, V> {
     fn clone(&self) -> Self {
-        or_end(self.try_clone())
+        FrozenMap(Arc::clone(&self.0))
     }
 }
 
@@ -401,6 +433,27 @@ impl<K: Key + PartialEq, V: PartialEq> PartialEq for FrozenMap<K, V> {
 }
 
 impl<K: Key + Eq, V: Eq> Eq for FrozenMap<K, V> {}
+
+impl<K: Key + PartialOrd, V: PartialOrd> PartialOrd for FrozenMap<K, V> {
+    fn partial_cmp(&self, other: &Self) -> Option<Ordering> {
+        self.iter().partial_cmp(other)
+    }
+}
+
+impl<K: Key + Ord, V: Ord> Ord for FrozenMap<K, V> {
+    fn cmp(&self, other: &Self) -> Ordering {
+        self.iter().cmp(other)
+    }
+}
+
+impl<K: Key + Hash, V: Hash> Hash for FrozenMap<K, V> {
+    fn hash<H: Hasher>(&self, state: &mut H) {
+        state.write_usize(self.len());
+        for pair in self {
+            pair.hash(state);
+        }
+    }
+}
 
 /// Panics where the key is not there.
 impl<K: Key + Borrow<Q>, Q: Key + ?Sized, V> Index<&Q> for FrozenMap<K, V> {

@@ -1,17 +1,17 @@
 //! Walks over a map that lend its pairs.
 use crate::Key;
 use crate::error::or_end;
-use crate::ffi::{From, To, Words};
+use crate::ffi::{From, To};
 use crate::room::Room;
 use crate::slab::Slot;
-use crate::view::{View, index_of};
+use crate::view::{Reader, Reads, View, index_of};
 use crate::walk::{All, Between, Limits, Under, Walk, Way};
 use std::fmt;
 use std::iter::FusedIterator;
 use std::slice;
 
 /// Of slots in order those within some limits.
-fn within<'a, K, V, L: Limits>(all: &'a [Slot<K, V>], words: &Words, limits: &L) -> &'a [Slot<K, V>] {
+fn within<'a, K, V, L: Limits>(all: &'a [Slot<K, V>], words: Reader<'_>, limits: &L) -> &'a [Slot<K, V>] {
     let end = |way| match limits.from(way) {
         // (each has its index as its word)
         From::End if matches!(limits.to(way), To::End | To::Key(_) | To::Before(_)) => {
@@ -23,7 +23,7 @@ fn within<'a, K, V, L: Limits>(all: &'a [Slot<K, V>], words: &Words, limits: &L)
         }
         from => {
             let mut word = [0];
-            let (count, _) = words.walk(way, from, limits.to(way), &mut word);
+            let (count, _) = words.call(|words| words.walk(way, from, limits.to(way), &mut word));
             (count == 1).then(|| index_of(word[0]))
         }
     };
@@ -60,7 +60,7 @@ impl<'a, K: Key, V, L: Limits> Pairs<'a, K, V, L> {
             return slot.and_then(Slot::pair);
         }
         let slab = self.view.slab;
-        let index = or_end(self.walk.next(self.view.words, way, |index| slab.pair(index).0))?;
+        let index = or_end(self.walk.next(&self.view.words, way, |index| slab.pair(index).0))?;
         Some(slab.pair(index))
     }
 }

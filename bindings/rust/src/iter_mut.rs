@@ -3,7 +3,8 @@ use crate::Key;
 use crate::ffi::WalkMut;
 use crate::map::ArtMap;
 use crate::room::Room;
-use crate::walk::{All, Between, Under, Walk, Way};
+use crate::walk::{Between, Under, Walk, Watched, Way};
+use std::fmt;
 use std::iter::FusedIterator;
 
 /// The pairs of a map in ascending order, from both ends, with values to be written.
@@ -18,14 +19,14 @@ use std::iter::FusedIterator;
 /// ```
 #[must_use]
 pub struct IterMut<'a, K, V> {
-    pairs: WalkMut<'a, K, V, All>,
+    pairs: WalkMut<'a, K, V, Watched>,
     left: usize,
 }
 
 impl<'a, K: Key, V> IterMut<'a, K, V> {
     pub(crate) fn new(map: &'a mut ArtMap<K, V>) -> Self {
         let left = map.slab.len();
-        IterMut { pairs: WalkMut::new(&mut map.words, &mut map.slab, Walk::new(All)), left }
+        IterMut { pairs: WalkMut::new(&mut map.words, &mut map.slab, Walk::new(Watched)), left }
     }
 
     fn step(&mut self, way: Way) -> Option<(&'a K, &'a mut V)> {
@@ -122,3 +123,25 @@ walks! {
 impl<K: Key, V> ExactSizeIterator for IterMut<'_, K, V> {}
 
 impl<K: Key, V> ExactSizeIterator for ValuesMut<'_, K, V> {}
+
+macro_rules! shown {
+    ($($of:ident, [$($bound:tt)*], $self:ident, $pairs:expr, $key:ident, $value:ident, $item:expr;)*) => {$(
+        /// The pairs that are left.
+        impl<$($bound)*> fmt::Debug for $of<'_, K, V> {
+            fn fmt(&$self, to: &mut fmt::Formatter<'_>) -> fmt::Result {
+                let mut list = to.debug_list();
+                $pairs.each_left(|$key, $value| {
+                    list.entry($item);
+                });
+                list.finish()
+            }
+        }
+    )*};
+}
+
+shown! {
+    IterMut, [K: Key + fmt::Debug, V: fmt::Debug], self, self.pairs, key, value, &(key, value);
+    ValuesMut, [K: Key, V: fmt::Debug], self, self.0.pairs, _key, value, value;
+    RangeMut, [K: Key + fmt::Debug, V: fmt::Debug], self, self.0, key, value, &(key, value);
+    PrefixMut, [K: Key + fmt::Debug, V: fmt::Debug], self, self.0, key, value, &(key, value);
+}

@@ -8,8 +8,16 @@ mod tuples;
 
 pub use texts::{Ended, Front, PrefixBytes};
 
+use sealed::Sealed;
+
 use crate::error::AllocError;
 use std::ffi::{CStr, CString, OsStr, OsString};
+
+pub(crate) mod sealed {
+    /// What no other crate can name.
+    #[derive(Clone, Copy)]
+    pub struct Sealed;
+}
 
 /// A key, or a query for one, seen as bytes. A map orders its keys by them.
 ///
@@ -60,20 +68,33 @@ pub trait Key {
     /// Where the bytes are put together and there is no memory for them.
     fn to_bytes(&self) -> Result<Self::Bytes<'_>, AllocError>;
 
-    /// Has a call take the bytes. A type whose bytes are put together may do so in a room of this call, which moves nowhere.
+    /// Has a call take the bytes, in a room that moves nowhere where they are put together. This crate's own: what it is given
+    /// can't be named elsewhere, so no other type has code of its own here:
     ///
+    /// ```compile_fail
+    /// use artmap::{AllocError, Key, key::sealed::Sealed};
+    ///
+    /// struct Hostile;
+    ///
+    /// impl Key for Hostile {
+    ///     type Bytes<'a> = [u8; 1];
+    ///     fn to_bytes(&self) -> Result<[u8; 1], AllocError> {
+    ///         Ok([1])
+    ///     }
+    ///     fn with_bytes<R>(&self, _: Sealed, call: impl FnOnce(&[u8]) -> R) -> Result<R, AllocError> {
+    ///         call(&[1]);
+    ///         Err(AllocError)
+    ///     }
+    /// }
     /// ```
-    /// use artmap::Key;
-    ///
-    /// assert_eq!("ab".with_bytes(|bytes| bytes.len()), Ok(3));
-    /// ```
-    ///
-    /// # Errors
-    ///
-    /// As [`to_bytes`](Self::to_bytes).
+    #[doc(hidden)]
     #[inline]
-    fn with_bytes<R>(&self, call: impl FnOnce(&[u8]) -> R) -> Result<R, AllocError> {
-        Ok(call(self.to_bytes()?.as_ref()))
+    fn with_bytes<R>(&self, _: Sealed, call: impl FnOnce(&[u8]) -> R) -> Result<R, AllocError> {
+        let bytes = self.to_bytes()?;
+        let done = call(bytes.as_ref());
+        // (where the bytes panic as they go, what was done is dropped)
+        drop(bytes);
+        Ok(done)
     }
 
     /// The bytes but for the last one, where that is a zero, all keys of the map end with a zero and have no other, and the

@@ -21,8 +21,8 @@
 //!
 //! The tree is the library that `./lib` makes (`crates/art_c`, in Rattle): a map from byte strings to words. What each of its
 //! calls answers and does is proved, of a caller that keeps the rules of `artmap.h`. This crate is such a caller: `src/ffi.rs`
-//! has all its `unsafe`. Keys and values lie in slots of Rust's memory, and the word of a key is the index of its slot. That
-//! part is not proved, but tested.
+//! has all its `unsafe`, and says why a hostile [`Key`] breaks none of it. Keys and values lie in slots of Rust's memory, and
+//! the word of a key is the index of its slot. That part is not proved, but tested.
 //!
 //! # Keys
 //!
@@ -37,12 +37,14 @@
 //! Where memory lacks, a call ends the program, as those of std's collections do. A call whose name begins with `try_` says
 //! it instead, and tells what it leaves. All that may find no memory has such a form, but for [`freeze`](ArtMap::freeze) and
 //! the steps of walks: a step needs memory where the bytes of a key are put together and are more than 120. A panic in a
-//! `Drop`, a `Clone`, a closure, an iterator or a [`Key`] leaves the map whole.
+//! `Drop`, a `Clone`, a closure, an iterator or a [`Key`] leaves the map whole. A `Key` that tells other bytes at each call
+//! makes it find other pairs or panic, and nothing worse. A map that had room for 128 pairs or more gives its memory back
+//! with its last pair.
 //!
 //! # Threads
 //!
 //! A map may go to another thread. It has one call at a time, those that read too, so it is not `Sync`: where many threads
-//! read, [`freeze`](ArtMap::freeze) it, and give each a clone of the [`FrozenMap`].
+//! read, [`freeze`](ArtMap::freeze) it, or [`freeze_clone`](ArtMap::freeze_clone) it as it is now: a [`FrozenMap`] is `Sync`.
 //!
 //! # Features
 //!
@@ -74,6 +76,8 @@ mod iter_mut;
 mod key;
 mod map;
 mod owned;
+mod parted;
+mod pool;
 mod room;
 #[cfg(feature = "serde")]
 mod serde;

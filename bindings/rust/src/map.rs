@@ -3,6 +3,7 @@ mod bulk;
 mod change;
 mod entry;
 mod extract;
+mod filling;
 mod prefix_entry;
 mod read;
 mod traits;
@@ -17,8 +18,10 @@ pub use prefix_entry::{InnerEntry, PrefixEntry};
 use crate::Key;
 use crate::error::{AllocError, TryInsertError};
 use crate::ffi::{Put, Words};
+use crate::key::sealed::Sealed;
+use crate::parted::Apart;
 use crate::slab::Slab;
-use crate::view::{View, index_of};
+use crate::view::{Reader, View, index_of};
 
 /// An ordered map, whose keys are seen as bytes. It goes where a [`BTreeMap`](std::collections::BTreeMap) goes.
 ///
@@ -120,9 +123,13 @@ impl<K, V> ArtMap<K, V> {
     }
 
     pub(crate) fn view(&self) -> View<'_, K, V> {
-        View { words: &self.words, slab: &self.slab }
+        View { words: Reader::One(&self.words), slab: &self.slab }
     }
 }
+
+/// How many pairs a map has room for at least that gives its memory back with its last pair. One that is filled and emptied
+/// again and again keeps what it has.
+const KEPT: usize = 128;
 
 /// A word for an index.
 pub(crate) fn word_of(index: usize) -> u64 {
@@ -132,18 +139,21 @@ pub(crate) fn word_of(index: usize) -> u64 {
 /// What a panic says where the bytes of a key that is stored are not those that it had.
 pub(crate) const CHANGED: &str = "the bytes of a key have changed";
 
+/// The index of a pair that was stored, and the pair that was in its place.
+type Stored<K, V> = (usize, Option<(K, V)>);
+
 impl<K: Key, V> ArtMap<K, V> {
     /// Stores a pair. Tells its index, and the value that the key had. A key that is stored stays.
     #[inline]
     pub(crate) fn put(&mut self, key: K, value: V) -> Result<(usize, Option<V>), TryInsertError<K, V>> {
-        match self.put_word(&key) {
-            Ok(Put::New) => Ok((self.slab.fill(key, value), None)),
-            Ok(Put::Replaced(word)) => {
-                let (index, old) = self.slab.renew(index_of(word), value);
-                Ok((index, Some(old)))
+        match self.store(key, value) {
+            Ok((index, None)) => Ok((index, None)),
+            Ok((index, Some((key, value)))) => {
+                drop(self.slab.set_key(index, key));
+                Ok((index, Some(value)))
             }
-            Ok(Put::Conflict) => Err(TryInsertError::Prefix { key, value }),
-            Err(AllocError) => self.set(key, value),
+            Err(TryInsertError::Memory { key, value }) => self.set(key, value),
+            Err(why) => Err(why),
         }
     }
 
@@ -162,25 +172,42 @@ impl<K: Key, V> ArtMap<K, V> {
 
     /// Stores a pair, and gives the one that was in its place.
     pub(crate) fn replace(&mut self, key: K, value: V) -> Result<Option<(K, V)>, TryInsertError<K, V>> {
-        match self.put_word(&key) {
-            Ok(Put::New) => {
-                self.slab.fill(key, value);
-                Ok(None)
-            }
-            Ok(Put::Replaced(word)) => {
-                self.slab.fill(key, value);
-                Ok(Some(self.slab.take(index_of(word))))
-            }
-            Ok(Put::Conflict) => Err(TryInsertError::Prefix { key, value }),
-            Err(AllocError) => Err(TryInsertError::Memory { key, value }),
-        }
+        self.store(key, value).map(|(_, old)| old)
     }
 
-    /// Puts in the key with the index that the next pair gets.
+    /// Stores a pair, and tells its index and the pair that was in its place. The pair is in its slot before the tree has its
+    /// word, and a panic of the key's code takes back what the tree has not.
     #[inline]
-    fn put_word(&mut self, key: &K) -> Result<Put, AllocError> {
-        let index = self.slab.next_index()?;
-        key.with_bytes(|bytes| self.words.put(bytes, word_of(index)))?
+    fn store(&mut self, key: K, value: V) -> Result<Stored<K, V>, TryInsertError<K, V>> {
+        let Ok(index) = self.slab.next_index() else { return Err(TryInsertError::Memory { key, value }) };
+        let was_in_order = self.slab.is_in_order();
+        let filled = self.slab.fill(key, value);
+        debug_assert_eq!(filled, index);
+        let mut apart = Apart { slab: &mut self.slab, index: Some(index) };
+        let put = apart.slab.pair(index).0.with_bytes(Sealed, |bytes| {
+            let put = self.words.put(bytes, word_of(index));
+            // (at once: the bytes may panic where they are dropped)
+            apart.index = match put {
+                Ok(Put::New) => None,
+                Ok(Put::Replaced(word)) => Some(index_of(word)),
+                Ok(Put::Conflict) | Err(AllocError) => Some(index),
+            };
+            put
+        });
+        let put = put.and_then(|put| put);
+        let refused = apart.index.take();
+        drop(apart);
+        match (put, refused) {
+            (Ok(Put::Replaced(_)), Some(old)) => Ok((index, Some(self.slab.take(old)))),
+            (Ok(_), None) => Ok((index, None)),
+            (put, _) => {
+                let (key, value) = self.slab.unfill(index, was_in_order);
+                Err(match put {
+                    Err(AllocError) => TryInsertError::Memory { key, value },
+                    Ok(_) => TryInsertError::Prefix { key, value },
+                })
+            }
+        }
     }
 
     /// Takes the pair with these bytes out.
@@ -188,15 +215,28 @@ impl<K: Key, V> ArtMap<K, V> {
     pub(crate) fn take(&mut self, bytes: &[u8]) -> Result<Option<(K, V)>, AllocError> {
         let Some(word) = self.words.remove(bytes)? else { return Ok(None) };
         let pair = self.slab.take(index_of(word));
-        self.slab.settle();
+        self.settle();
         Ok(Some(pair))
     }
 
     /// Takes the pair with this index out.
     pub(crate) fn take_at(&mut self, index: usize) -> Result<(K, V), AllocError> {
-        let word = self.slab.pair(index).0.with_bytes(|bytes| self.words.remove(bytes))??;
-        let pair = self.slab.take(index_of(word.expect(CHANGED)));
-        self.slab.settle();
+        let mut apart = Apart { slab: &mut self.slab, index: None };
+        let key = apart.slab.pair(index).0;
+        // (at once: the bytes may panic where they are dropped)
+        key.with_bytes(Sealed, |bytes| self.words.remove(bytes).map(|word| apart.index = word.map(index_of)))??;
+        let index = apart.index.take().expect(CHANGED);
+        let pair = apart.slab.take(index);
+        drop(apart);
+        self.settle();
         Ok(pair)
+    }
+
+    /// Gives the memory of the tree and of the slots back where there is no pair, unless there were few.
+    pub(crate) fn settle(&mut self) {
+        if self.slab.settle() && self.slab.has_room_for(KEPT) {
+            self.words.clear();
+            self.slab = Slab::new();
+        }
     }
 }

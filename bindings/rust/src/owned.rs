@@ -2,7 +2,8 @@
 use crate::Key;
 use crate::error::or_end;
 use crate::map::ArtMap;
-use crate::view::View;
+use crate::parted::{key_of, value_of};
+use crate::view::{Reader, View};
 use crate::walk::{All, Walk, Way};
 use std::fmt;
 use std::iter::FusedIterator;
@@ -50,18 +51,18 @@ impl<K: Key, V> IntoIter<K, V> {
             return None;
         }
         let ArtMap { words, slab } = &mut self.map;
-        let index = or_end(self.walk.next(words, way, |index| slab.pair(index).0))?;
+        let index = or_end(self.walk.next(&*words, way, |index| slab.pair(index).0))?;
         // (after the pair the walk finds no way once its key has gone)
-        or_end(self.walk.settle(words, way, |index| slab.pair(index).0));
+        or_end(self.walk.settle(&*words, way, |index| slab.pair(index).0));
         Some(slab.take(index))
     }
 
     /// The pairs that are left, lent.
     pub(crate) fn lent(&self) -> impl Iterator<Item = (&K, &V)> {
-        let view = View { words: &self.map.words, slab: &self.map.slab };
+        let view = View { words: Reader::One(&self.map.words), slab: &self.map.slab };
         let mut walk = self.walk.clone();
         (0..self.left()).map_while(move |_| {
-            let index = or_end(walk.next(view.words, Way::Up, |index| view.slab.pair(index).0))?;
+            let index = or_end(walk.next(&view.words, Way::Up, |index| view.slab.pair(index).0))?;
             Some(view.slab.pair(index))
         })
     }
@@ -107,8 +108,8 @@ macro_rules! walks {
 
 walks! {
     IntoIter, (K, V), self, way, self.step(way), self.left();
-    IntoKeys, K, self, way, Some(self.0.step(way)?.0), self.0.left();
-    IntoValues, V, self, way, Some(self.0.step(way)?.1), self.0.left();
+    IntoKeys, K, self, way, self.0.step(way).map(key_of), self.0.left();
+    IntoValues, V, self, way, self.0.step(way).map(value_of), self.0.left();
 }
 
 impl<K, V> IntoIter<K, V> {

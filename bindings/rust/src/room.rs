@@ -38,6 +38,10 @@ impl Room {
         if self.large.is_empty() { &self.small[..self.len] } else { &self.large }
     }
 
+    pub(crate) fn try_clone(&self) -> Result<Room, AllocError> {
+        Room::of(self.bytes())
+    }
+
     /// Adds bytes. Without memory it holds what it held.
     pub(crate) fn push(&mut self, bytes: &[u8]) -> Result<(), AllocError> {
         let end = self.len + bytes.len();

@@ -14,6 +14,7 @@ pub use merge::{Difference, Intersection, SymmetricDifference, Union};
 
 use crate::error::AllocError;
 use crate::map::ArtMap;
+use crate::view::SET;
 use crate::{Key, KeyPrefix, Ordered};
 use iter::{Iter, Prefix, Range};
 use std::borrow::Borrow;
@@ -199,7 +200,7 @@ impl<K: Key> ArtSet<K> {
         K: Borrow<Q>,
         R: RangeBounds<Q>,
     {
-        Range(self.map.range(range))
+        Range(self.map.view().range(&range, SET))
     }
 
     /// The keys that begin with a prefix, in ascending order, from both ends.
@@ -275,7 +276,7 @@ impl<K: Key> ArtSet<K> {
         K: Borrow<Q>,
         R: RangeBounds<Q>,
     {
-        self.map.try_range(range).map(Range)
+        self.map.view().try_range(&range, SET).map(Range)
     }
 
     /// As [`prefix`](Self::prefix).
@@ -301,7 +302,7 @@ impl<K: Ordered> ArtSet<K> {
     /// assert!(ArtSet::from([1, 2]).difference(&ArtSet::from([2, 3])).eq(&[1]));
     /// ```
     pub fn difference<'a>(&'a self, other: &'a ArtSet<K>) -> Difference<'a, K> {
-        Difference::new(self, other)
+        Difference::new(self.iter(), other.iter())
     }
 
     /// The keys of one of the sets that are not in the other one, ascending.
@@ -312,7 +313,7 @@ impl<K: Ordered> ArtSet<K> {
     /// assert!(ArtSet::from([1, 2]).symmetric_difference(&ArtSet::from([2, 3])).eq(&[1, 3]));
     /// ```
     pub fn symmetric_difference<'a>(&'a self, other: &'a ArtSet<K>) -> SymmetricDifference<'a, K> {
-        SymmetricDifference::new(self, other)
+        SymmetricDifference::new(self.iter(), other.iter())
     }
 
     /// The keys of this set that are in the other one, too, ascending.
@@ -323,7 +324,7 @@ impl<K: Ordered> ArtSet<K> {
     /// assert!(ArtSet::from([1, 2]).intersection(&ArtSet::from([2, 3])).eq(&[2]));
     /// ```
     pub fn intersection<'a>(&'a self, other: &'a ArtSet<K>) -> Intersection<'a, K> {
-        Intersection::new(self, other)
+        Intersection::new(self.iter(), other.iter())
     }
 
     /// The keys of both sets, ascending; of two that are equal, that of this set.
@@ -334,7 +335,7 @@ impl<K: Ordered> ArtSet<K> {
     /// assert!(ArtSet::from([1, 2]).union(&ArtSet::from([2, 3])).eq(&[1, 2, 3]));
     /// ```
     pub fn union<'a>(&'a self, other: &'a ArtSet<K>) -> Union<'a, K> {
-        Union::new(self, other)
+        Union::new(self.iter(), other.iter())
     }
 
     /// Whether no key is in both.

@@ -107,23 +107,23 @@ impl<K, V> Slab<K, V> {
         self.slots.push(Slot::Full(key, value));
     }
 
-    /// The pair of a slot moves to the index that the next pair gets, and has another value there. Tells that index, and
-    /// the value that it had.
-    pub(crate) fn renew(&mut self, index: usize, value: V) -> (usize, V) {
-        let Some(slot) = self.slots.get_mut(index) else { no_pair(index) };
-        match std::mem::replace(slot, Slot::Free(NONE)) {
-            Slot::Full(key, old) => {
-                self.is_in_order = false;
-                let at = self.fill(key, value);
-                self.slots[index] = Slot::Free(self.free);
-                self.free = index;
-                self.len -= 1;
-                (at, old)
-            }
-            was @ Slot::Free(_) => {
-                *slot = was;
-                no_pair(index)
-            }
+    /// Takes the pair out again that `fill` has just put in, as if it had not come.
+    pub(crate) fn unfill(&mut self, index: usize, was_in_order: bool) -> (K, V) {
+        let pair = self.take(index);
+        if index + 1 == self.slots.len() && self.len == index {
+            // (all before it are full, so it came after them)
+            self.slots.pop();
+            self.free = NONE;
+        }
+        self.is_in_order = was_in_order;
+        pair
+    }
+
+    /// Gives the pair of a slot another key, and tells the one that it had.
+    pub(crate) fn set_key(&mut self, index: usize, key: K) -> K {
+        match self.slots.get_mut(index) {
+            Some(Slot::Full(old, _)) => std::mem::replace(old, key),
+            _ => no_pair(index),
         }
     }
 
@@ -138,13 +138,15 @@ impl<K, V> Slab<K, V> {
         Ok(())
     }
 
-    /// Forgets the free slots, where there is no pair: the next ones stand in a row again.
-    pub(crate) fn settle(&mut self) {
-        if self.len == 0 {
+    /// Forgets the free slots, where there is no pair: the next ones stand in a row again. Tells whether there is none.
+    pub(crate) fn settle(&mut self) -> bool {
+        let is_empty = self.len == 0;
+        if is_empty {
             self.slots.clear();
             self.free = NONE;
             self.is_in_order = true;
         }
+        is_empty
     }
 
     #[inline]
@@ -163,9 +165,18 @@ impl<K, V> Slab<K, V> {
         }
     }
 
+    pub(crate) fn is_in_order(&self) -> bool {
+        self.is_in_order
+    }
+
     /// All slots, where their keys ascend and none is free.
     pub(crate) fn in_order(&self) -> Option<&[Slot<K, V>]> {
         self.is_in_order.then_some(&self.slots)
+    }
+
+    /// Whether there is room for so many pairs in all.
+    pub(crate) fn has_room_for(&self, pairs: usize) -> bool {
+        self.slots.capacity() >= pairs
     }
 
     /// Whether the slots are in order, and there is no room after them.
@@ -177,7 +188,7 @@ impl<K, V> Slab<K, V> {
         &mut self.slots
     }
 
-    /// Gives back the slots after the last pair, and the room after those.
+    /// Gives back the slots after the last pair, and the room after those, if there is memory for the slots that stay.
     pub(crate) fn shrink(&mut self) {
         while let Some(Slot::Free(_)) = self.slots.last() {
             self.slots.pop();
@@ -189,7 +200,12 @@ impl<K, V> Slab<K, V> {
                 self.free = index;
             }
         }
-        self.slots.shrink_to_fit();
+        // (`shrink_to_fit` of a `Vec` may end the program)
+        let mut slots = Vec::new();
+        if self.slots.len() < self.slots.capacity() && slots.try_reserve_exact(self.slots.len()).is_ok() {
+            slots.append(&mut self.slots);
+            self.slots = slots;
+        }
     }
 
     /// A copy in which each pair has the index that it has here. The slots are reserved first.
@@ -244,9 +260,11 @@ mod tests {
         assert_eq!(slab.fill(7, "7".to_string()), 3);
         *slab.pair_mut(3).1 = "8".to_string();
         assert_eq!(slab.pair(3), (&7, &"8".to_string()));
-        // (a pair that moves leaves its slot to the next one)
-        assert_eq!(slab.renew(3, "9".to_string()), (1, "8".to_string()));
-        assert_eq!((slab.next_index(), slab.len(), slab.renew(1, "9".to_string()).0), (Ok(3), 4, 3));
+        assert_eq!((slab.set_key(3, 6), slab.pair(3).0, slab.len()), (7, &6, 4));
+        // (a pair that is put back leaves no mark)
+        let (next, is_in_order) = (slab.next_index(), slab.is_in_order());
+        let index = slab.fill(5, "5".to_string());
+        assert_eq!((slab.unfill(index, is_in_order), slab.next_index(), slab.len()), ((5, "5".to_string()), next, 4));
         assert!(slab.in_order().is_none() && Slab::<u8, u8>::new().in_order().is_some());
         let copy = slab.try_clone().unwrap();
         assert_eq!((copy.len(), copy.pair(4)), (4, (&4, &"4".to_string())));
@@ -263,6 +281,7 @@ mod tests {
     #[test]
     fn a_compact_lays_the_slots_out() {
         let mut map = crate::ArtMap::from([(3, 'c'), (1, 'a'), (2, 'b')]);
+        assert!(map.slab.in_order().is_some());
         map.remove(&2);
         assert!(map.slab.in_order().is_none());
         map.compact();
@@ -271,5 +290,24 @@ mod tests {
         assert!(map.slab.in_order().is_none());
         map.lay_out();
         assert!(map.slab.in_order().is_some() && map.values().eq(&['z', 'a', 'c']));
+    }
+    #[test]
+    fn a_map_that_is_empty_again_gives_its_memory_back() {
+        let full = || (0..1000u32).map(|it| (it, it)).collect::<crate::ArtMap<_, _>>();
+        let ways: [fn(&mut crate::ArtMap<u32, u32>); 5] = [
+            |map| (0..1000).for_each(|it| assert!(map.remove(&it).is_some())),
+            |map| while map.pop_last().is_some() {},
+            |map| map.retain(|_, _| false),
+            |map| assert_eq!(map.remove_prefix(&[0, 0]), 1000),
+            |map| drop(map.split_off(&0)),
+        ];
+        for empty in ways {
+            let mut map = full();
+            empty(&mut map);
+            assert!(map.is_empty() && !map.slab.has_room_for(1) && !map.words.is_made());
+            map.insert(1, 1);
+            map.remove(&1);
+            assert!(map.slab.has_room_for(1) && map.words.is_made());
+        }
     }
 }

@@ -2,6 +2,8 @@
 use crate::error::{AllocError, or_end};
 use crate::ffi::Words;
 use crate::iter::{Iter, Prefix, Range};
+use crate::key::sealed::Sealed;
+use crate::pool::Pool;
 use crate::room::Room;
 use crate::slab::Slab;
 use crate::walk::{Between, Way};
@@ -9,9 +11,39 @@ use crate::{Key, KeyPrefix};
 use std::borrow::Borrow;
 use std::ops::{Bound, RangeBounds};
 
+/// What looks words up, and walks over them.
+pub(crate) trait Reads {
+    /// Has a call take a handle, which has no other call meanwhile.
+    fn call<R>(&self, call: impl FnOnce(&Words) -> R) -> R;
+}
+
+impl Reads for Words {
+    #[inline]
+    fn call<R>(&self, call: impl FnOnce(&Words) -> R) -> R {
+        call(self)
+    }
+}
+
+/// The one handle of a map, or those of a frozen one.
+#[derive(Clone, Copy)]
+pub(crate) enum Reader<'a> {
+    One(&'a Words),
+    Many(&'a Pool),
+}
+
+impl Reads for Reader<'_> {
+    #[inline]
+    fn call<R>(&self, call: impl FnOnce(&Words) -> R) -> R {
+        match self {
+            Reader::One(words) => call(words),
+            Reader::Many(pool) => pool.call(call),
+        }
+    }
+}
+
 /// The words of a map, and where its pairs lie.
 pub(crate) struct View<'a, K, V> {
-    pub(crate) words: &'a Words,
+    pub(crate) words: Reader<'a>,
     pub(crate) slab: &'a Slab<K, V>,
 }
 
@@ -30,10 +62,10 @@ pub(crate) fn index_of(word: u64) -> usize {
 
 /// The word of a key.
 #[inline]
-pub(crate) fn word_of_key<Q: Key + ?Sized>(words: &Words, key: &Q) -> Result<Option<u64>, AllocError> {
+pub(crate) fn word_of_key<Q: Key + ?Sized>(words: &impl Reads, key: &Q) -> Result<Option<u64>, AllocError> {
     match key.without_end() {
-        None => key.with_bytes(|bytes| words.get(bytes)),
-        Some(front) => Ok(words.get_ended(front)),
+        None => key.with_bytes(Sealed, |bytes| words.call(|words| words.get(bytes))),
+        Some(front) => Ok(words.call(|words| words.get_ended(front))),
     }
 }
 
@@ -47,24 +79,46 @@ fn bound<Q: Key + ?Sized>(of: Bound<&Q>) -> Result<Bound<Room>, AllocError> {
     })
 }
 
+/// Why a range has no bounds between which keys may lie.
+enum Wrong {
+    Excluded,
+    Crossed,
+}
+
+/// The bytes between two bounds, or what is wrong with them.
+fn limits<Q: Key + ?Sized, R: RangeBounds<Q>>(range: &R) -> Result<Result<Between, Wrong>, AllocError> {
+    let (from, to) = (bound(range.start_bound())?, bound(range.end_bound())?);
+    Ok(match (&from, &to) {
+        (Bound::Excluded(from), Bound::Excluded(to)) if from.bytes() == to.bytes() => Err(Wrong::Excluded),
+        (Bound::Included(from) | Bound::Excluded(from), Bound::Included(to) | Bound::Excluded(to))
+            if from.bytes() > to.bytes() =>
+        {
+            Err(Wrong::Crossed)
+        }
+        _ => Ok(Between(from, to)),
+    })
+}
+
+/// What a panic calls the two collections.
+pub(crate) const MAP: &str = "ArtMap";
+pub(crate) const SET: &str = "ArtSet";
+
 /// The bytes between two bounds.
 ///
 /// # Panics
 ///
-/// As `range` of a `BTreeMap`.
-pub(crate) fn between<Q: Key + ?Sized, R: RangeBounds<Q>>(range: &R) -> Result<Between, AllocError> {
-    let (from, to) = (bound(range.start_bound())?, bound(range.end_bound())?);
-    match (&from, &to) {
-        (Bound::Excluded(from), Bound::Excluded(to)) if from.bytes() == to.bytes() => {
-            panic!("range start and end are equal and excluded in ArtMap")
-        }
-        (Bound::Included(from) | Bound::Excluded(from), Bound::Included(to) | Bound::Excluded(to))
-            if from.bytes() > to.bytes() =>
-        {
-            panic!("range start is greater than range end in ArtMap")
-        }
-        _ => Ok(Between(from, to)),
+/// As `range` of a `BTreeMap`, and it names the collection.
+pub(crate) fn between<Q: Key + ?Sized, R: RangeBounds<Q>>(range: &R, of: &str) -> Result<Between, AllocError> {
+    match limits(range)? {
+        Ok(found) => Ok(found),
+        Err(Wrong::Excluded) => panic!("range start and end are equal and excluded in {of}"),
+        Err(Wrong::Crossed) => panic!("range start is greater than range end in {of}"),
     }
+}
+
+/// As `between`; none, if there can't be a key between them.
+pub(crate) fn between_if_any<Q: Key + ?Sized, R: RangeBounds<Q>>(range: &R) -> Result<Option<Between>, AllocError> {
+    Ok(limits(range)?.ok())
 }
 
 /// The bytes of a prefix.
@@ -82,7 +136,7 @@ impl<'a, K: Key, V> View<'a, K, V> {
     where
         K: Borrow<Q>,
     {
-        Ok(self.pair(word_of_key(self.words, key)?))
+        Ok(self.pair(word_of_key(&self.words, key)?))
     }
 
     #[inline]
@@ -97,7 +151,8 @@ impl<'a, K: Key, V> View<'a, K, V> {
         self,
         query: &P,
     ) -> Result<Option<(&'a K, &'a V)>, AllocError> {
-        Ok(self.pair(self.words.find(query.to_prefix()?.as_ref())))
+        let query = query.to_prefix()?;
+        Ok(self.pair(self.words.call(|words| words.find(query.as_ref()))))
     }
 
     pub(crate) fn prefix_get<P: KeyPrefix<K> + ?Sized>(self, query: &P) -> Option<(&'a K, &'a V)> {
@@ -105,25 +160,28 @@ impl<'a, K: Key, V> View<'a, K, V> {
     }
 
     pub(crate) fn end(self, way: Way) -> Option<(&'a K, &'a V)> {
-        self.pair(self.words.end(way))
+        self.pair(self.words.call(|words| words.end(way)))
     }
 
     pub(crate) fn iter(self) -> Iter<'a, K, V> {
         Iter::new(self)
     }
 
-    pub(crate) fn try_range<Q: Key + ?Sized, R: RangeBounds<Q>>(self, range: &R) -> Result<Range<'a, K, V>, AllocError>
+    /// `of`: what a panic calls the collection.
+    pub(crate) fn try_range<Q, R>(self, range: &R, of: &str) -> Result<Range<'a, K, V>, AllocError>
     where
+        Q: Key + ?Sized,
         K: Borrow<Q>,
+        R: RangeBounds<Q>,
     {
-        Ok(Range::new(self, between(range)?))
+        Ok(Range::new(self, between(range, of)?))
     }
 
-    pub(crate) fn range<Q: Key + ?Sized, R: RangeBounds<Q>>(self, range: &R) -> Range<'a, K, V>
+    pub(crate) fn range<Q: Key + ?Sized, R: RangeBounds<Q>>(self, range: &R, of: &str) -> Range<'a, K, V>
     where
         K: Borrow<Q>,
     {
-        or_end(self.try_range(range))
+        or_end(self.try_range(range, of))
     }
 
     pub(crate) fn try_prefix<P: KeyPrefix<K> + ?Sized>(self, prefix: &P) -> Result<Prefix<'a, K, V>, AllocError> {

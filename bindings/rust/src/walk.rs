@@ -5,6 +5,7 @@ use crate::error::AllocError;
 use crate::ffi::{From, To, Words};
 use crate::map::CHANGED;
 use crate::room::Room;
+use crate::view::Reads;
 use std::ops::Bound;
 
 /// How many words are asked for first, how many next, how many times more each time from then on, and how many at most. A
@@ -33,6 +34,10 @@ pub(crate) trait Limits {
 #[derive(Clone)]
 pub(crate) struct All;
 
+/// All keys, where each end looks out for the other one.
+#[derive(Clone)]
+pub(crate) struct Watched;
+
 /// Keys between two bounds.
 #[derive(Clone)]
 pub(crate) struct Between(pub(crate) Bound<Room>, pub(crate) Bound<Room>);
@@ -44,6 +49,16 @@ pub(crate) struct Under(pub(crate) Room);
 impl Limits for All {
     const ARE_COUNTED: bool = true;
 
+    fn from(&self, _: Way) -> From<'_> {
+        From::End
+    }
+
+    fn to(&self, _: Way) -> To<'_> {
+        To::End
+    }
+}
+
+impl Limits for Watched {
     fn from(&self, _: Way) -> From<'_> {
         From::End
     }
@@ -68,6 +83,16 @@ impl Limits for Between {
             Bound::Included(key) => To::Key(key.bytes()),
             Bound::Excluded(key) => To::Before(key.bytes()),
         }
+    }
+}
+
+impl<L: Limits> Limits for &L {
+    fn from(&self, way: Way) -> From<'_> {
+        L::from(self, way)
+    }
+
+    fn to(&self, way: Way) -> To<'_> {
+        L::to(self, way)
     }
 }
 
@@ -158,7 +183,7 @@ impl<L: Limits> Walk<L> {
     #[inline]
     pub(crate) fn next<'k, K: Key + 'k>(
         &mut self,
-        words: &Words,
+        words: &impl Reads,
         way: Way,
         key_of: impl FnOnce(usize) -> &'k K,
     ) -> Result<Option<usize>, AllocError> {
@@ -172,7 +197,7 @@ impl<L: Limits> Walk<L> {
     /// As `next`, and it is sure that the walk goes on after the pair that this end gave last: so no pair is met twice.
     pub(crate) fn next_sure<'k, K: Key + 'k>(
         &mut self,
-        words: &Words,
+        words: &impl Reads,
         way: Way,
         key_of: impl FnOnce(usize) -> &'k K,
     ) -> Result<Option<usize>, AllocError> {
@@ -186,7 +211,7 @@ impl<L: Limits> Walk<L> {
     /// Has the next words told where all have been given, so that the pair that was given last may go.
     pub(crate) fn settle<'k, K: Key + 'k>(
         &mut self,
-        words: &Words,
+        words: &impl Reads,
         way: Way,
         key_of: impl FnOnce(usize) -> &'k K,
     ) -> Result<(), AllocError> {
@@ -223,7 +248,7 @@ impl<L: Limits> Walk<L> {
     #[inline(never)]
     fn fill<'k, K: Key + 'k>(
         &mut self,
-        words: &Words,
+        words: &impl Reads,
         way: Way,
         key_of: impl FnOnce(usize) -> &'k K,
         is_sure: bool,
@@ -232,20 +257,23 @@ impl<L: Limits> Walk<L> {
         let (batch, to) = (&mut near.batch, self.limits.to(way));
         let mut given = 0;
         let (count, has_more) = match near.last {
-            None => words.walk(way, self.limits.from(way), to, batch.places()),
+            None => words.call(|words| words.walk(way, self.limits.from(way), to, batch.places())),
             Some(last) => {
                 let key = key_of(index_of(last));
                 if let Some(front) = key.without_end() {
-                    assert!(!is_sure || words.get_ended(front) == Some(last), "{CHANGED}");
+                    let is_last = |words: &Words| words.get_ended(front) == Some(last);
+                    assert!(!is_sure || words.call(is_last), "{CHANGED}");
                     let places = batch.places();
-                    let told = words.walk(way, From::After(front), to, places);
+                    let told = words.call(|words| words.walk(way, From::After(front), to, places));
                     // (after the bytes without their end comes that key itself)
                     given = usize::from(told.0 > 0 && places[0] == last);
                     told
                 } else {
+                    // (once: another time it may tell others)
                     let bytes = key.to_bytes()?;
-                    assert!(!is_sure || words.get(bytes.as_ref()) == Some(last), "{CHANGED}");
-                    words.walk(way, From::After(bytes.as_ref()), to, batch.places())
+                    let bytes = bytes.as_ref();
+                    assert!(!is_sure || words.call(|words| words.get(bytes) == Some(last)), "{CHANGED}");
+                    words.call(|words| words.walk(way, From::After(bytes), to, batch.places()))
                 }
             }
         };

@@ -113,7 +113,7 @@ fn texts() {
 }
 
 fn random_case(at: usize) -> String {
-    if at.is_multiple_of(3) { "\0".repeat(at) } else { "\u{1}y".repeat(at / 2) }
+    if at % 3 == 0 { "\0".repeat(at) } else { "\u{1}y".repeat(at / 2) }
 }
 
 #[test]

@@ -387,3 +387,21 @@ fn what_is_sent_and_unwound() {
     sent(ArtSet::from([1]));
     sent(ArtSet::from([1]).freeze());
 }
+
+#[test]
+fn what_makes_way_for_a_prefix() {
+    let keys = |map: &ArtMap<Vec<u8>, u32>| map.keys().cloned().collect::<Vec<_>>();
+    for is_tried in [false, true] {
+        let mut map = ArtMap::try_from_iter([(vec![1, 1], 1), (vec![1, 2], 2), (vec![2], 3)]).unwrap();
+        let mut put = |key: Vec<u8>| {
+            let count = if is_tried { map.try_prefix_insert(key, 9).unwrap() } else { map.prefix_insert(key, 9) };
+            (count, keys(&map))
+        };
+        assert_eq!(put(vec![3]), (0, vec![vec![1, 1], vec![1, 2], vec![2], vec![3]]));
+        assert_eq!(put(vec![3]), (1, vec![vec![1, 1], vec![1, 2], vec![2], vec![3]]));
+        assert_eq!(put(vec![1]), (2, vec![vec![1], vec![2], vec![3]]));
+        assert_eq!(put(vec![2, 0, 5]), (1, vec![vec![1], vec![2, 0, 5], vec![3]]));
+        assert_eq!(put(vec![]), (3, vec![vec![]]));
+        assert_eq!(put(vec![4]), (1, vec![vec![4]]));
+    }
+}

@@ -159,7 +159,7 @@ fn a_clone() {
 fn a_closure() {
     let state = Rc::default();
     let (mut map, mut model) = both(&state);
-    let keeps = |key: &u32| if *key == 100 { panic!("at 100") } else { key.is_multiple_of(2) };
+    let keeps = |key: &u32| if *key == 100 { panic!("at 100") } else { key % 2 == 0 };
     panics(|| map.retain(|key, _| keeps(key)));
     panics(|| model.retain(|key, _| keeps(key)));
     same(&map, &model, &state);

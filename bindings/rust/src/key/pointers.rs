@@ -1,4 +1,5 @@
 //! What points to a key has its bytes.
+use super::sealed::Sealed;
 use super::{KeyPrefix, PrefixBytes};
 use crate::error::AllocError;
 use crate::{Key, NoPrefixes, Ordered};
@@ -17,8 +18,8 @@ macro_rules! pointers {
             }
 
             #[inline]
-            fn with_bytes<R>(&self, call: impl FnOnce(&[u8]) -> R) -> Result<R, AllocError> {
-                T::with_bytes(self, call)
+            fn with_bytes<R>(&self, by: Sealed, call: impl FnOnce(&[u8]) -> R) -> Result<R, AllocError> {
+                T::with_bytes(self, by, call)
             }
 
             #[inline]
@@ -57,8 +58,8 @@ impl<B: Key + ToOwned + ?Sized> Key for Cow<'_, B> {
     }
 
     #[inline]
-    fn with_bytes<R>(&self, call: impl FnOnce(&[u8]) -> R) -> Result<R, AllocError> {
-        B::with_bytes(self, call)
+    fn with_bytes<R>(&self, by: Sealed, call: impl FnOnce(&[u8]) -> R) -> Result<R, AllocError> {
+        B::with_bytes(self, by, call)
     }
 
     #[inline]

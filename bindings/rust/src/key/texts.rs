@@ -1,4 +1,5 @@
 //! Texts, and byte strings with an end: a zero byte ends them, and none is in them.
+use super::sealed::Sealed;
 use crate::error::AllocError;
 use crate::room::{Room, SMALL};
 use crate::{Key, KeyPrefix, NoPrefixes, Ordered};
@@ -15,13 +16,13 @@ fn is_plain(bytes: &[u8]) -> bool {
         let word = u64::from_le_bytes(*eight);
         word.wrapping_sub(2 * ONES) & !word & (0x80 * ONES) != 0
     };
-    let (eights, rest) = bytes.as_chunks::<8>();
-    if eights.iter().any(has_low) {
+    let mut eights = bytes.chunks_exact(8);
+    if eights.any(|it| it.first_chunk().is_some_and(has_low)) {
         return false;
     }
     match bytes.last_chunk() {
         Some(last) => !has_low(last),
-        None => rest.iter().all(|it| *it > ESCAPE),
+        None => bytes.iter().all(|it| *it > ESCAPE),
     }
 }
 
@@ -80,7 +81,7 @@ impl Key for str {
     }
 
     #[inline]
-    fn with_bytes<R>(&self, call: impl FnOnce(&[u8]) -> R) -> Result<R, AllocError> {
+    fn with_bytes<R>(&self, _: Sealed, call: impl FnOnce(&[u8]) -> R) -> Result<R, AllocError> {
         with_end(self.as_bytes(), call)
     }
 
@@ -99,7 +100,7 @@ impl Key for String {
     }
 
     #[inline]
-    fn with_bytes<R>(&self, call: impl FnOnce(&[u8]) -> R) -> Result<R, AllocError> {
+    fn with_bytes<R>(&self, _: Sealed, call: impl FnOnce(&[u8]) -> R) -> Result<R, AllocError> {
         with_end(self.as_bytes(), call)
     }
 
@@ -183,7 +184,7 @@ impl<T: AsRef<[u8]>> Key for Ended<T> {
     }
 
     #[inline]
-    fn with_bytes<R>(&self, call: impl FnOnce(&[u8]) -> R) -> Result<R, AllocError> {
+    fn with_bytes<R>(&self, _: Sealed, call: impl FnOnce(&[u8]) -> R) -> Result<R, AllocError> {
         with_end(self.0.as_ref(), call)
     }
 }

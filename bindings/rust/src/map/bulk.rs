@@ -1,7 +1,9 @@
-//! Many pairs at once: what ascends after the last key goes in by one call of the library for many.
-use crate::error::{AllocError, TryInsertError, no_memory, or_end};
-use crate::ffi::{Pair, Put, Stop};
+//! Many pairs at once.
+use crate::error::{AllocError, TryInsertError, or_end};
+use crate::ffi::{Put, Stop};
+use crate::map::filling::{Filling, Run};
 use crate::map::{ArtMap, CHANGED, word_of};
+use crate::parted::Parted;
 use crate::room::Room;
 use crate::slab::Slab;
 use crate::view::index_of;
@@ -12,9 +14,7 @@ use std::error::Error;
 use std::fmt;
 use std::ops::Bound;
 
-/// How many pairs go in at once, and how many bytes of keys, at most, but for a single one.
-const PAIRS: usize = 256;
-const BYTES: usize = 1 << 15;
+const ALL: Between = Between(Bound::Unbounded, Bound::Unbounded);
 
 /// Why a map was not appended. Both are as they were.
 ///
@@ -51,195 +51,6 @@ impl From<AllocError> for AppendError {
     }
 }
 
-/// Keys that ascend, with their words.
-struct Run {
-    bytes: Vec<u8>,
-    pairs: Vec<Pair>,
-}
-
-impl Run {
-    const fn new() -> Self {
-        Run { bytes: Vec::new(), pairs: Vec::new() }
-    }
-
-    fn is_full(&self) -> bool {
-        self.pairs.len() == PAIRS || self.bytes.len() >= BYTES
-    }
-
-    fn push(&mut self, key: &[u8], word: u64) -> Result<(), AllocError> {
-        self.bytes.try_reserve(key.len())?;
-        self.pairs.try_reserve(1)?;
-        self.bytes.extend_from_slice(key);
-        self.pairs.push(Pair { key_len: key.len(), word });
-        Ok(())
-    }
-
-    fn last(&self) -> Option<&[u8]> {
-        let len = self.pairs.last()?.key_len;
-        Some(&self.bytes[self.bytes.len() - len..])
-    }
-
-    fn clear(&mut self) {
-        self.bytes.clear();
-        self.pairs.clear();
-    }
-}
-
-/// A map that pairs go into. Those that wait in the run are in the slab, and go into the tree at its end, also where a
-/// panic ends it.
-struct Filling<'a, K: Key, V> {
-    map: &'a mut ArtMap<K, V>,
-    run: Run,
-    /// The bytes of the greatest key of the map, where no pair waits; and whether that is known.
-    greatest: Vec<u8>,
-    is_known: bool,
-}
-
-/// Where a key stands.
-enum Place {
-    /// After all others.
-    AtEnd,
-    /// After the greatest one, which begins it.
-    Under,
-    Elsewhere,
-}
-
-impl<'a, K: Key, V> Filling<'a, K, V> {
-    const fn new(map: &'a mut ArtMap<K, V>) -> Self {
-        Filling { map, run: Run::new(), greatest: Vec::new(), is_known: false }
-    }
-
-    /// Looks the greatest key up, where that is not known.
-    fn know(&mut self) -> Result<(), AllocError> {
-        if !self.is_known {
-            self.greatest.clear();
-            if let Some(word) = self.map.words.end(Way::Down) {
-                let bytes = self.map.slab.pair(index_of(word)).0.to_bytes()?;
-                self.greatest.try_reserve(bytes.as_ref().len())?;
-                self.greatest.extend_from_slice(bytes.as_ref());
-            }
-            self.is_known = true;
-        }
-        Ok(())
-    }
-
-    fn place(&self, key: &[u8]) -> Place {
-        let greatest = match self.run.last() {
-            Some(last) => last,
-            None if self.map.slab.len() == 0 => return Place::AtEnd,
-            None => &self.greatest,
-        };
-        if key <= greatest {
-            Place::Elsewhere
-        } else if key.starts_with(greatest) {
-            Place::Under
-        } else {
-            Place::AtEnd
-        }
-    }
-
-    /// Takes a pair on, or stores it. What it would stand in the place of is dropped.
-    fn push(&mut self, key: K, value: V) -> Result<(), TryInsertError<K, V>> {
-        match self.wait(&key) {
-            Ok(Place::AtEnd) => {
-                self.map.slab.fill_at_end(key, value);
-                Ok(())
-            }
-            Ok(Place::Under) => {
-                self.flush()?;
-                Err(TryInsertError::Prefix { key, value })
-            }
-            Ok(Place::Elsewhere) => {
-                self.flush()?;
-                self.map.try_insert(key, value).map(drop)
-            }
-            Err(AllocError) => {
-                self.flush()?;
-                Err(TryInsertError::Memory { key, value })
-            }
-        }
-    }
-
-    /// Has the bytes of a key wait that stands after all others. Its pair then gets the index that it waits with.
-    fn wait(&mut self, key: &K) -> Result<Place, AllocError> {
-        if self.run.pairs.is_empty() {
-            self.know()?;
-        }
-        let bytes = key.to_bytes()?;
-        let place = self.place(bytes.as_ref());
-        if let Place::AtEnd = place {
-            let index = self.map.slab.next_index()?;
-            self.run.push(bytes.as_ref(), word_of(index))?;
-        }
-        Ok(place)
-    }
-
-    /// Puts what waits into the tree. The first pair that is refused is handed back, and those after it are dropped.
-    fn flush(&mut self) -> Result<(), TryInsertError<K, V>> {
-        let Some(last) = self.run.last() else { return Ok(()) };
-        self.greatest.clear();
-        self.is_known = self.greatest.try_reserve(last.len()).is_ok();
-        if self.is_known {
-            self.greatest.extend_from_slice(last);
-        }
-        let (taken, stop) = self.map.words.load(&self.run.bytes, &self.run.pairs);
-        let Some(stop) = stop else {
-            self.run.clear();
-            return Ok(());
-        };
-        self.is_known = false;
-        let mut pairs = std::mem::take(&mut self.run.pairs).into_iter();
-        self.run.clear();
-        pairs.by_ref().take(taken).for_each(drop);
-        let mut rest = Rest { slab: &mut self.map.slab, pairs };
-        let (key, value) = rest.next().expect("the pair that was refused");
-        drop(rest);
-        match stop {
-            Stop::Conflict => Err(TryInsertError::Prefix { key, value }),
-            Stop::Memory => Err(TryInsertError::Memory { key, value }),
-        }
-    }
-
-    fn fill(mut self, pairs: impl IntoIterator<Item = (K, V)>) -> Result<(), TryInsertError<K, V>> {
-        for (key, value) in pairs {
-            self.push(key, value)?;
-            if self.run.is_full() {
-                self.flush()?;
-            }
-        }
-        self.flush()
-    }
-}
-
-impl<K: Key, V> Drop for Filling<'_, K, V> {
-    fn drop(&mut self) {
-        // (pairs wait here only where a panic has ended it)
-        if let Err(TryInsertError::Memory { .. }) = self.flush() {
-            no_memory();
-        }
-    }
-}
-
-/// Pairs that the tree has not taken. All are freed.
-struct Rest<'a, K, V> {
-    slab: &'a mut Slab<K, V>,
-    pairs: std::vec::IntoIter<Pair>,
-}
-
-impl<K, V> Rest<'_, K, V> {
-    fn next(&mut self) -> Option<(K, V)> {
-        self.pairs.next().map(|pair| self.slab.take(index_of(pair.word)))
-    }
-}
-
-impl<K, V> Drop for Rest<'_, K, V> {
-    fn drop(&mut self) {
-        while let Some(pair) = self.next() {
-            drop(pair);
-        }
-    }
-}
-
 /// A map whose tree has keys, of which the pairs still lie in another slab.
 struct Parting<K, V> {
     made: ArtMap<K, V>,
@@ -253,6 +64,19 @@ impl<K, V> Parting<K, V> {
         for index in self.indexes {
             let (key, value) = from.take(index);
             self.made.slab.fill_at_end(key, value);
+        }
+        self.made
+    }
+
+    /// Copies the pairs.
+    fn copied(mut self, from: &Slab<K, V>) -> ArtMap<K, V>
+    where
+        K: Clone,
+        V: Clone,
+    {
+        for index in self.indexes {
+            let (key, value) = from.pair(index);
+            self.made.slab.fill_at_end(key.clone(), value.clone());
         }
         self.made
     }
@@ -276,7 +100,8 @@ impl<K: Key, V> ArtMap<K, V> {
         Filling::new(self).fill(pairs)
     }
 
-    /// A map of these pairs, whose types of keys may have prefixes. Those that ascend go in many at once.
+    /// A map of these pairs, whose types of keys may have prefixes. Those that ascend go in many at once. Others are put in
+    /// order at the end, as by [`compact`](Self::compact), if there is memory.
     ///
     /// ```
     /// let map = artmap::ArtMap::try_from_iter([(vec![2], 'b'), (vec![1], 'a')]).unwrap();
@@ -289,6 +114,7 @@ impl<K: Key, V> ArtMap<K, V> {
     pub fn try_from_iter<I: IntoIterator<Item = (K, V)>>(pairs: I) -> Result<Self, TryInsertError<K, V>> {
         let mut made = Self::new();
         made.try_extend(pairs)?;
+        made.lay_out();
         Ok(made)
     }
 
@@ -338,11 +164,11 @@ impl<K: Key, V> ArtMap<K, V> {
         let (mut walk, theirs) = (Walk::new(All), &other.slab);
         while let Some(index) = walk.next_sure(&other.words, Way::Up, |index| theirs.pair(index).0)? {
             let word = word_of(self.slab.end() + moved.len());
-            match theirs.pair(index).0.with_bytes(|bytes| words.put(bytes, word))?? {
+            match words.put(theirs.pair(index).0.to_bytes()?.as_ref(), word)? {
                 Put::New => {}
                 Put::Replaced(old) => {
                     gone.try_reserve(1).map_err(AllocError::from)?;
-                    gone.push(Pair { key_len: 0, word: old });
+                    gone.push(index_of(old));
                 }
                 Put::Conflict => return Err(AppendError::Prefix),
             }
@@ -355,7 +181,7 @@ impl<K: Key, V> ArtMap<K, V> {
             let (key, value) = other.slab.take(index);
             self.slab.push(key, value);
         }
-        drop(Rest { slab: &mut self.slab, pairs: gone.into_iter() });
+        Parted { slab: &mut self.slab, indexes: gone.into_iter() }.free();
         Ok(())
     }
 
@@ -388,12 +214,12 @@ impl<K: Key, V> ArtMap<K, V> {
     where
         K: Borrow<Q>,
     {
-        let bytes = key.to_bytes()?;
-        let from = Between(Bound::Included(Room::of(bytes.as_ref())?), Bound::Unbounded);
-        let parting = self.parting(from)?;
-        self.words.cut_off(bytes.as_ref())?;
+        // (the same bytes both times)
+        let from = Room::of(key.to_bytes()?.as_ref())?;
+        let parting = self.parting(&Between(Bound::Included(from.try_clone()?), Bound::Unbounded))?;
+        self.words.cut_off(from.bytes())?;
         let made = parting.end(&mut self.slab);
-        self.slab.settle();
+        self.settle();
         Ok(made)
     }
 
@@ -407,7 +233,7 @@ impl<K: Key, V> ArtMap<K, V> {
     /// assert_eq!(map.len(), 10);
     /// ```
     pub fn shrink_to_fit(&mut self) {
-        if let Ok(parting) = self.parting(Between(Bound::Unbounded, Bound::Unbounded)) {
+        if let Ok(parting) = self.parting(&ALL) {
             *self = parting.end(&mut self.slab);
         } else {
             self.words.shrink();
@@ -441,7 +267,7 @@ impl<K: Key, V> ArtMap<K, V> {
         if self.slab.is_tight() {
             return self.words.compact();
         }
-        let mut parting = self.parting(Between(Bound::Unbounded, Bound::Unbounded))?;
+        let mut parting = self.parting(&ALL)?;
         parting.made.words.compact()?;
         *self = parting.end(&mut self.slab);
         Ok(())
@@ -452,17 +278,27 @@ impl<K: Key, V> ArtMap<K, V> {
         if self.slab.in_order().is_some() {
             return;
         }
-        if let Ok(parting) = self.parting(Between(Bound::Unbounded, Bound::Unbounded)) {
+        if let Ok(parting) = self.parting(&ALL) {
             *self = parting.end(&mut self.slab);
         }
     }
 
+    /// A copy whose pairs and nodes are in the order of the keys.
+    pub(crate) fn try_copied(&self) -> Result<Self, AllocError>
+    where
+        K: Clone,
+        V: Clone,
+    {
+        Ok(self.parting(&ALL)?.copied(&self.slab))
+    }
+
     /// Makes a tree of the keys between two bounds, and room for their pairs.
-    fn parting(&self, limits: Between) -> Result<Parting<K, V>, AllocError> {
+    fn parting(&self, limits: &Between) -> Result<Parting<K, V>, AllocError> {
         let (mut made, mut run, mut indexes) = (Self::new(), Run::new(), Vec::new());
         let (mut walk, slab) = (Walk::new(limits), &self.slab);
         while let Some(index) = walk.next_sure(&self.words, Way::Up, |index| slab.pair(index).0)? {
-            run.push(slab.pair(index).0.to_bytes()?.as_ref(), word_of(indexes.len()))?;
+            run.tell(slab.pair(index).0.to_bytes()?.as_ref())?;
+            run.push(word_of(indexes.len()));
             indexes.try_reserve(1)?;
             indexes.push(index);
             if run.is_full() {
@@ -476,12 +312,12 @@ impl<K: Key, V> ArtMap<K, V> {
 
     /// Puts the keys of a run, whose pairs are not there yet, into the tree.
     fn load(&mut self, run: &mut Run) -> Result<(), AllocError> {
-        let stop = self.words.load(&run.bytes, &run.pairs).1;
+        let stop = run.load_into(&mut self.words).1;
         run.clear();
         match stop {
             None => Ok(()),
             Some(Stop::Memory) => Err(AllocError),
-            Some(Stop::Conflict) => panic!("{CHANGED}"),
+            Some(Stop::Conflict | Stop::NotAbove) => panic!("{CHANGED}"),
         }
     }
 

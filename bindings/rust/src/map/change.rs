@@ -1,34 +1,14 @@
 //! Calls that put pairs in and take them out, one by one or by their prefix.
 use crate::error::{AllocError, TryInsertError, TryKeyError, or_end};
-use crate::map::{ArtMap, Entry, OccupiedEntry};
+use crate::ffi::{Put, Words};
+use crate::key::sealed::Sealed;
+use crate::map::{ArtMap, Entry, OccupiedEntry, word_of};
+use crate::parted::{Parted, value_of};
 use crate::room::Room;
-use crate::slab::Slab;
 use crate::view::{index_of, word_of_key};
 use crate::walk::{Under, Walk, Way};
 use crate::{Key, KeyPrefix, NoPrefixes};
 use std::borrow::Borrow;
-use std::vec;
-
-/// Pairs that the tree no longer has. All are freed, also where a `Drop` of one panics.
-struct Gone<'a, K, V> {
-    slab: &'a mut Slab<K, V>,
-    indexes: vec::IntoIter<usize>,
-}
-
-impl<K, V> Gone<'_, K, V> {
-    fn free(&mut self) {
-        for index in self.indexes.by_ref() {
-            drop(self.slab.take(index));
-        }
-        self.slab.settle();
-    }
-}
-
-impl<K, V> Drop for Gone<'_, K, V> {
-    fn drop(&mut self) {
-        self.free();
-    }
-}
 
 impl<K: Key, V> ArtMap<K, V> {
     /// Stores a pair, and gives back the value that the key had; a key that is stored stays. Keys of a type with
@@ -85,13 +65,31 @@ impl<K: Key, V> ArtMap<K, V> {
     /// assert!(map.iter().eq([(&vec![1, 2, 3], &'d')]));
     /// ```
     pub fn prefix_insert(&mut self, key: K, value: V) -> usize {
-        match self.try_prefix_insert(key, value) {
-            Ok(count) => count,
+        self.put_over(key, value).1
+    }
+
+    /// Stores a pair where others make way. Tells its index, and how many these were.
+    pub(crate) fn put_over(&mut self, key: K, value: V) -> (usize, usize) {
+        let count = or_end(self.make_way(&key));
+        match self.store(key, value) {
+            Ok((index, old)) => (index, count + usize::from(old.is_some())),
             Err(why) => why.end(),
         }
     }
 
-    /// As [`prefix_insert`](Self::prefix_insert).
+    /// Takes out the pairs whose keys begin a key, or begin with it and are longer.
+    fn make_way(&mut self, key: &K) -> Result<usize, AllocError> {
+        let bytes = key.to_bytes()?;
+        let bytes = bytes.as_ref();
+        match self.words.find_len(bytes) {
+            Some((len, _)) if len == bytes.len() => Ok(0),
+            Some((len, _)) => self.take(&bytes[..len]).map(|taken| usize::from(taken.is_some())),
+            None => self.take_all(bytes),
+        }
+    }
+
+    /// As [`prefix_insert`](Self::prefix_insert). Where another key is in the way it makes a copy of the tree first, so it
+    /// then takes time by the pairs of the map; `prefix_insert` doesn't.
     ///
     /// ```
     /// let mut map = artmap::ArtMap::new();
@@ -100,24 +98,48 @@ impl<K: Key, V> ArtMap<K, V> {
     ///
     /// # Errors
     ///
-    /// Where memory lacks. The pair is handed back, and those in its way may be gone.
+    /// Where memory lacks. The map is as it was, and the pair is handed back.
     pub fn try_prefix_insert(&mut self, key: K, value: V) -> Result<usize, TryInsertError<K, V>> {
-        match self.make_way(&key) {
-            Ok(count) => self.try_insert(key, value).map(|_| count),
+        self.try_put_over(key, value).map(|(_, count)| count)
+    }
+
+    /// As `put_over`: all of it is done, or nothing.
+    pub(crate) fn try_put_over(&mut self, key: K, value: V) -> Result<(usize, usize), TryInsertError<K, V>> {
+        match self.made_way(&key) {
+            Ok(None) => self.store(key, value).map(|(index, old)| (index, usize::from(old.is_some()))),
+            Ok(Some((words, gone))) => {
+                // (nothing of a caller's runs until the tree and the slots are those of the new pair)
+                self.words = words;
+                let (index, count) = (self.slab.fill(key, value), gone.len());
+                Parted { slab: &mut self.slab, indexes: gone.into_iter() }.free();
+                Ok((index, count))
+            }
             Err(AllocError) => Err(TryInsertError::Memory { key, value }),
         }
     }
 
-    /// Takes out the pairs whose keys equal a key, begin it, or begin with it.
-    pub(crate) fn make_way(&mut self, key: &K) -> Result<usize, AllocError> {
+    /// A tree with a key whose pair gets the next index, without those in its way; and the indexes of these. None if no
+    /// other key is in the way.
+    fn made_way(&mut self, key: &K) -> Result<Option<(Words, Vec<usize>)>, AllocError> {
         let bytes = key.to_bytes()?;
         let bytes = bytes.as_ref();
-        let mut count = self.take_all(bytes)?;
-        if let Some(word) = self.words.find(bytes) {
-            drop(self.take_at(index_of(word))?);
-            count += 1;
+        let mut gone = match self.words.find_len(bytes) {
+            Some((len, _)) if len == bytes.len() => return Ok(None),
+            None if !self.words.has_prefix(bytes) => return Ok(None),
+            _ => self.indexes(bytes)?,
+        };
+        let index = self.slab.next_index()?;
+        let mut words = self.words.try_clone()?;
+        words.remove_prefix(bytes)?;
+        if let Some((len, word)) = words.find_len(bytes) {
+            gone.try_reserve(1)?;
+            gone.push(index_of(word));
+            words.remove(&bytes[..len])?;
         }
-        Ok(count)
+        match words.put(bytes, word_of(index))? {
+            Put::New => Ok(Some((words, gone))),
+            other => unreachable!("libartmap.a is not that of this crate: a key is in the way, {other:?}"),
+        }
     }
 
     /// The entry of a key, to be looked at, filled or changed.
@@ -154,12 +176,13 @@ impl<K: Key, V> ArtMap<K, V> {
     pub fn try_entry(&mut self, key: K) -> Result<Entry<'_, K, V>, TryKeyError<K>> {
         let found = match key.to_bytes() {
             Err(AllocError) => Err(true),
-            Ok(bytes) => match self.words.get(bytes.as_ref()) {
-                None if self.words.find(bytes.as_ref()).is_some() || self.words.has_prefix(bytes.as_ref()) => {
-                    Err(false)
+            Ok(bytes) => {
+                let bytes = bytes.as_ref();
+                match self.words.get(bytes) {
+                    None if self.words.find(bytes).is_some() || self.words.has_prefix(bytes) => Err(false),
+                    found => Ok(found),
                 }
-                found => Ok(found),
-            },
+            }
         };
         match found {
             Ok(found) => Ok(Entry::new(self, key, found)),
@@ -223,7 +246,7 @@ impl<K: Key, V> ArtMap<K, V> {
     where
         K: Borrow<Q>,
     {
-        Ok(self.try_remove_entry(key)?.map(|pair| pair.1))
+        Ok(self.try_remove_entry(key)?.map(value_of))
     }
 
     /// Takes a pair out, and gives it.
@@ -254,7 +277,7 @@ impl<K: Key, V> ArtMap<K, V> {
     where
         K: Borrow<Q>,
     {
-        key.with_bytes(|bytes| self.take(bytes))?
+        key.with_bytes(Sealed, |bytes| self.take(bytes))?
     }
 
     /// Takes the pair with the least key out.
@@ -338,15 +361,22 @@ impl<K: Key, V> ArtMap<K, V> {
     }
 
     fn take_all(&mut self, prefix: &[u8]) -> Result<usize, AllocError> {
-        let mut gone = Vec::new();
-        let (mut walk, slab) = (Walk::new(Under(Room::of(prefix)?)), &self.slab);
-        while let Some(index) = walk.next_sure(&self.words, Way::Up, |index| slab.pair(index).0)? {
-            gone.try_reserve(1)?;
-            gone.push(index);
-        }
+        let gone = self.indexes(prefix)?;
         self.words.remove_prefix(prefix)?;
         let count = gone.len();
-        Gone { slab: &mut self.slab, indexes: gone.into_iter() }.free();
+        Parted { slab: &mut self.slab, indexes: gone.into_iter() }.free();
+        self.settle();
         Ok(count)
+    }
+
+    /// The indexes of all pairs whose keys begin with a prefix.
+    fn indexes(&self, prefix: &[u8]) -> Result<Vec<usize>, AllocError> {
+        let mut found = Vec::new();
+        let (mut walk, slab) = (Walk::new(Under(Room::of(prefix)?)), &self.slab);
+        while let Some(index) = walk.next_sure(&self.words, Way::Up, |index| slab.pair(index).0)? {
+            found.try_reserve(1)?;
+            found.push(index);
+        }
+        Ok(found)
     }
 }

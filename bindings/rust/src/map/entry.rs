@@ -2,6 +2,7 @@
 use crate::Key;
 use crate::error::{AllocError, TryInsertError, or_end};
 use crate::map::ArtMap;
+use crate::parted::value_of;
 use crate::view::index_of;
 use std::fmt;
 
@@ -315,7 +316,7 @@ impl<'a, K: Key, V> OccupiedEntry<'a, K, V> {
     /// ```
     #[allow(clippy::must_use_candidate, reason = "it takes the pair out")]
     pub fn remove(self) -> V {
-        self.remove_entry().1
+        value_of(self.remove_entry())
     }
 
     /// Takes the pair out, and gives it.

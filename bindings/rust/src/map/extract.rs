@@ -2,9 +2,8 @@
 use crate::Key;
 use crate::error::{AllocError, or_end};
 use crate::map::ArtMap;
-use crate::view::between;
+use crate::view::between_if_any;
 use crate::walk::{All, Between, Limits, Walk, Way};
-use std::borrow::Borrow;
 use std::fmt;
 use std::iter::FusedIterator;
 use std::ops::RangeBounds;
@@ -26,8 +25,8 @@ impl<K, V, F: FnMut(&K, &mut V) -> bool> Goes<K, V> for Said<F> {
 /// What is left to be looked at.
 pub(crate) struct Extraction<'a, K, V, F, L> {
     map: &'a mut ArtMap<K, V>,
-    /// An error where there was no memory for the bounds.
-    walk: Result<Walk<L>, AllocError>,
+    /// None where no key can lie between the bounds; an error where there was no memory for them.
+    walk: Result<Option<Walk<L>>, AllocError>,
     goes: F,
     is_done: bool,
 }
@@ -43,13 +42,13 @@ impl<K: Key, V, F: Goes<K, V>, L: Limits> Extraction<'_, K, V, F, L> {
     }
 
     fn next_that_goes(&mut self) -> Result<Option<(K, V)>, AllocError> {
-        let walk = self.walk.as_mut().map_err(|why| *why)?;
+        let Some(walk) = self.walk.as_mut().map_err(|why| *why)? else { return Ok(None) };
         let ArtMap { words, slab } = &mut *self.map;
-        while let Some(index) = walk.next(words, Way::Up, |index| slab.pair(index).0)? {
+        while let Some(index) = walk.next(&*words, Way::Up, |index| slab.pair(index).0)? {
             let (key, value) = slab.pair_mut(index);
             if self.goes.goes(key, value) {
                 // (after the pair the walk finds no way once its key has gone)
-                walk.settle(words, Way::Up, |index| slab.pair(index).0)?;
+                walk.settle(&*words, Way::Up, |index| slab.pair(index).0)?;
                 return self.map.take_at(index).map(Some);
             }
         }
@@ -118,22 +117,17 @@ impl<K, V, F> fmt::Debug for ExtractIf<'_, K, V, F> {
 
 impl<K: Key, V> ArtMap<K, V> {
     /// Takes out, one by one as they are asked for, the pairs of a range of which a closure says that they go. It may
-    /// change the values of the others. Those that were not asked for stay.
+    /// change the values of the others. Those that were not asked for stay. As in std the bounds are keys, and where they
+    /// cross no pair goes.
     ///
     /// ```
     /// let mut map: artmap::ArtMap<_, _> = (0..8).map(|it| (it, it)).collect();
     /// assert!(map.extract_if(2..6, |key, _| key % 2 == 0).eq([(2, 2), (4, 4)]));
     /// assert!(map.into_keys().eq([0, 1, 3, 5, 6, 7]));
     /// ```
-    ///
-    /// # Panics
-    ///
-    /// As [`range`](Self::range).
-    pub fn extract_if<Q, R, F>(&mut self, range: R, goes: F) -> ExtractIf<'_, K, V, F>
+    pub fn extract_if<F, R>(&mut self, range: R, goes: F) -> ExtractIf<'_, K, V, F>
     where
-        Q: Key + ?Sized,
-        K: Borrow<Q>,
-        R: RangeBounds<Q>,
+        R: RangeBounds<K>,
         F: FnMut(&K, &mut V) -> bool,
     {
         ExtractIf(self.try_extract_if(range, goes).0)
@@ -147,26 +141,19 @@ impl<K: Key, V> ArtMap<K, V> {
     /// let gone: Result<Vec<_>, _> = map.try_extract_if(.., |_, value| *value == 'b').collect();
     /// assert_eq!(gone, Ok(vec![(2, 'b')]));
     /// ```
-    ///
-    /// # Panics
-    ///
-    /// As [`range`](Self::range).
-    pub fn try_extract_if<Q, R, F>(&mut self, range: R, goes: F) -> TryExtractIf<'_, K, V, F>
+    pub fn try_extract_if<F, R>(&mut self, range: R, goes: F) -> TryExtractIf<'_, K, V, F>
     where
-        Q: Key + ?Sized,
-        K: Borrow<Q>,
-        R: RangeBounds<Q>,
+        R: RangeBounds<K>,
         F: FnMut(&K, &mut V) -> bool,
     {
         TryExtractIf(self.extraction(&range, Said(goes)))
     }
 
-    pub(crate) fn extraction<Q, R, F>(&mut self, range: &R, goes: F) -> Extraction<'_, K, V, F, Between>
+    pub(crate) fn extraction<R, F>(&mut self, range: &R, goes: F) -> Extraction<'_, K, V, F, Between>
     where
-        Q: Key + ?Sized,
-        R: RangeBounds<Q>,
+        R: RangeBounds<K>,
     {
-        let walk = between(range).map(Walk::new);
+        let walk = between_if_any(range).map(|found| found.map(Walk::new));
         Extraction { map: self, walk, goes, is_done: false }
     }
 
@@ -197,7 +184,7 @@ impl<K: Key, V> ArtMap<K, V> {
     /// it are as they were.
     pub fn try_retain<F: FnMut(&K, &mut V) -> bool>(&mut self, mut keep: F) -> Result<(), AllocError> {
         let goes = Said(|key: &K, value: &mut V| !keep(key, value));
-        let mut rest = Extraction { map: self, walk: Ok(Walk::new(All)), goes, is_done: false };
+        let mut rest = Extraction { map: self, walk: Ok(Some(Walk::new(All))), goes, is_done: false };
         while let Some(taken) = rest.step() {
             drop(taken?);
         }

@@ -87,7 +87,7 @@ impl<'a, K: Key, V> PrefixEntry<'a, K, V> {
     ///
     /// # Errors
     ///
-    /// As [`ArtMap::try_prefix_insert`].
+    /// As [`ArtMap::try_prefix_insert`], which tells also what it takes.
     pub fn try_insert_entry(self, value: V) -> Result<OccupiedEntry<'a, K, V>, TryInsertError<K, V>> {
         match self {
             PrefixEntry::Occupied(mut entry) => {
@@ -222,10 +222,8 @@ impl<'a, K: Key, V> InnerEntry<'a, K, V> {
     /// assert_eq!(entry.insert_entry('a').remove(), 'a');
     /// ```
     pub fn insert_entry(self, value: V) -> OccupiedEntry<'a, K, V> {
-        match self.try_insert_entry(value) {
-            Ok(entry) => entry,
-            Err(why) => why.end(),
-        }
+        let (index, _) = self.map.put_over(self.key, value);
+        OccupiedEntry { map: self.map, index }
     }
 
     /// As [`insert_entry`](Self::insert_entry).
@@ -240,12 +238,9 @@ impl<'a, K: Key, V> InnerEntry<'a, K, V> {
     ///
     /// # Errors
     ///
-    /// As [`ArtMap::try_prefix_insert`].
+    /// As [`ArtMap::try_prefix_insert`], which tells also what it takes.
     pub fn try_insert_entry(self, value: V) -> Result<OccupiedEntry<'a, K, V>, TryInsertError<K, V>> {
-        if let Err(AllocError) = self.map.make_way(&self.key) {
-            return Err(TryInsertError::Memory { key: self.key, value });
-        }
-        let (index, _) = self.map.put(self.key, value)?;
+        let (index, _) = self.map.try_put_over(self.key, value)?;
         Ok(OccupiedEntry { map: self.map, index })
     }
 }
@@ -278,7 +273,8 @@ impl<K: Key, V> ArtMap<K, V> {
     ///
     /// Where there is no memory for the bytes of the key, which is handed back.
     pub fn try_prefix_entry(&mut self, key: K) -> Result<PrefixEntry<'_, K, V>, TryKeyError<K>> {
-        let met = key.with_bytes(|bytes| {
+        let met = key.to_bytes().map(|bytes| {
+            let bytes = bytes.as_ref();
             let found = self.words.find(bytes);
             (found, found.is_none() && self.words.has_prefix(bytes))
         });

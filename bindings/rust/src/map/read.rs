@@ -4,7 +4,7 @@ use crate::iter::{Iter, IterBytes, Keys, Prefix, Range, Values};
 use crate::iter_mut::{IterMut, PrefixMut, RangeMut, ValuesMut};
 use crate::map::ArtMap;
 use crate::owned::{IntoIter, IntoKeys, IntoValues};
-use crate::view::{between, index_of, prefix_room, word_of_key};
+use crate::view::{MAP, between, index_of, prefix_room, word_of_key};
 use crate::walk::Way;
 use crate::{Key, KeyPrefix};
 use std::borrow::Borrow;
@@ -245,7 +245,7 @@ impl<K: Key, V> ArtMap<K, V> {
         K: Borrow<Q>,
         R: RangeBounds<Q>,
     {
-        self.view().range(&range)
+        self.view().range(&range, MAP)
     }
 
     /// The pairs between two bounds, with values to be written.
@@ -265,7 +265,7 @@ impl<K: Key, V> ArtMap<K, V> {
         K: Borrow<Q>,
         R: RangeBounds<Q>,
     {
-        let limits = or_end(between(&range));
+        let limits = or_end(between(&range, MAP));
         RangeMut::new(self, limits)
     }
 

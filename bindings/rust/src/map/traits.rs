@@ -1,5 +1,5 @@
 //! What a map has from the traits of std.
-use crate::error::or_end;
+use crate::error::{TryInsertError, or_end};
 use crate::iter::Iter;
 use crate::iter_mut::IterMut;
 use crate::map::ArtMap;
@@ -87,9 +87,7 @@ impl<'a, K: NoPrefixes + Copy, V: Copy> Extend<(&'a K, &'a V)> for ArtMap<K, V> 
 
 impl<K: NoPrefixes, V> FromIterator<(K, V)> for ArtMap<K, V> {
     fn from_iter<I: IntoIterator<Item = (K, V)>>(pairs: I) -> Self {
-        let mut made = Self::new();
-        made.extend(pairs);
-        made
+        Self::try_from_iter(pairs).unwrap_or_else(TryInsertError::end)
     }
 }
 

@@ -3,7 +3,7 @@ use crate::error::AllocError;
 use crate::iter::{Prefix, Range};
 use crate::iter_mut::{PrefixMut, RangeMut};
 use crate::map::ArtMap;
-use crate::view::{between, index_of, prefix_room, word_of_key};
+use crate::view::{MAP, between, index_of, prefix_room, word_of_key};
 use crate::{Key, KeyPrefix};
 use std::borrow::Borrow;
 use std::ops::RangeBounds;
@@ -157,7 +157,7 @@ impl<K: Key, V> ArtMap<K, V> {
         K: Borrow<Q>,
         R: RangeBounds<Q>,
     {
-        self.view().try_range(&range)
+        self.view().try_range(&range, MAP)
     }
 
     /// As [`range_mut`](Self::range_mut).
@@ -180,7 +180,7 @@ impl<K: Key, V> ArtMap<K, V> {
         K: Borrow<Q>,
         R: RangeBounds<Q>,
     {
-        let limits = between(&range)?;
+        let limits = between(&range, MAP)?;
         Ok(RangeMut::new(self, limits))
     }
 

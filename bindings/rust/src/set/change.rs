@@ -2,7 +2,7 @@
 use super::ArtSet;
 use super::iter::{ExtractIf, IntoIter, OfKeys, TryExtractIf};
 use crate::error::{AllocError, TryInsertError, TryKeyError};
-use crate::map::AppendError;
+use crate::map::{AppendError, ArtMap};
 use crate::{Key, KeyPrefix, NoPrefixes};
 use std::borrow::Borrow;
 use std::ops::RangeBounds;
@@ -21,7 +21,7 @@ impl<K: Key> ArtSet<K> {
     ///
     /// # Panics
     ///
-    /// As [`ArtMap::insert`](crate::ArtMap::insert).
+    /// As [`ArtMap::insert`].
     pub fn insert(&mut self, key: K) -> bool
     where
         K: NoPrefixes,
@@ -54,7 +54,7 @@ impl<K: Key> ArtSet<K> {
     ///
     /// # Panics
     ///
-    /// As [`ArtMap::insert`](crate::ArtMap::insert).
+    /// As [`ArtMap::insert`].
     pub fn replace(&mut self, key: K) -> Option<K>
     where
         K: NoPrefixes,
@@ -217,7 +217,7 @@ impl<K: Key> ArtSet<K> {
     ///
     /// # Errors
     ///
-    /// As [`ArtMap::try_retain`](crate::ArtMap::try_retain).
+    /// As [`ArtMap::try_retain`].
     pub fn try_retain<F: FnMut(&K) -> bool>(&mut self, mut keep: F) -> Result<(), AllocError> {
         self.map.try_retain(|key, ()| keep(key))
     }
@@ -229,15 +229,9 @@ impl<K: Key> ArtSet<K> {
     /// assert!(set.extract_if(2.., |key| key % 2 == 0).eq([2, 4]));
     /// assert!(set.iter().eq(&[1, 3]));
     /// ```
-    ///
-    /// # Panics
-    ///
-    /// As [`ArtMap::range`](crate::ArtMap::range).
-    pub fn extract_if<Q, R, F>(&mut self, range: R, goes: F) -> ExtractIf<'_, K, F>
+    pub fn extract_if<F, R>(&mut self, range: R, goes: F) -> ExtractIf<'_, K, F>
     where
-        Q: Key + ?Sized,
-        K: Borrow<Q>,
-        R: RangeBounds<Q>,
+        R: RangeBounds<K>,
         F: FnMut(&K) -> bool,
     {
         ExtractIf(self.try_extract_if(range, goes).0)
@@ -249,15 +243,9 @@ impl<K: Key> ArtSet<K> {
     /// let mut set = artmap::ArtSet::from([1, 2]);
     /// assert!(set.try_extract_if(.., |key| *key == 1).eq([Ok(1)]));
     /// ```
-    ///
-    /// # Panics
-    ///
-    /// As [`ArtMap::range`](crate::ArtMap::range).
-    pub fn try_extract_if<Q, R, F>(&mut self, range: R, goes: F) -> TryExtractIf<'_, K, F>
+    pub fn try_extract_if<F, R>(&mut self, range: R, goes: F) -> TryExtractIf<'_, K, F>
     where
-        Q: Key + ?Sized,
-        K: Borrow<Q>,
-        R: RangeBounds<Q>,
+        R: RangeBounds<K>,
         F: FnMut(&K) -> bool,
     {
         TryExtractIf(self.map.extraction(&range, OfKeys(goes)))
@@ -273,7 +261,7 @@ impl<K: Key> ArtSet<K> {
     ///
     /// # Panics
     ///
-    /// As [`ArtMap::insert`](crate::ArtMap::insert).
+    /// As [`ArtMap::insert`].
     pub fn append(&mut self, other: &mut Self)
     where
         K: NoPrefixes,
@@ -290,7 +278,7 @@ impl<K: Key> ArtSet<K> {
     ///
     /// # Errors
     ///
-    /// As [`ArtMap::try_append`](crate::ArtMap::try_append).
+    /// As [`ArtMap::try_append`].
     pub fn try_append(&mut self, other: &mut Self) -> Result<(), AppendError> {
         self.map.try_append(&mut other.map)
     }
@@ -334,7 +322,7 @@ impl<K: Key> ArtSet<K> {
     ///
     /// # Errors
     ///
-    /// As [`ArtMap::try_extend`](crate::ArtMap::try_extend).
+    /// As [`ArtMap::try_extend`].
     pub fn try_extend<I: IntoIterator<Item = K>>(&mut self, keys: I) -> Result<(), TryKeyError<K>> {
         Ok(self.map.try_extend(keys.into_iter().map(|key| (key, ())))?)
     }
@@ -347,11 +335,9 @@ impl<K: Key> ArtSet<K> {
     ///
     /// # Errors
     ///
-    /// As [`ArtMap::try_from_iter`](crate::ArtMap::try_from_iter).
+    /// As [`ArtMap::try_from_iter`].
     pub fn try_from_iter<I: IntoIterator<Item = K>>(keys: I) -> Result<Self, TryKeyError<K>> {
-        let mut made = Self::new();
-        made.try_extend(keys)?;
-        Ok(made)
+        Ok(ArtSet { map: ArtMap::try_from_iter(keys.into_iter().map(|key| (key, ())))? })
     }
 
     /// A copy of the set.

@@ -1,14 +1,18 @@
 //! Sets that nobody changes, for readers in many threads.
 use super::ArtSet;
 use super::iter::{Iter, Prefix, Range};
+use super::merge::{Difference, Intersection, SymmetricDifference, Union};
 use crate::error::AllocError;
 use crate::frozen::FrozenMap;
-use crate::{Key, KeyPrefix};
+use crate::view::SET;
+use crate::{Key, KeyPrefix, Ordered};
 use std::borrow::Borrow;
+use std::cmp::Ordering;
 use std::fmt;
+use std::hash::{Hash, Hasher};
 use std::ops::RangeBounds;
 
-/// A set that nobody changes. A clone is another handle on the same keys, for another thread.
+/// A set that nobody changes, and many threads read, as a [`FrozenMap`](crate::FrozenMap). A clone has the same keys.
 ///
 /// ```
 /// use artmap::ArtSet;
@@ -31,6 +35,19 @@ impl<K: Key> ArtSet<K> {
     pub fn freeze(self) -> FrozenSet<K> {
         FrozenSet(self.map.freeze())
     }
+
+    /// As [`ArtMap::freeze_clone`](crate::ArtMap::freeze_clone).
+    ///
+    /// ```
+    /// assert!(artmap::ArtSet::from([1]).freeze_clone().contains(&1));
+    /// ```
+    #[must_use]
+    pub fn freeze_clone(&self) -> FrozenSet<K>
+    where
+        K: Clone,
+    {
+        FrozenSet(self.map.freeze_clone())
+    }
 }
 
 impl<K> FrozenSet<K> {
@@ -42,7 +59,7 @@ impl<K> FrozenSet<K> {
     ///
     /// # Errors
     ///
-    /// Where there is another handle. This one is handed back.
+    /// Where there is another clone. This one is handed back.
     pub fn thaw(self) -> Result<ArtSet<K>, Self> {
         match self.0.thaw() {
             Ok(map) => Ok(ArtSet { map }),
@@ -50,7 +67,7 @@ impl<K> FrozenSet<K> {
         }
     }
 
-    /// Another handle on the same keys.
+    /// Another one of the same keys. It needs no memory.
     ///
     /// ```
     /// assert_eq!(artmap::ArtSet::from([1]).freeze().try_clone().unwrap().len(), 1);
@@ -58,7 +75,7 @@ impl<K> FrozenSet<K> {
     ///
     /// # Errors
     ///
-    /// Where memory lacks.
+    /// Never.
     pub fn try_clone(&self) -> Result<Self, AllocError> {
         self.0.try_clone().map(FrozenSet)
     }
@@ -123,6 +140,7 @@ impl<K: Key> FrozenSet<K> {
     /// ```
     /// assert_eq!(artmap::ArtSet::from([2, 1]).freeze().first(), Some(&1));
     /// ```
+    #[must_use]
     pub fn first(&self) -> Option<&K> {
         Some(self.0.first_key_value()?.0)
     }
@@ -132,6 +150,7 @@ impl<K: Key> FrozenSet<K> {
     /// ```
     /// assert_eq!(artmap::ArtSet::from([2, 1]).freeze().last(), Some(&2));
     /// ```
+    #[must_use]
     pub fn last(&self) -> Option<&K> {
         Some(self.0.last_key_value()?.0)
     }
@@ -160,7 +179,7 @@ impl<K: Key> FrozenSet<K> {
         K: Borrow<Q>,
         R: RangeBounds<Q>,
     {
-        Range(self.0.range(range))
+        Range(self.0.view().range(&range, SET))
     }
 
     /// As [`ArtSet::prefix`].
@@ -236,7 +255,7 @@ impl<K: Key> FrozenSet<K> {
         K: Borrow<Q>,
         R: RangeBounds<Q>,
     {
-        self.0.try_range(range).map(Range)
+        self.0.view().try_range(&range, SET).map(Range)
     }
 
     /// As [`ArtSet::try_prefix`].
@@ -250,6 +269,88 @@ impl<K: Key> FrozenSet<K> {
     /// As there.
     pub fn try_prefix<P: KeyPrefix<K> + ?Sized>(&self, prefix: &P) -> Result<Prefix<'_, K>, AllocError> {
         self.0.try_prefix(prefix).map(Prefix)
+    }
+}
+
+impl<K: Ordered> FrozenSet<K> {
+    /// The keys of this set that are not in the other one, ascending.
+    ///
+    /// ```
+    /// use artmap::ArtSet;
+    ///
+    /// assert!(ArtSet::from([1, 2]).freeze().difference(&ArtSet::from([2, 3]).freeze()).eq(&[1]));
+    /// ```
+    pub fn difference<'a>(&'a self, other: &'a FrozenSet<K>) -> Difference<'a, K> {
+        Difference::new(self.iter(), other.iter())
+    }
+
+    /// The keys of one of the sets that are not in the other one, ascending.
+    ///
+    /// ```
+    /// use artmap::ArtSet;
+    ///
+    /// assert!(ArtSet::from([1, 2]).freeze().symmetric_difference(&ArtSet::from([2, 3]).freeze()).eq(&[1, 3]));
+    /// ```
+    pub fn symmetric_difference<'a>(&'a self, other: &'a FrozenSet<K>) -> SymmetricDifference<'a, K> {
+        SymmetricDifference::new(self.iter(), other.iter())
+    }
+
+    /// The keys of this set that are in the other one, too, ascending.
+    ///
+    /// ```
+    /// use artmap::ArtSet;
+    ///
+    /// assert!(ArtSet::from([1, 2]).freeze().intersection(&ArtSet::from([2, 3]).freeze()).eq(&[2]));
+    /// ```
+    pub fn intersection<'a>(&'a self, other: &'a FrozenSet<K>) -> Intersection<'a, K> {
+        Intersection::new(self.iter(), other.iter())
+    }
+
+    /// The keys of both sets, ascending; of two that are equal, that of this set.
+    ///
+    /// ```
+    /// use artmap::ArtSet;
+    ///
+    /// assert!(ArtSet::from([1, 2]).freeze().union(&ArtSet::from([2, 3]).freeze()).eq(&[1, 2, 3]));
+    /// ```
+    pub fn union<'a>(&'a self, other: &'a FrozenSet<K>) -> Union<'a, K> {
+        Union::new(self.iter(), other.iter())
+    }
+
+    /// Whether no key is in both.
+    ///
+    /// ```
+    /// use artmap::ArtSet;
+    ///
+    /// assert!(ArtSet::from([1, 2]).freeze().is_disjoint(&ArtSet::from([3]).freeze()));
+    /// ```
+    #[must_use]
+    pub fn is_disjoint(&self, other: &FrozenSet<K>) -> bool {
+        self.intersection(other).next().is_none()
+    }
+
+    /// Whether all keys are in the other one, too.
+    ///
+    /// ```
+    /// use artmap::ArtSet;
+    ///
+    /// assert!(ArtSet::from([1]).freeze().is_subset(&ArtSet::from([1, 2]).freeze()));
+    /// ```
+    #[must_use]
+    pub fn is_subset(&self, other: &FrozenSet<K>) -> bool {
+        self.len() <= other.len() && self.difference(other).next().is_none()
+    }
+
+    /// Whether all keys of the other one are here, too.
+    ///
+    /// ```
+    /// use artmap::ArtSet;
+    ///
+    /// assert!(ArtSet::from([1, 2]).freeze().is_superset(&ArtSet::from([1]).freeze()));
+    /// ```
+    #[must_use]
+    pub fn is_superset(&self, other: &FrozenSet<K>) -> bool {
+        other.is_subset(self)
     }
 }
 
@@ -285,5 +386,26 @@ impl<'a, K: Key> IntoIterator for &'a FrozenSet<K> {
 
     fn into_iter(self) -> Iter<'a, K> {
         self.iter()
+    }
+}
+
+impl<K: Key + PartialOrd> PartialOrd for FrozenSet<K> {
+    fn partial_cmp(&self, other: &Self) -> Option<Ordering> {
+        self.iter().partial_cmp(other)
+    }
+}
+
+impl<K: Key + Ord> Ord for FrozenSet<K> {
+    fn cmp(&self, other: &Self) -> Ordering {
+        self.iter().cmp(other)
+    }
+}
+
+impl<K: Key + Hash> Hash for FrozenSet<K> {
+    fn hash<H: Hasher>(&self, state: &mut H) {
+        state.write_usize(self.len());
+        for key in self {
+            key.hash(state);
+        }
     }
 }

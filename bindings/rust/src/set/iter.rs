@@ -154,6 +154,12 @@ macro_rules! copies {
 
 copies! { Iter Range Prefix }
 
+impl<K> Default for IntoIter<K> {
+    fn default() -> Self {
+        IntoIter(IntoKeys::default())
+    }
+}
+
 impl<K: Key + fmt::Debug> fmt::Debug for IntoIter<K> {
     fn fmt(&self, to: &mut fmt::Formatter<'_>) -> fmt::Result {
         self.0.fmt(to)

@@ -1,5 +1,4 @@
 //! Two sets seen together: one walk over both in ascending order.
-use super::ArtSet;
 use super::iter::Iter;
 use crate::Ordered;
 use std::cmp::Ordering;
@@ -16,8 +15,8 @@ struct Merge<'a, K: Ordered> {
 type Met<'a, K> = (Option<&'a K>, Option<&'a K>);
 
 impl<'a, K: Ordered> Merge<'a, K> {
-    fn new(one: &'a ArtSet<K>, other: &'a ArtSet<K>) -> Self {
-        Merge { one: one.iter().peekable(), other: other.iter().peekable() }
+    fn new(one: Iter<'a, K>, other: Iter<'a, K>) -> Self {
+        Merge { one: one.peekable(), other: other.peekable() }
     }
 
     fn step(&mut self) -> Option<Met<'a, K>> {
@@ -40,13 +39,13 @@ impl<'a, K: Ordered> Merge<'a, K> {
 }
 
 macro_rules! merges {
-    ($($(#[doc = $doc:literal])* $of:ident, $wanted:expr, $most:expr;)*) => {$(
+    ($($(#[doc = $doc:literal])* $of:ident, $wanted:expr, $hint:expr;)*) => {$(
         $(#[doc = $doc])*
         #[must_use]
         pub struct $of<'a, K: Ordered>(Merge<'a, K>);
 
         impl<'a, K: Ordered> $of<'a, K> {
-            pub(crate) fn new(one: &'a ArtSet<K>, other: &'a ArtSet<K>) -> Self {
+            pub(crate) fn new(one: Iter<'a, K>, other: Iter<'a, K>) -> Self {
                 $of(Merge::new(one, other))
             }
         }
@@ -65,8 +64,9 @@ macro_rules! merges {
             }
 
             fn size_hint(&self) -> (usize, Option<usize>) {
-                let most: fn((usize, usize)) -> Option<usize> = $most;
-                (0, most(self.0.left()))
+                let hint: fn((usize, usize)) -> (usize, usize) = $hint;
+                let (least, most) = hint(self.0.left());
+                (least, Some(most))
             }
         }
 
@@ -87,36 +87,37 @@ macro_rules! merges {
 }
 
 merges! {
-    /// The keys of one set that are not in the other one. [`ArtSet::difference`] makes it.
+    /// The keys of one set that are not in the other one. [`ArtSet::difference`](crate::ArtSet::difference) makes it.
     ///
     /// ```
     /// use artmap::ArtSet;
     ///
     /// assert_eq!(ArtSet::from([1, 2]).difference(&ArtSet::from([1])).next(), Some(&2));
     /// ```
-    Difference, |met| if met.1.is_none() { met.0 } else { None }, |left| Some(left.0);
-    /// The keys of one of two sets that are not in the other one. [`ArtSet::symmetric_difference`] makes it.
+    Difference, |met| if met.1.is_none() { met.0 } else { None }, |left| (left.0.saturating_sub(left.1), left.0);
+    /// The keys of one of two sets that are not in the other one.
+    /// [`ArtSet::symmetric_difference`](crate::ArtSet::symmetric_difference) makes it.
     ///
     /// ```
     /// use artmap::ArtSet;
     ///
     /// assert_eq!(ArtSet::from([1]).symmetric_difference(&ArtSet::from([1, 2])).next(), Some(&2));
     /// ```
-    SymmetricDifference, |met| met.0.xor(met.1), |left| left.0.checked_add(left.1);
-    /// The keys of one set that are in the other one, too. [`ArtSet::intersection`] makes it.
+    SymmetricDifference, |met| met.0.xor(met.1), |left| (0, left.0 + left.1);
+    /// The keys of one set that are in the other one, too. [`ArtSet::intersection`](crate::ArtSet::intersection) makes it.
     ///
     /// ```
     /// use artmap::ArtSet;
     ///
     /// assert_eq!(ArtSet::from([1, 2]).intersection(&ArtSet::from([2, 3])).next(), Some(&2));
     /// ```
-    Intersection, |met| met.1.and(met.0), |left| Some(left.0.min(left.1));
-    /// The keys of two sets. [`ArtSet::union`] makes it.
+    Intersection, |met| met.1.and(met.0), |left| (0, left.0.min(left.1));
+    /// The keys of two sets. [`ArtSet::union`](crate::ArtSet::union) makes it.
     ///
     /// ```
     /// use artmap::ArtSet;
     ///
     /// assert_eq!(ArtSet::from([1]).union(&ArtSet::from([2])).last(), Some(&2));
     /// ```
-    Union, |met| met.0.or(met.1), |left| left.0.checked_add(left.1);
+    Union, |met| met.0.or(met.1), |left| (left.0.max(left.1), left.0 + left.1);
 }

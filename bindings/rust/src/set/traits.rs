@@ -69,9 +69,7 @@ impl<'a, K: NoPrefixes + Copy> Extend<&'a K> for ArtSet<K> {
 
 impl<K: NoPrefixes> FromIterator<K> for ArtSet<K> {
     fn from_iter<I: IntoIterator<Item = K>>(keys: I) -> Self {
-        let mut made = Self::new();
-        made.extend(keys);
-        made
+        ArtSet { map: keys.into_iter().map(|key| (key, ())).collect() }
     }
 }
 

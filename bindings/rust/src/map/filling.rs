@@ -1,0 +1,219 @@
+//! Pairs that go into a map many at a time, where their keys ascend after the greatest one.
+use crate::Key;
+use crate::error::{AllocError, TryInsertError};
+use crate::ffi::{From, Pair, Stop, To, Words};
+use crate::map::{ArtMap, CHANGED, word_of};
+use crate::parted::Parted;
+use crate::view::index_of;
+use crate::walk::Way;
+use std::iter::Map;
+use std::vec;
+
+/// How many pairs go in at once, and how many bytes of keys, at most, but for a single one.
+const PAIRS: usize = 256;
+const BYTES: usize = 1 << 15;
+
+/// Keys that ascend, with their words.
+pub(super) struct Run {
+    /// The bytes of the keys, and after their end those of a key that has no word yet.
+    bytes: Vec<u8>,
+    end: usize,
+    pairs: Vec<Pair>,
+}
+
+impl Run {
+    pub(super) const fn new() -> Self {
+        Run { bytes: Vec::new(), end: 0, pairs: Vec::new() }
+    }
+
+    pub(super) fn is_full(&self) -> bool {
+        self.pairs.len() == PAIRS || self.end >= BYTES
+    }
+
+    /// Copies the bytes of the next key, and makes room for its word.
+    pub(super) fn tell(&mut self, key: &[u8]) -> Result<(), AllocError> {
+        self.bytes.truncate(self.end);
+        self.bytes.try_reserve(key.len())?;
+        self.pairs.try_reserve(1)?;
+        self.bytes.extend_from_slice(key);
+        Ok(())
+    }
+
+    /// Takes the key that was told on, with its word.
+    pub(super) fn push(&mut self, word: u64) {
+        self.pairs.push(Pair { key_len: self.bytes.len() - self.end, word });
+        self.end = self.bytes.len();
+    }
+
+    fn last(&self) -> Option<&[u8]> {
+        let len = self.pairs.last()?.key_len;
+        Some(&self.bytes[self.end - len..self.end])
+    }
+
+    /// Puts all into a tree, up to the first that is refused. Tells how many went in, and why not all did, if so. All are
+    /// refused where the tree has a key that is not below them: so no word is replaced.
+    pub(super) fn load_into(&self, words: &mut Words) -> (usize, Option<Stop>) {
+        let Some(first) = self.pairs.first() else { return (0, None) };
+        match words.walk(Way::Up, From::Key(&self.bytes[..first.key_len]), To::End, &mut [0]) {
+            (0, _) => words.load(&self.bytes[..self.end], &self.pairs),
+            _ => (0, Some(Stop::NotAbove)),
+        }
+    }
+
+    pub(super) fn clear(&mut self) {
+        self.bytes.clear();
+        self.end = 0;
+        self.pairs.clear();
+    }
+}
+
+/// Pairs that the tree has refused: the first one, and those after it.
+type Refused<'a, K, V> = Parted<'a, K, V, Map<vec::IntoIter<Pair>, fn(Pair) -> usize>>;
+
+/// A map that pairs go into. Those that wait in the run are in the slab, and go into the tree at its end, also where a
+/// panic ends it.
+pub(super) struct Filling<'a, K: Key, V> {
+    map: &'a mut ArtMap<K, V>,
+    run: Run,
+    /// The bytes of the greatest key of the map, where no pair waits; and whether that is known.
+    greatest: Vec<u8>,
+    is_known: bool,
+}
+
+/// Where a key stands.
+enum Place {
+    /// After all others.
+    AtEnd,
+    /// After the greatest one, which begins it.
+    Under,
+    Elsewhere,
+}
+
+impl<'a, K: Key, V> Filling<'a, K, V> {
+    pub(super) const fn new(map: &'a mut ArtMap<K, V>) -> Self {
+        Filling { map, run: Run::new(), greatest: Vec::new(), is_known: false }
+    }
+
+    /// Looks the greatest key up, where that is not known.
+    fn know(&mut self) -> Result<(), AllocError> {
+        if !self.is_known {
+            self.greatest.clear();
+            if let Some(word) = self.map.words.end(Way::Down) {
+                let bytes = self.map.slab.pair(index_of(word)).0.to_bytes()?;
+                let bytes = bytes.as_ref();
+                self.greatest.try_reserve(bytes.len())?;
+                self.greatest.extend_from_slice(bytes);
+            }
+            self.is_known = true;
+        }
+        Ok(())
+    }
+
+    fn place(&self, key: &[u8]) -> Place {
+        let greatest = match self.run.last() {
+            Some(last) => last,
+            None if self.map.slab.len() == 0 => return Place::AtEnd,
+            None => &self.greatest,
+        };
+        if key <= greatest {
+            Place::Elsewhere
+        } else if key.starts_with(greatest) {
+            Place::Under
+        } else {
+            Place::AtEnd
+        }
+    }
+
+    /// Takes a pair on, or stores it. What it would stand in the place of is dropped.
+    fn push(&mut self, key: K, value: V) -> Result<(), TryInsertError<K, V>> {
+        match self.wait(&key) {
+            Ok(Place::AtEnd) => {
+                let index = self.map.slab.fill_at_end(key, value);
+                self.run.push(word_of(index));
+                Ok(())
+            }
+            Ok(Place::Under) => {
+                self.flush()?;
+                Err(TryInsertError::Prefix { key, value })
+            }
+            Ok(Place::Elsewhere) => {
+                self.flush()?;
+                self.map.try_insert(key, value).map(drop)
+            }
+            Err(AllocError) => {
+                self.flush()?;
+                Err(TryInsertError::Memory { key, value })
+            }
+        }
+    }
+
+    /// Has the bytes of a key wait that stands after all others, with room for its pair.
+    fn wait(&mut self, key: &K) -> Result<Place, AllocError> {
+        if self.run.pairs.is_empty() {
+            self.know()?;
+        }
+        let bytes = key.to_bytes()?;
+        let bytes = bytes.as_ref();
+        let place = self.place(bytes);
+        if let Place::AtEnd = place {
+            self.map.slab.next_index()?;
+            self.run.tell(bytes)?;
+        }
+        Ok(place)
+    }
+
+    /// Puts what waits into the tree. Tells why not all went in, and what was refused.
+    fn load(&mut self) -> Option<(Stop, Refused<'_, K, V>)> {
+        let last = self.run.last()?;
+        self.greatest.clear();
+        self.is_known = self.greatest.try_reserve(last.len()).is_ok();
+        if self.is_known {
+            self.greatest.extend_from_slice(last);
+        }
+        let (taken, stop) = self.run.load_into(&mut self.map.words);
+        let mut pairs = std::mem::take(&mut self.run.pairs);
+        self.run.clear();
+        let Some(stop) = stop else {
+            pairs.clear();
+            self.run.pairs = pairs;
+            return None;
+        };
+        self.is_known = false;
+        let mut pairs = pairs.into_iter();
+        pairs.by_ref().take(taken).for_each(drop);
+        let index: fn(Pair) -> usize = |pair| index_of(pair.word);
+        Some((stop, Parted { slab: &mut self.map.slab, indexes: pairs.map(index) }))
+    }
+
+    /// Puts what waits into the tree. The first pair that is refused is handed back, and those after it are dropped.
+    fn flush(&mut self) -> Result<(), TryInsertError<K, V>> {
+        let Some((stop, mut refused)) = self.load() else { return Ok(()) };
+        if stop == Stop::NotAbove {
+            drop(refused);
+            panic!("{CHANGED}");
+        }
+        let (key, value) = refused.next().expect("the pair that was refused");
+        refused.free();
+        match stop {
+            Stop::Memory => Err(TryInsertError::Memory { key, value }),
+            Stop::Conflict | Stop::NotAbove => Err(TryInsertError::Prefix { key, value }),
+        }
+    }
+
+    pub(super) fn fill(mut self, pairs: impl IntoIterator<Item = (K, V)>) -> Result<(), TryInsertError<K, V>> {
+        for (key, value) in pairs {
+            self.push(key, value)?;
+            if self.run.is_full() {
+                self.flush()?;
+            }
+        }
+        self.flush()
+    }
+}
+
+/// Pairs wait here only where a panic has ended the filling. What is then refused is dropped, without another panic.
+impl<K: Key, V> Drop for Filling<'_, K, V> {
+    fn drop(&mut self) {
+        drop(self.load());
+    }
+}
