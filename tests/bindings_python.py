@@ -3,11 +3,13 @@
 
     tests/bindings_python.py [--of FOLDER] [WORD]   FOLDER: where libartmap.a and artmap.h stand; else it is out
 Played are its examples, scripts at random beside a model, those of tests/maps, CPython's own tests of dicts and sets
-(bindings_python_cpython.py), what may touch a map at any moment (bindings_python_hold.py), and memory
-(..._memory.py). Wrong models must be told. With a word, only the parts that have it in their names. It prints a line
-for each case, and the last is 'N passed, M failed'. It takes two minutes of processor time.
+(bindings_python_cpython.py), what may touch a map at any moment (bindings_python_hold.py), code that runs in the midst
+of each call (..._hostile.py), also under the address sanitizer and in other versions of Python that are here, and
+memory (..._memory.py). Wrong models must be told. With a word, only the parts that have it in their names. It prints a
+line for each case, and the last is 'N passed, M failed'. It takes two minutes of processor time.
 """
 import doctest
+import glob
 import importlib
 import os
 import random
@@ -74,10 +76,10 @@ def wheel(room):
     told("its names are its own", shown == ["PyInit__artmap"] and not asked, f"{shown} {asked} {ran.stderr}")
 
 
-def run_of(room, *words, **env):
+def run_of(room, *words, python=sys.executable, **env):
     """What a run of Python prints, and its status."""
     env = {**os.environ, "PYTHONPATH": room, **env}
-    ran = subprocess.run([sys.executable, "-B", *words], capture_output=True, text=True, cwd=room, env=env,
+    ran = subprocess.run([python, "-B", *words], capture_output=True, text=True, cwd=room, env=env,
                          timeout=600, check=False)
     return ran.stdout, ran.stderr, ran.returncode
 
@@ -156,7 +158,7 @@ WORDS = {
     "setdefault": "kv", "pop": "kv", "popitem": "", "longest_prefix": "q", "first": "", "last": "", "next": "ki",
     "previous": "ki", "range": "kkcr", "irange": "kkcr", "prefix": "pr", "remove_prefix": "p", "clear": "", "copy": "",
     "update": "u", "walked": "wr", "__eq__": "m", "load": "s", "peekitem": "a", "popitem at": "a",
-    "compact": "",
+    "compact": "", "prefixes": "q",
 }  # fmt: skip
 NAMED = {"i": "inclusive", "c": "inclusive", "r": "reverse"}
 OFTEN = {"__setitem__": 12, "clear": 0.1, "compact": 0.5, "remove_prefix": 0.5, "update": 0.5}
@@ -220,7 +222,7 @@ def one_script(seed, kind, model):
     bound_of_model = {"popitem at": lambda at: model.popitem(at)}
     for number in range(STEPS):
         name = rng.choices(names, weights)[0]
-        if kind is int and name in ("longest_prefix", "prefix", "remove_prefix"):
+        if kind is int and name in ("longest_prefix", "prefixes", "prefix", "remove_prefix"):
             continue
         words, how = [], {}
         for word in WORDS[name]:
@@ -240,15 +242,16 @@ def one_script(seed, kind, model):
 
 
 def scripts():
+    from artmap import Ended
     from bindings_python_model import Model, Wrong
 
-    for kind in (bytes, str, int):
+    for kind in (bytes, Ended, str, int):
         for seed in range(SCRIPTS):
             why = one_script(seed, kind, Model(kind))
             told(f"script {seed} of {kind.__name__}", not why, why)
     for name, wrong in vars(Wrong).items():
         if isinstance(wrong, type):
-            is_told = any(one_script(seed, kind, wrong(kind)) for seed in range(SCRIPTS) for kind in (bytes, str))
+            is_told = any(one_script(seed, kind, wrong(kind)) for seed in range(SCRIPTS) for kind in (bytes, Ended, str))
             told(f"a model that is wrong, {name}, is told", is_told, "no script tells it")
 
 
@@ -290,16 +293,43 @@ def refused(room):
 # What is tried elsewhere, in a run of its own.
 
 
-def elsewhere(room, script, **env):
+def elsewhere(room, script, *words, where="", python=sys.executable, **env):
     """The cases of another script, which prints them."""
-    out, err, status = run_of(room, "-X", "dev", f"{TOP}/tests/{script}", **env)
+    out, err, status = run_of(room, "-X", "dev", f"{TOP}/tests/{script}", *words, python=python, **env)
     lines = out.splitlines()
     for line in lines[:-1]:
         name, _, ended = line.partition(": ")
         if ended.startswith(("ok", "FAILED: ")):
-            told(f"{name[:300]}", ended.startswith("ok"), out[-1500:])
+            told(f"{name[:300]}{where}", ended.startswith("ok"), out[-1500:])
     is_ended = status == 0 and lines and re.fullmatch(r"\d+ passed, 0 failed", lines[-1])
-    told(f"{script} ends", is_ended, f"status {status}: {out[-500:]} {err[-1500:]}")
+    told(f"{script} ends{where}", is_ended, f"status {status}: {out[-500:]} {err[-1500:]}")
+
+
+def sanitized(room):
+    """The hostile code, where the module is built with the address sanitizer."""
+    found = subprocess.run(["cc", "-print-file-name=libasan.so"], capture_output=True, text=True, check=False).stdout.strip()
+    if not os.path.isabs(found):
+        print("cc has no libasan.so, so there is no run under the address sanitizer: skipped")
+        return
+    to, flags = f"{room}/sanitized", "-g -fsanitize=address"
+    built = subprocess.run([sys.executable, "-B", f"{PYTHON}/backend.py", to], capture_output=True, text=True, check=False,
+                           env={**os.environ, "CFLAGS": flags, "LDFLAGS": flags})
+    if told("the package is built with the address sanitizer", built.returncode == 0, built.stderr):
+        elsewhere(to, "bindings_python_hostile.py", where=", under the address sanitizer", LD_PRELOAD=found,
+                  PYTHONMALLOC="malloc", ASAN_OPTIONS="detect_leaks=0")
+
+
+def other_versions(room):
+    """The hostile code and interpreters of their own, in other versions of Python: on the PATH, or as pyenv has them."""
+    folders = [*os.get_exec_path(), *sorted(glob.glob(os.path.expanduser("~/.pyenv/versions/*/bin")))]
+    for minor in range(9, 20) if not sysconfig.get_config_var("Py_GIL_DISABLED") else ():
+        is_that = f"import sys; sys.exit(sys.version_info[1] != {minor} or 'free-threading' in sys.version)"
+        found = (it for it in (f"{folder}/python3.{minor}" for folder in folders) if os.access(it, os.X_OK)
+                 and subprocess.run([it, "-c", is_that], capture_output=True, check=False).returncode == 0)
+        python = next(found, None) if minor != sys.version_info[1] else None
+        for script in (["hostile.py"], ["memory.py", "interpreters"]) if python else ():
+            elsewhere(room, f"bindings_python_{script[0]}", *script[1:], where=f", in python3.{minor}", python=python,
+                      PYTHONMALLOC="debug")
 
 
 def main():
@@ -316,6 +346,8 @@ def main():
             "cases": lambda: of_calls(told), "scripts": scripts, "maps": lambda: of_maps(told), "refused": lambda: refused(room),
             "cpython": lambda: elsewhere(room, "bindings_python_cpython.py"),
             "hold": lambda: elsewhere(room, "bindings_python_hold.py", PYTHONMALLOC="debug"),
+            "hostile": lambda: elsewhere(room, "bindings_python_hostile.py", PYTHONMALLOC="debug"),
+            "sanitized": lambda: sanitized(room), "other versions": lambda: other_versions(room),
             "memory": lambda: elsewhere(room, "bindings_python_memory.py"),
         }  # fmt: skip
         for name, part in parts.items():

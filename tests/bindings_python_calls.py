@@ -3,13 +3,15 @@
 
     tests/bindings_python_calls.py NAME     makes a map, and then this call in a window; artmap is on PYTHONPATH
 """
+import copy
 import os
 import sys
 from collections.abc import Iterator
 
-from artmap import Art, ArtSet
+from artmap import Art, ArtSet, Ended
 
 LONG = b"x" * 3000  # a key for which each room must grow
+NEW = b"af" + b"x" * 40  # a key that has a block of its own: up to thirty bytes stand in their entry
 # Below `a` there is a node for five: a loss makes a smaller one, for which no room is spare.
 PAIRS = {key.encode(): [key] for key in ("aa", "ab", "ac", "ad", "ae", "b0", "b1", "c0", "c1", "d0")}
 PAIRS |= {b"e" + LONG: None}
@@ -18,12 +20,13 @@ CALLS = {
     "Art()": lambda it: Art(),
     "Art(pairs)": lambda it: Art(PAIRS),
     "Art of a map": lambda it: Art(it),
-    "put a new pair": lambda it: it.__setitem__(b"af", b"new"),
+    "put a new pair": lambda it: it.__setitem__(NEW, b"new"),
+    "put a short key": lambda it: it.__setitem__(b"af", b"new"),
     "put a long key": lambda it: it.__setitem__(b"f" + LONG, b"new"),
-    "put a buffer": lambda it: it.__setitem__(bytearray(b"af"), b"new"),
+    "put a buffer": lambda it: it.__setitem__(bytearray(NEW), b"new"),
     "replace": lambda it: it.__setitem__(b"aa", b"other"),
     "conflict": lambda it: it.__setitem__(b"aab", b"x"),
-    "setdefault": lambda it: it.setdefault(b"af", b"new"),
+    "setdefault": lambda it: it.setdefault(NEW, b"new"),
     "setdefault of a stored one": lambda it: it.setdefault(b"aa", b"new"),
     "get": lambda it: it.get(b"aa"),
     "contains": lambda it: b"d1" in it,
@@ -55,13 +58,21 @@ CALLS = {
     "getsizeof": lambda it: sys.getsizeof(it) > 0,
     "texts": lambda it: [*Art(TEXTS, key=str).prefix("a")],
     "longest of texts": lambda it: Art(TEXTS, key=str).longest_prefix("abc" * 41),
+    "prefixes": lambda it: it.prefixes(b"d0x"),
+    "prefixes of texts": lambda it: Art(TEXTS, key=str).prefixes("abc" * 41),
+    "bytes that begin others": lambda it: [*Art({b"a" * size: size for size in (0, 1, 300)}, key=Ended)],
+    "places": lambda it: [it.keys()[2:9:3], it.keys()[-2], it.index(b"b0"), it.bisect(b"c")],
+    "del of places": lambda it: it.keys().__delitem__(slice(None, None, 9)),
+    "islice": lambda it: [*it.islice(1, -1, reverse=True)],
+    "a walk's copy": lambda it: [[*copy.copy(iter(it))], iter(it.items()).__reduce__()[1]],
     "numbers": lambda it: [*Art({5: 1, -5: 2}, key=int)],
     "a set": lambda it: [*ArtSet([b"b", b"a"])],
 }
 # (These ask malloc for memory in any case, so that the runs refuse something.)
 TAKE_MEMORY = {"Art(pairs)", "Art of a map", "put a new pair", "put a long key", "put a buffer", "setdefault", "last",
                "items",
-               "irange to a long key", "load one", "compact", "copy", "merge", "texts", "numbers", "a set", "popitem"}  # fmt: skip
+               "irange to a long key", "load one", "compact", "copy", "merge", "texts", "bytes that begin others", "numbers", "a set",
+               "popitem"}  # fmt: skip
 
 
 def outcome(call, *words):

@@ -1,12 +1,16 @@
 """Written cases of the maps and sets of artmap: words of all kinds, walks, bulk, copies, views, texts and numbers."""
+import bisect
 import copy
+import gc
 import pickle
 import random
 import sys
+import weakref
 from collections import OrderedDict, UserDict
 from collections.abc import ItemsView, KeysView, Mapping, MutableMapping, MutableSet, ValuesView
+from types import MappingProxyType
 
-from artmap import Art, ArtSet, ConflictError, NotAboveError
+from artmap import Art, ArtSet, ConflictError, Ended, NotAboveError
 from bindings_python_calls import outcome
 
 
@@ -44,8 +48,14 @@ def words_of_all_kinds(told):
     seen |= {outcome(call, word) for call in (it.range, lambda word: it.range(b"", word), it.irange)
              for word in none[1:]}
     told("what is no key is refused", seen == {"TypeError"} and dict(it) == {b"a": 1}, f"{seen} {it}")
-    told("and is nowhere", not any(word in place for word in none
-                                   for place in (it, it.keys(), it.items(), it.values())))
+    told("and is nowhere", not any(word in place for word in none if word != [1]
+                                   for place in (it, it.keys(), it.items(), it.values(), ArtSet(it))))
+    seen = [outcome(lambda: word in place) for word in ([1], {}, [[]])
+            for place in (it, it.keys(), ArtSet(it), Art(key=str), Art(key=int).keys())]
+    seen += [outcome(lambda: ([], 1) in it.items()), outcome(ArtSet().discard, []), outcome(ArtSet(it).isdisjoint, [[]]),
+             outcome(lambda: it.keys() & [[]]), outcome(it.keys().count, []), outcome(it.index, [])]
+    told("what no dict can have is refused, as there", {*seen} == {"TypeError"}, repr(seen))
+    told("but a set, as by a set", {1} not in ArtSet(it) and frozenset() not in it and [] not in it.values())
     for kind in (bytearray, memoryview, Lying, lambda word: memoryview(word[::-1])[::-1]):
         it[kind(b"key")] = 5
         is_right = type(it.last()[0]) is bytes and it.pop(kind(b"key")) == 5 and dict(it) == {b"a": 1}
@@ -93,7 +103,7 @@ def errors(told):
                  lambda: it.next(b"a", other=1), lambda: it.range(inclusive=True), lambda: it.range(inclusive=(1,)),
                  lambda: it.get(), lambda: it.get(b"a", 1, 2), lambda: Art(1), lambda: Art([], []),
                  lambda: Art(key=float),
-                 lambda: Art({1: 1}, key=str), lambda: it.popitem(0), lambda: it.peekitem("a"), lambda: it.update(a=1),
+                 lambda: Art({1: 1}, key=str), lambda: it.popitem("a"), lambda: it.peekitem("a"), lambda: it.update(a=1),
                  lambda: hash(it), lambda: it < it, lambda: it | 5, lambda: it + it, lambda: type(iter(it))(),
                  lambda: type(it.keys())(), lambda: it.prefix(b"a", reverse=Art), lambda: ArtSet([1])):
         told("what is called wrongly", outcome(call) == "TypeError"
@@ -126,6 +136,39 @@ def texts(told):
     told("bytes are no texts", outcome(it.get, b"Town") == "TypeError"
          and b"Town" not in it and it != Art({b"Town": 1}))
     told("long texts", Art({"é" * 3000: 1, "x" * 65: 2}, key=str).first() == ("x" * 65, 2))
+
+
+def nested(told):
+    """Keys of bytes that begin one another: blocks of addresses, routes, and any bytes at random."""
+    rng = random.Random(9)
+    model = {bytes(rng.choices([0, 1, 2, 255], k=rng.randint(0, 7))): at for at in range(3000)}
+    it = Art(model, key=Ended)
+    told("bytes that begin others ascend", [*it] == sorted(model) and it == model and it.key is Ended, repr(it)[:300])
+    told("and are found", all(it[key] == at for key, at in model.items()) and {type(key) for key in it} == {bytes})
+    for _ in range(300):
+        query = bytes(rng.choices([0, 1, 2, 255], k=9))
+        wanted = [(key, model[key]) for key in sorted(model) if query.startswith(key)]
+        found = it.prefixes(query)
+        if found != wanted or it.longest_prefix(query) != max(wanted, default=None):
+            told("the prefixes of bytes", False, f"{query}: {found}, not {wanted}")
+    front = [key for key in sorted(model) if key.startswith(b"\1\0")]
+    told("a prefix of them", [key for key, _ in it.prefix(b"\1\0")] == front
+         and it.remove_prefix(b"\1\0") == len(front))
+    few = Art({b"/": 1, b"/api": 2, b"": 0}, key=Ended)
+    told("they are shown", eval(repr(few)) == few and repr(few) == "Art({b'': 0, b'/': 1, b'/api': 2}, key=Ended)",
+         repr(few))
+    told("and pickled", all(pickle.loads(pickle.dumps(few, protocol)).key is Ended
+                            for protocol in range(pickle.HIGHEST_PROTOCOL + 1)) and copy.deepcopy(few) == few)
+    told("a map of others is the same", few != Art({b"/": 1}) and Art({b"/": 1}, key=Ended) == Art({b"/": 1}))
+    told("a long key", Art([(b"\0" * 400, 1), (bytearray(b"\1") * 263, 2)], key=Ended).first() == (b"\0" * 400, 1))
+    of = ArtSet([b"/", b"/api/v1", b"/api"], key=Ended)
+    told("a set of them", repr(of) == "ArtSet([b'/', b'/api', b'/api/v1'], key=Ended)"
+         and of.prefixes(b"/api/v2") == [b"/", b"/api"] and of.longest_prefix(b"/api/v2") == b"/api", repr(of))
+    told("texts are no bytes", outcome(few.get, "/") == outcome(few.prefixes, "/") == "TypeError")
+    told("of others there is one prefix", Art({b"ab": 1, b"b": 2}).prefixes(b"abc") == [(b"ab", 1)]
+         and Art().prefixes(b"") == [] and outcome(Art(key=int).prefixes, 5) == "TypeError")
+    named = Art({"": 0, "é": 1, "é\0": 2, "é\0\ud800": 3}, key=str)
+    told("prefixes of texts", named.prefixes("é\0\ud800x") == [*named.items()] and named.prefixes("x") == [("", 0)])
 
 
 def numbers(told):
@@ -296,7 +339,7 @@ def views(told):
            of.keys() < keys | {b"x"}, keys | {b"x"} > of.keys(), of.keys() <= of.keys(), of.items() >= {(b"\1", 0)},
            of.keys().isdisjoint([5, "a"]), not of.keys().isdisjoint(of), of.keys() == dict(of).keys(),
            dict(of).keys() == of.keys(),
-           of.items() == dict(of).items(), of.keys().mapping is of,
+           of.items() == dict(of).items(), of.keys().mapping == of.items().mapping == of.values().mapping == of,
            of.items() & {(b"\1", 0), 5, (1, 2, 3)} == {(b"\1", 0)}]  # fmt: skip
     told("operations", all(ops), repr(ops))
     foreign = [5 in of.keys(), 5 in of.items(), (5, 0) in of.items(), 5 in of.values(), of.keys() == 5,
@@ -304,10 +347,128 @@ def views(told):
     told("of foreign types", not any(foreign), repr(foreign))
     told("what is no set", {outcome(lambda: of.keys() & 5), outcome(lambda: of.items() | None),
                             outcome(lambda: 5 - of.keys())} == {"TypeError"})
+    shown = of.keys().mapping
+    told("the map of a view can't be written through it", isinstance(shown, MappingProxyType) and shown[b"\1"] == 0
+         and not any(hasattr(shown, call) for call in ("__setitem__", "__delitem__", "clear", "update", "pop")))
     named = Art({"b": 2, "a": [1]}, key=str)
     told("texts of views", [repr(named.keys()), repr(named.values()), repr(named.items())] ==
          ["artmap.keys(['a', 'b'])", "artmap.values([[1], 2])", "artmap.items([('a', [1]), ('b', 2)])"],
          repr(named.items()))  # fmt: skip
+
+
+def places(told):
+    """Places in the order, beside those of a list."""
+    rng, low = random.Random(4), 40
+    keys = [*range(0, 3 * low, 3)]
+    it, of = Art(dict.fromkeys(keys, 0), key=int), ArtSet(keys, key=int)
+    views, wrong = (it.keys(), of), []
+
+    def any_place():
+        return rng.choice([None, rng.randint(-low - 9, low + 9)])
+
+    for _ in range(1500):
+        start, stop, key, at = any_place(), any_place(), rng.randint(-3, 3 * low), rng.randint(-low - 3, low + 3)
+        part, ends = slice(start, stop, rng.choice([None, 1, 2, 7, -1, -3])), [start or 0, low if stop is None else stop]
+        rows = [[outcome(lambda: one[part]), outcome(lambda: one[at]), outcome(lambda: one.index(key)),
+                 outcome(lambda: one.index(key, *ends)), outcome(lambda: one.count(key))] for one in (keys, *views)]
+        walks = [[*keys[start:stop]], keys[start:stop][::-1]]
+        rows += [[[*one.islice(start, stop)], [*one.islice(start, stop, reverse=True)]] for one in (it, *views)]
+        sides = [bisect.bisect_left(keys, key), bisect.bisect_right(keys, key)]
+        rows += [[one.bisect_left(key), one.bisect_right(key), one.bisect(key)] for one in (it, *views)]
+        if rows != [rows[0]] * 3 + [walks] * 3 + [[*sides, sides[1]]] * 3:
+            wrong.append((part, key, at, rows))
+    told("places are those of a list", not wrong, repr(wrong[:1]))
+    for _ in range(60):
+        part = rng.choice([slice(any_place(), any_place(), rng.choice([None, 2, -3])), rng.randint(-low, low - 1)])
+        left, ones = [*keys], [Art(it), ArtSet(of)]
+        del left[part], ones[0].keys()[part], ones[1][part]
+        if [*ones[0]] != left or [*ones[1]] != left:
+            told("what stands at places goes", False, f"{part}: {ones}, and not {left}")
+    big = 1 << 70
+    told("beyond 64 bits", [of.bisect(-big), of.bisect_left(big), outcome(of.index, big)] == [0, low, "ValueError"])
+    told("values and pairs have places, too", it.items()[-1] == (117, 0) and it.values()[:2] == [0, 0]
+         and it.popitem(0) == (0, 0) and it.popitem(-1) == (117, 0) and it.popitem(index=1) == (6, 0))
+    texts_of = ArtSet("hello world", key=str)
+    told("of texts", texts_of[1:4] == ["d", "e", "h"] and texts_of.index("l") == 4 and texts_of.bisect("m") == 5)
+    calls = [lambda: of["a"], lambda: of.index("a"), lambda: of.bisect("a"), lambda: it.islice("a"),
+             lambda: it.keys().__setitem__(0, 1), lambda: it.keys()[1.5], lambda: of.index(5), lambda: of[99],
+             lambda: of.__delitem__(99), lambda: it.index(3, 5), lambda: it.keys()[::0]]
+    seen = [outcome(call) for call in calls]
+    told("wrong places", seen == ["TypeError", "ValueError", *["TypeError"] * 4, "ValueError", *["IndexError"] * 2,
+                                  *["ValueError"] * 2], repr(seen))
+    walk = it.islice(5, 30)
+    for key in it.islice(2, 9):
+        del it[key]
+    told("a slice is walked while the map changes", len([*walk]) == 25 and len(it) == 30, repr(it))
+
+
+def walks_go_on(told):
+    """Walks are copied and pickled with what is left of them."""
+    it = Art(((number, [number]) for number in range(300)), key=int)
+    of = ArtSet(it, key=int)
+    makes = {
+        "keys": lambda: iter(it), "items": lambda: iter(it.items()), "values": lambda: iter(it.values()),
+        "reversed": lambda: reversed(it), "range": lambda: it.range(20, 250), "irange": lambda: it.irange(None, 99),
+        "islice": lambda: it.islice(3, 200), "down": lambda: it.islice(3, 200, reverse=True), "a set": lambda: iter(of),
+        "a set's irange": lambda: of.irange(5, 250, reverse=True), "none": lambda: it.irange(5, 4),
+    }  # fmt: skip
+    for name, make in makes.items():
+        for steps in (0, 1, 11, 12, 13, 60, 500):
+            walk, wanted = make(), [*make()][steps:]
+            [next(walk, None) for _ in range(steps)]
+            others = [copy.copy(walk), copy.deepcopy(walk), *(pickle.loads(pickle.dumps(walk, protocol))
+                                                              for protocol in range(pickle.HIGHEST_PROTOCOL + 1))]
+            found = [[*other] for other in (*others, walk)]
+            if found != [wanted] * len(found):
+                told(f"a walk is copied, {name}", False, f"after {steps}: {found}")
+    texts_of = ArtSet(["a\0", "a", "b"], key=str)
+    walk = texts_of.prefix("a")
+    next(walk)
+    other = copy.copy(walk)
+    texts_of.add("ab")
+    told("a copy of a walk goes along the map", [*other] == [*walk] == ["a\0", "ab"])
+    told("and a pickle has what was left", [*pickle.loads(pickle.dumps(texts_of.prefix("a")))] == ["a", "a\0", "ab"])
+
+
+class Given(ArtSet):
+    """A set whose __new__ and __init__ take more than keys, and which counts its ends."""
+
+    made = ended = 0
+
+    def __new__(cls, keys, more):
+        Given.made += 1
+        return super().__new__(cls)
+
+    def __init__(self, keys, more):
+        super().__init__(keys, key=str)
+        self.more = more
+
+    def __del__(self):
+        Given.ended += 1
+
+
+def sets(told):
+    it = Given("ab", 5)
+    told("one set is made, and none ends", (Given.made, Given.ended) == (1, 0), f"{Given.made} {Given.ended}")
+    it.__init__("xyz", 6)
+    it.symmetric_difference_update("z")
+    told("nor by another __init__", (Given.made, Given.ended, [*it], it.more) == (1, 0, ["x", "y"], 6), repr(it))
+    ones = [it | {"z"}, it - {"x"}, it & {"x"}, it ^ {"q"}, {"q"} | it, it.union("q"), it.copy(), copy.copy(it)]
+    told("others are of the class", {type(one) for one in ones} == {Given} and ones[-1].more == 6 and Given.made == 1)
+    told("an __init__ that fails leaves it", outcome(it.__init__, [5], 7) == "TypeError" and [*it] == ["x", "y"])
+    del ones
+    gc.collect()
+    Given.ended = 0
+    for make in (iter, reversed, lambda it: it.range("a"), lambda it: it.irange("a"), lambda it: it.prefix(""),
+                 lambda it: it.islice(0, 2)):
+        one = Given("ab", 5)
+        walk, there = make(one), weakref.ref(one)
+        del one
+        gc.collect()
+        is_kept = there() is not None and Given.ended == 0
+        told("a walk keeps its set", is_kept and len([*walk]) == 2 and there() is None and Given.ended == 1,
+             f"{there()} {Given.ended}")
+        Given.ended = 0
 
 
 def as_sorted_dict(told):
@@ -366,5 +527,6 @@ def as_sorted_dict(told):
 
 
 def cases(told):
-    for part in (words_of_all_kinds, errors, texts, numbers, walks, bulk, copies, views, as_sorted_dict):
+    for part in (words_of_all_kinds, errors, texts, nested, numbers, walks, bulk, copies, views, places,
+                 walks_go_on, sets, as_sorted_dict):
         part(told)

@@ -6,6 +6,7 @@ It prints a line for each case, and the last is 'N passed, M failed'.
 """
 import gc
 import sys
+import threading
 
 from artmap import Art
 from bindings_python_calls import CALLS, PAIRS, outcome
@@ -107,6 +108,28 @@ def interpreters():
     for _ in range(3):
         text = "import artmap; it = artmap.Art({b'a': []}); it[b'b'] = it; it | {b'c': 1}; assert [*it] == [b'a', b'b']"
         assert run_in_subinterp(text) == 0
+    if sys.version_info < (3, 12):
+        return "with locks of their own: not tried, Python has them from 3.12 on"
+    made = __import__("_interpreters" if sys.version_info >= (3, 13) else "_xxsubinterpreters")
+    each = [made.create() for _ in range(4)]
+    text = """if True:
+        import artmap, gc
+        for number in range(200):
+            it = artmap.Art({b"%03d" % at: [] for at in range(300)})
+            it[b"me"], of = it, artmap.ArtSet(map(str, range(50)), key=str)
+            for _ in range(60):
+                it = artmap.Art({b"in": it})
+            assert len(of) == 50 and of[0] == "0"
+        gc.collect()"""
+    threads = [threading.Thread(target=made.run_string, args=(one, text)) for one in each]
+    for thread in threads:
+        thread.start()
+    for thread in threads:
+        thread.join(120)
+    for one in each:
+        made.run_string(one, "assert len(of) == 50")
+        made.destroy(one)
+    return f"{len(each)} with locks of their own"
 
 
 if __name__ == "__main__":

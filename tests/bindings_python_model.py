@@ -62,6 +62,9 @@ class Model(dict):
         return max((pair for pair in self.range() if self.begins(pair[0], query)), key=lambda it: len(it[0]),
                    default=None)
 
+    def prefixes(self, query):
+        return [pair for pair in self.range() if self.begins(pair[0], query)]
+
     def first(self):
         return next(iter(self.range()), None)
 
@@ -109,6 +112,10 @@ class Wrong:
     class Longest(Model):
         def longest_prefix(self, query):
             return next((pair for pair in self.range() if self.begins(pair[0], query)), None)
+
+    class Prefixes(Model):
+        def prefixes(self, query):
+            return super().prefixes(query)[::-1]
 
     class Load(Model):
         def load(self, pairs):

@@ -2,24 +2,27 @@
  *
  * A text is its UTF-8 and a zero: bytes that ascend as code points do. U+0000 and U+0001 become 01 01 and 01 02, so
  * that a zero is nowhere but at the end, and no text begins another. (A lone surrogate is written as UTF-8 would write
- * it.) A number is eight bytes, the most significant first, with its sign turned.
+ * it.) Bytes that may begin one another are written in the same way: 00 and 01 as 01 01 and 01 02, and a zero after
+ * all. A number is eight bytes, the most significant first, with its sign turned.
  */
 #include "_artmap.h"
 
-static const char *const NAMES[] = {"bytes or another buffer", "str", "int"};
+static const char *const NAMES[] = {"bytes or another buffer", "bytes or another buffer", "str", "int"};
 
-/* The codec of the type `bytes`, `str` or `int`. */
-int codec_of(PyObject *type, Codec *codec) {
+/* The codec of the type `bytes`, `Ended`, `str` or `int`. */
+int codec_of(State *state, PyObject *type, Codec *codec) {
     if (type == (PyObject *)&PyBytes_Type) *codec = OF_BYTES;
+    else if (type == state->ended) *codec = OF_ENDED;
     else if (type == (PyObject *)&PyUnicode_Type) *codec = OF_STR;
     else if (type == (PyObject *)&PyLong_Type) *codec = OF_INT;
-    else return PyErr_Format(PyExc_TypeError, "key must be bytes, str or int, not %R", type), -1;
+    else return PyErr_Format(PyExc_TypeError, "key must be bytes, Ended, str or int, not %R", type), -1;
     return 0;
 }
 
-PyObject *codec_type(Codec codec) {
-    PyTypeObject *types[] = {&PyBytes_Type, &PyUnicode_Type, &PyLong_Type};
-    return kept((PyObject *)types[codec]);
+PyObject *codec_type(State *state, Codec codec) {
+    PyObject *types[] = {(PyObject *)&PyBytes_Type, state->ended, (PyObject *)&PyUnicode_Type,
+                         (PyObject *)&PyLong_Type};
+    return kept(types[codec]);
 }
 
 static Place refused(Codec codec, PyObject *it) {
@@ -41,6 +44,24 @@ static Place bytes_key(PyObject *it, Key *key) {
         if (!key->held) return FAILED;
     }
     key->bytes = (const uint8_t *)PyBytes_AsString(key->held), key->len = (size_t)PyBytes_Size(key->held);
+    return WITHIN;
+}
+
+/* Bytes, with an end mark where they are no prefix. */
+static Place ended_key(PyObject *it, bool is_prefix, Key *key) {
+    if (bytes_key(it, key) != WITHIN) return FAILED;
+    size_t marks = 0;
+    for (size_t at = 0; at < key->len; at++) marks += key->bytes[at] < 2;
+    uint8_t *to = key->room, *end;
+    if (key->len + marks + 1 > sizeof key->room) to = key->block = PyMem_Malloc(key->len + marks + 1);
+    if (!to) return PyErr_NoMemory(), FAILED;
+    end = to;
+    for (size_t at = 0; at < key->len; at++) {
+        if (key->bytes[at] < 2) *end++ = 1, *end++ = (uint8_t)(key->bytes[at] + 1);
+        else *end++ = key->bytes[at];
+    }
+    if (!is_prefix) *end++ = 0;
+    key->bytes = to, key->len = (size_t)(end - to);
     return WITHIN;
 }
 
@@ -97,12 +118,15 @@ static Place number_key(PyObject *it, Key *key) {
     return WITHIN;
 }
 
-/* The bytes of an object as a key of the codec, or of a text as a prefix. */
+/* The bytes of an object as a key of the codec, or as a prefix. */
 Place key_slowly(Codec codec, PyObject *it, bool is_prefix, Key *key) {
     key->codec = codec, key->held = NULL, key->block = NULL;
-    return codec == OF_BYTES ? bytes_key(it, key)
-           : codec == OF_STR ? text_key(it, is_prefix, key)
-                             : number_key(it, key);
+    switch (codec) {
+    case OF_BYTES: return bytes_key(it, key);
+    case OF_ENDED: return ended_key(it, is_prefix, key);
+    case OF_STR: return text_key(it, is_prefix, key);
+    default: return number_key(it, key);
+    }
 }
 
 Place prefix_of(Codec codec, PyObject *it, Key *key) {
@@ -112,27 +136,69 @@ Place prefix_of(Codec codec, PyObject *it, Key *key) {
     return FAILED;
 }
 
-/* A text that has bytes 01 in its key. */
-static PyObject *text_unmarked(const uint8_t *bytes, size_t len) {
-    char few[264] = "", *plain = len <= sizeof few ? few : PyMem_Malloc(len);
-    if (!plain) return PyErr_NoMemory();
-    size_t count = 0;
-    for (size_t at = 0; at < len; at++) {
-        bool is_marked = bytes[at] == 1 && at + 1 < len;
-        plain[count++] = (char)(is_marked ? bytes[++at] - 1 : bytes[at]);
-    }
-    PyObject *text = PyUnicode_DecodeUTF8(plain, (Py_ssize_t)count, "surrogatepass");
-    if (plain != few) PyMem_Free(plain);
+/* Whether an object that was refused as a key is merely of another type, so that it is not in the map, as no dict would
+ * have it; then no exception is set. What can't be in any dict or set raises as it does there. */
+int is_foreign(PyObject *it) {
+    if (!PyErr_ExceptionMatches(PyExc_TypeError)) return 0;
+    PyErr_Clear();
+    return PyAnySet_Check(it) || PyObject_Hash(it) != -1;
+}
+
+_Static_assert(sizeof(wchar_t) == 4, "a wchar_t has a code point");
+
+/* Whether bytes are the UTF-8 of a text as it is: no 01 is in them, which marks another, and no lone surrogate. */
+static bool is_plain(const uint8_t *bytes, size_t len) {
+    const uint8_t *end = bytes + len;
+    if (memchr(bytes, 1, len)) return false;
+    for (const uint8_t *at = bytes; (at = memchr(at, 0xED, (size_t)(end - at)));)
+        if (++at < end && *at >= 0xA0) return false;
+    return true;
+}
+
+/* The code point at `at`, which goes on to the next one. */
+static wchar_t next_char(const uint8_t **at, const uint8_t *end) {
+    uint32_t it = *(*at)++;
+    if (it == 1 && *at < end) return (wchar_t)(*(*at)++ - 1);
+    if (it < 0x80) return (wchar_t)it;
+    int more = it < 0xE0 ? 1 : it < 0xF0 ? 2 : 3;
+    for (it &= 0x3Fu >> more; more-- && *at < end;) it = it << 6 | (*(*at)++ & 0x3F);
+    return (wchar_t)it;
+}
+
+/* A text of code points. (Python's decoder of UTF-8 asks a handler for each lone surrogate. Anybody may register one,
+ * and what it is given is made anew, so that the collector may run.) */
+static PyObject *text_of_chars(const uint8_t *bytes, size_t len) {
+    wchar_t few[128] = {0}, *chars = len <= 128 ? few : PyMem_Malloc(len * sizeof *chars);
+    if (!chars) return PyErr_NoMemory();
+    Py_ssize_t count = 0;
+    for (const uint8_t *at = bytes, *end = bytes + len; at < end;) chars[count++] = next_char(&at, end);
+    PyObject *text = PyUnicode_FromWideChar(chars, count);
+    if (chars != few) PyMem_Free(chars);
     return text;
 }
 
-/* The object of a key: always of the very type `bytes`, `str` or `int`. */
+/* Bytes that have marks in them. */
+static PyObject *bytes_unmarked(const uint8_t *bytes, size_t len) {
+    size_t marks = 0;
+    for (size_t at = 0; at + 1 < len; at++)
+        if (bytes[at] == 1) marks++, at++;
+    PyObject *made = PyBytes_FromStringAndSize(NULL, (Py_ssize_t)(len - marks));
+    char *to = made ? PyBytes_AsString(made) : NULL;
+    for (size_t at = 0; made && at < len; at++)
+        *to++ = (char)(bytes[at] == 1 && at + 1 < len ? bytes[++at] - 1 : bytes[at]);
+    return made;
+}
+
+/* The object of a key, with its end mark or without: always of the very type `bytes`, `str` or `int`. No code of
+ * Python's runs in this, but where it returns NULL: then nothing that was read of a map before is used any more. */
 PyObject *key_object(Codec codec, const uint8_t *bytes, size_t len) {
-    if (codec == OF_BYTES) return PyBytes_FromStringAndSize((const char *)bytes, (Py_ssize_t)len);
+    bool is_ended = codec == OF_ENDED || codec == OF_STR;
+    if (is_ended && len && bytes[len - 1] == 0) len--;
+    if (codec == OF_ENDED && memchr(bytes, 1, len)) return bytes_unmarked(bytes, len);
+    if (codec <= OF_ENDED) return PyBytes_FromStringAndSize((const char *)bytes, (Py_ssize_t)len);
     if (codec == OF_STR) {
-        if (len && bytes[len - 1] == 0) len--;
-        if (memchr(bytes, 1, len)) return text_unmarked(bytes, len);
-        return PyUnicode_DecodeUTF8((const char *)bytes, (Py_ssize_t)len, "surrogatepass");
+        if (!is_plain(bytes, len)) return text_of_chars(bytes, len);
+        return PyUnicode_DecodeUTF8((const char *)bytes, (Py_ssize_t)len, NULL);
     }
     uint64_t bits = 0;
     for (size_t at = 0; at < len; at++) bits = bits << 8 | bytes[at];

@@ -7,7 +7,7 @@
 State *state_of_type(PyTypeObject *type) {
     for (; type; type = (PyTypeObject *)PyType_GetSlot(type, Py_tp_base)) {
         PyObject *module = PyType_GetModule(type);
-        if (module && PyModule_GetDef(module) == &artmap_module) return (State *)PyModule_GetState(module);
+        if (module && is_artmap(module)) return (State *)PyModule_GetState(module);
         PyErr_Clear();
     }
     return PyErr_SetString(PyExc_TypeError, "it is no class of artmap"), NULL;
@@ -80,7 +80,7 @@ static int become_copy(Art *map, Art *of) {
 /* Sets the codec to what `key` names, or else to that of the map that is given. */
 static int set_codec(Art *map, PyObject *key, PyObject *given) {
     Codec codec = given && is_art(map->state, given) && !store_len(map) ? ((Art *)given)->codec : map->codec;
-    if (key && key != Py_None && codec_of(key, &codec)) return -1;
+    if (key && key != Py_None && codec_of(map->state, key, &codec)) return -1;
     if (codec != map->codec && store_len(map))
         return PyErr_SetString(PyExc_ValueError, "the map has keys of another type"), -1;
     map->codec = codec;
@@ -189,9 +189,7 @@ static int art_contains(PyObject *self, PyObject *it) {
     PyObject *value = value_of((Art *)self, it);
     Py_XDECREF(value);
     if (value || !PyErr_Occurred()) return value != NULL;
-    if (!PyErr_ExceptionMatches(PyExc_TypeError)) return -1;
-    PyErr_Clear();
-    return 0;
+    return is_foreign(it) ? 0 : -1;
 }
 
 /* The key and the default that a call is given, the default NULL where it is not. */
@@ -291,7 +289,8 @@ static PyObject *art_repr(PyObject *self) {
     if (entered > 0) text = PyUnicode_FromFormat("%S(...)", name);
     if (entered == 0) {
         PyObject *dict = store_len(map) ? dict_of(self) : PyUnicode_FromString("");
-        const char *kind = map->codec == OF_STR ? "key=str" : map->codec == OF_INT ? "key=int" : "";
+        static const char *const kinds[] = {"", "key=Ended", "key=str", "key=int"};
+        const char *kind = kinds[map->codec];
         const char *comma = store_len(map) && *kind ? ", " : "";
         if (dict && PyDict_Check(dict)) text = PyUnicode_FromFormat("%S(%R%s%s)", name, dict, comma, kind);
         else if (dict) text = PyUnicode_FromFormat("%S(%s)", name, kind);
@@ -338,8 +337,11 @@ static int is_equal(Art *map, PyObject *other) {
     Py_ssize_t len = PyObject_Size(other);
     if (len < 0) return -1;
     if ((size_t)len != store_len(map)) return 0;
-    if (is_art(map->state, other))
-        return !len || (((Art *)other)->codec == map->codec && has_same_pairs(map, other) > 0);
+    if (is_art(map->state, other)) {
+        Codec codec = ((Art *)other)->codec;
+        bool are_alike = codec == map->codec || (codec <= OF_ENDED && map->codec <= OF_ENDED);
+        return !len || (are_alike && has_same_pairs(map, other) > 0);
+    }
     if (PyDict_Check(other)) return has_same_pairs(map, other);
     PyObject *items = PyMapping_Items(other), *dict = items ? PyDict_New() : NULL;
     int is_same = dict && !PyDict_MergeFromSeq2(dict, items, 1) ? has_same_pairs(map, dict) : -1;
@@ -384,7 +386,8 @@ static PyObject *art_reduce(PyObject *self, PyObject *none) {
     (void)none;
     PyObject *state = Py_TYPE(self) == map->state->art ? kept(Py_None) : by_state("state_of", self, NULL);
     PyObject *make = state ? PyObject_GetAttrString(map->module, "_rebuilt") : NULL;
-    PyObject *kind = codec_type(map->codec), *items = make ? walk_all(map, ITEMS, false) : NULL, *found = NULL;
+    PyObject *kind = codec_type(map->state, map->codec), *found = NULL;
+    PyObject *items = make ? walk_all(map, ITEMS, false) : NULL;
     if (items) found = Py_BuildValue("O(OO)OOO", make, Py_TYPE(self), kind, state, Py_None, items);
     Py_XDECREF(state);
     Py_XDECREF(make);
@@ -423,7 +426,8 @@ static PyObject *art_sizeof(PyObject *self, PyObject *none) {
 
 static PyObject *art_key(PyObject *self, void *none) {
     (void)none;
-    return codec_type(((Art *)self)->codec);
+    Art *map = (Art *)self;
+    return codec_type(map->state, map->codec);
 }
 
 PyDoc_STRVAR(art_doc, "Art(pairs=(), /, *, key=bytes, **names): a sorted map from bytes to any objects, or from texts "
@@ -465,7 +469,7 @@ static PyMethodDef methods[] = {
 };
 
 static PyGetSetDef parts[] = {
-    {"key", art_key, NULL, PyDoc_STR("The type of the keys: bytes, str or int."), NULL},
+    {"key", art_key, NULL, PyDoc_STR("The type of the keys: bytes, Ended, str or int."), NULL},
     {NULL, NULL, NULL, NULL, NULL},
 };
 

@@ -1,7 +1,7 @@
 """A sorted set over Art."""
 from collections.abc import MutableSet, Set
 
-from ._artmap import Art
+from ._artmap import Art, _keeping
 from ._state import copy_state
 
 
@@ -9,13 +9,24 @@ def _key(pair):
     return None if pair is None else pair[0]
 
 
+def _put(map_, keys):
+    """Puts keys into a map. Where one fails, those before it stay."""
+    if isinstance(keys, (list, tuple, set, frozenset, dict, ArtSet)):
+        map_.update([(key, None) for key in keys])
+    else:
+        for key in keys:
+            map_[key] = None
+
+
 def _with_keys(it):
-    """What tells membership: the iterable itself where it does, else a list of it."""
-    return it if isinstance(it, (Set, Art, dict)) else list(it)
+    """What tells membership: the iterable itself where it does, else a set of it, which refuses what no set can have."""
+    return it if isinstance(it, (Set, Art, dict)) else frozenset(it)
 
 
 class ArtSet(MutableSet):
     """ArtSet(keys=(), /, *, key=bytes): a sorted set of bytes, of texts (key=str) or of numbers of 64 bits (key=int).
+
+    With key=Ended it has bytes that may begin one another.
 
     >>> from artmap import ArtSet
     >>> words = ArtSet(["tea", "to", "ten"], key=str)
@@ -35,22 +46,20 @@ class ArtSet(MutableSet):
     def __init__(self, keys=(), /, *, key=None):
         if key is None:
             key = keys._map.key if isinstance(keys, ArtSet) else self._map.key
-        if key is not self._map.key:
-            self._map = Art(key=key)
-        keys = self._new(keys)._map
-        self._map.clear()
-        self._map.update(keys)
+        made = Art(key=key)
+        _put(made, keys)
+        self._map = made
 
     def _new(self, keys=()):
-        """A set of this class, with keys of this type, made without its __init__."""
-        made = type(self).__new__(type(self))
+        """A set of this class, with keys of this type, made without its __new__ and __init__."""
+        made = ArtSet.__new__(type(self))
         made._map = Art(key=self._map.key)
-        made.update(keys)
+        _put(made._map, keys)
         return made
 
     @property
     def key(self):
-        """The type of the keys: bytes, str or int."""
+        """The type of the keys: bytes, Ended, str or int."""
         return self._map.key
 
     # One key.
@@ -67,6 +76,10 @@ class ArtSet(MutableSet):
         if key in self._map:
             self._map.pop(key, None)
 
+    def count(self, key):
+        """1 if a key is there, or else 0."""
+        return int(key in self._map)
+
     def remove(self, key):
         """Takes a key out. KeyError: it is not there."""
         del self._map[key]
@@ -82,11 +95,13 @@ class ArtSet(MutableSet):
     def __len__(self):
         return len(self._map)
 
+    # (A walk keeps the set, as one of a set does.)
+
     def __iter__(self):
-        return iter(self._map)
+        return _keeping(iter(self._map), self)
 
     def __reversed__(self):
-        return reversed(self._map)
+        return _keeping(reversed(self._map), self)
 
     def __repr__(self):
         kind = "" if self._map.key is bytes else f"key={self._map.key.__name__}"
@@ -99,7 +114,7 @@ class ArtSet(MutableSet):
 
     def copy(self):
         """A set of the same class with the same keys and attributes."""
-        made = type(self).__new__(type(self))
+        made = ArtSet.__new__(type(self))
         copy_state(self, made)
         made._map = self._map.copy()
         return made
@@ -133,17 +148,51 @@ class ArtSet(MutableSet):
 
     find = longest_prefix
 
+    def prefixes(self, query):
+        """The keys that begin a query, or equal it, in a list: the shortest first."""
+        return [key for key, _ in self._map.prefixes(query)]
+
     def range(self, start=None, stop=None, *, inclusive=(True, False), reverse=False):
         """Walks along the keys from start on and below stop, or as inclusive tells of the two bounds."""
-        return self._map.irange(start, stop, inclusive, reverse)
+        return self.irange(start, stop, inclusive, reverse)
 
     def irange(self, minimum=None, maximum=None, inclusive=(True, True), reverse=False):
         """Walks along the keys between two bounds, as that of sortedcontainers.SortedSet."""
-        return self._map.irange(minimum, maximum, inclusive, reverse)
+        return _keeping(self._map.irange(minimum, maximum, inclusive, reverse), self)
+
+    # Places in the order. (No node counts the keys below it: each of these walks.)
+
+    def __getitem__(self, index):
+        """The key at a place, or a list of those at the places of a slice. It walks to them from the nearer end."""
+        return self._map.keys()[index]
+
+    def __delitem__(self, index):
+        """Takes out the key at a place, or those at the places of a slice, one after the other."""
+        del self._map.keys()[index]
+
+    def bisect_left(self, key):
+        """How many keys are below a key, which need not be there. It walks along them."""
+        return self._map.bisect_left(key)
+
+    def bisect_right(self, key):
+        """How many keys are not above a key, which need not be there. It walks along them."""
+        return self._map.bisect_right(key)
+
+    bisect = bisect_right
+
+    def index(self, key, start=None, stop=None):
+        """The place of a key, from start on and before stop; else ValueError. It walks along the keys below it."""
+        return self._map.index(key, start, stop)
+
+    def islice(self, start=None, stop=None, reverse=False):
+        """Walks along the keys at the places of a slice. To the first of them it walks from an end."""
+        return _keeping(self._map.islice(start, stop, reverse), self)
+
+    # Prefixes, and many keys.
 
     def prefix(self, prefix, *, reverse=False):
         """Walks along the keys that begin with a prefix."""
-        return (key for key, _ in self._map.prefix(prefix, reverse=reverse))
+        return _keeping(self._map._prefix_keys(prefix, reverse=reverse), self)
 
     def remove_prefix(self, prefix):
         """Takes out all keys that begin with a prefix, and returns how many."""
@@ -165,11 +214,7 @@ class ArtSet(MutableSet):
     def update(self, *others):
         """Puts in the keys of other iterables. Where one fails, those before it stay."""
         for other in others:
-            if isinstance(other, (list, tuple, set, frozenset, dict, ArtSet)):
-                self._map.update([(key, None) for key in other])
-            else:
-                for key in other:
-                    self._map[key] = None
+            _put(self._map, other)
 
     def union(self, *others):
         """A set of the keys that are here or in another."""
@@ -191,7 +236,7 @@ class ArtSet(MutableSet):
     def difference_update(self, *others):
         """Takes out the keys that are in another."""
         for other in others:
-            for key in list(other):
+            for key in [*other]:
                 self.discard(key)
 
     def difference(self, *others):
@@ -201,7 +246,8 @@ class ArtSet(MutableSet):
 
     def symmetric_difference_update(self, other):
         """Takes out the keys that are in the other, and puts in those that it has beside them."""
-        both = self._new(other)
+        both = Art(key=self._map.key)
+        _put(both, other)
         for key in both:
             if key in self._map:
                 self.discard(key)

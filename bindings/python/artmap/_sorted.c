@@ -59,29 +59,41 @@ static PyObject *art_previous(PyObject *self, PyObject *const *args, Py_ssize_t 
     return neighbour("previous", true, (Art *)self, args, count, names);
 }
 
+/* The pair of what begins a query. It takes the value. */
+static PyObject *pair_of(const Key *query, Found found) {
+    PyObject *key = key_object(query->codec, query->bytes, found.len);
+    PyObject *pair = key ? PyTuple_Pack(2, key, found.value) : NULL;
+    Py_XDECREF(key);
+    Py_DECREF(found.value);
+    return pair;
+}
+
 static PyObject *art_find(PyObject *self, PyObject *query) {
     Art *map = (Art *)self;
-    PyObject *key = NULL, *value = NULL;
     Key it;
-    int found = prefix_of(map->codec, query, &it) == WITHIN ? store_find(map, &it, &key, &value) : -1;
+    Found found;
+    int is_found = prefix_of(map->codec, query, &it) == WITHIN ? store_find(map, &it, &found) : -1;
+    PyObject *pair = is_found > 0 ? pair_of(&it, found) : is_found ? NULL : kept(Py_None);
     key_end(&it);
-    return pair_or_none(found, key, value);
-}
-
-/* Pairs by their place, of which a negative one counts from the end. */
-
-/* The place that a word tells, -1 where it is not given. */
-static bool place_of(PyObject *word, Py_ssize_t *place) {
-    *place = word ? PyNumber_AsSsize_t(word, PyExc_IndexError) : -1;
-    return *place != -1 || !PyErr_Occurred();
-}
-
-static PyObject *pair_at(Art *map, Py_ssize_t place) {
-    PyObject *walk = walk_all(map, ITEMS, place < 0), *pair = NULL;
-    if (walk && !walk_skip(walk, place < 0 ? -(size_t)(place + 1) : (size_t)place)) pair = PyIter_Next(walk);
-    if (!pair && !PyErr_Occurred()) PyErr_Format(PyExc_IndexError, "there is no pair %zd", place);
-    Py_XDECREF(walk);
     return pair;
+}
+
+static PyObject *art_prefixes(PyObject *self, PyObject *query) {
+    Art *map = (Art *)self;
+    Key it;
+    Found *found = NULL;
+    size_t count = 0;
+    int status = prefix_of(map->codec, query, &it) == WITHIN ? 0 : -1;
+    if (!status && (status = store_prefixes(map, &it, &found, &count))) PyErr_NoMemory();
+    PyObject *list = status ? NULL : PyList_New(0);
+    while (count--) {
+        PyObject *pair = list ? pair_of(&it, found[count]) : (Py_DECREF(found[count].value), NULL);
+        if (list && (!pair || PyList_Append(list, pair))) Py_CLEAR(list);
+        Py_XDECREF(pair);
+    }
+    PyMem_Free(found);
+    key_end(&it);
+    return list;
 }
 
 static PyObject *art_peekitem(PyObject *self, PyObject *const *args, Py_ssize_t count, PyObject *names) {
@@ -92,28 +104,11 @@ static PyObject *art_peekitem(PyObject *self, PyObject *const *args, Py_ssize_t 
     return pair_at((Art *)self, place);
 }
 
-/* Takes a pair out that is neither the first nor the last. */
-static PyObject *take_at(Art *map, Py_ssize_t place) {
-    PyObject *pair = pair_at(map, place), *value = NULL, *taken = NULL;
-    Key key;
-    if (!pair) return NULL;
-    if (key_of(map->codec, PyTuple_GetItem(pair, 0), &key) == WITHIN) {
-        artmap_code code = store_take(map, &key, &value);
-        if (code == ARTMAP_DONE) taken = kept(pair);
-        else if (code == ARTMAP_NO_MEMORY) PyErr_NoMemory();
-        else PyErr_SetObject(PyExc_KeyError, PyTuple_GetItem(pair, 0));
-    }
-    key_end(&key);
-    Py_XDECREF(value);
-    Py_DECREF(pair);
-    return taken;
-}
-
 static PyObject *art_popitem(PyObject *self, PyObject *const *args, Py_ssize_t count, PyObject *names) {
     static const char *const known[] = {"index", NULL};
     PyObject *word = NULL, *key, *value, *pair;
     Py_ssize_t place;
-    if (!are_words("popitem", known, 0, 0, args, count, names, &word) || !place_of(word, &place)) return NULL;
+    if (!are_words("popitem", known, 0, 1, args, count, names, &word) || !place_of(word, &place)) return NULL;
     if (place != 0 && place != -1 && store_len((Art *)self)) return take_at((Art *)self, place);
     /* (what is returned is there before the pair goes) */
     if (!(pair = PyTuple_New(2))) return NULL;
@@ -181,19 +176,27 @@ static PyObject *art_irange(PyObject *self, PyObject *const *args, Py_ssize_t co
     return back < 0 ? NULL : between((Art *)self, KEYS, words[0], words[1], inclusive, back);
 }
 
-static PyObject *art_prefix(PyObject *self, PyObject *const *args, Py_ssize_t count, PyObject *names) {
+static PyObject *with_prefix(Art *map, Kind kind, PyObject *const *args, Py_ssize_t count, PyObject *names) {
     static const char *const known[] = {"prefix", "reverse", NULL};
-    Art *map = (Art *)self;
     PyObject *words[2] = {NULL, NULL}, *walk = NULL;
     if (!are_words("prefix", known, 1, 1, args, count, names, words)) return NULL;
     int back = is_true(words[1]);
     Key key = {.held = NULL};
     if (back >= 0 && prefix_of(map->codec, words[0], &key) == WITHIN) {
         artmap_span span = {back, ARTMAP_FROM_END, ARTMAP_WITH_PREFIX, NULL, 0, key.bytes, key.len};
-        walk = walk_new(map, ITEMS, &span);
+        walk = walk_new(map, kind, &span);
     }
     key_end(&key);
     return walk;
+}
+
+static PyObject *art_prefix(PyObject *self, PyObject *const *args, Py_ssize_t count, PyObject *names) {
+    return with_prefix((Art *)self, ITEMS, args, count, names);
+}
+
+/* (For ArtSet.) */
+static PyObject *art_prefix_keys(PyObject *self, PyObject *const *args, Py_ssize_t count, PyObject *names) {
+    return with_prefix((Art *)self, KEYS, args, count, names);
 }
 
 static PyObject *art_remove_prefix(PyObject *self, PyObject *prefix) {
@@ -238,14 +241,21 @@ PyMethodDef sorted_methods[] = {
          ">>> routes.longest_prefix('10.2.7.1'), routes.longest_prefix('10.3.0.1'), routes.longest_prefix('9')\n"
          "(('10.2.', 'lab'), ('10.', 'all'), None)\n")},
     {"find", art_find, METH_O, DOC("find($self, query, /)", "The same as longest_prefix.")},
+    {"prefixes", art_prefixes, METH_O,
+     DOC("prefixes($self, query, /)",
+         "The pairs whose keys begin a query, or equal it, in a list: the shortest first. (Of keys of bytes that begin\n"
+         "no other one it has at most one.)\n\n"
+         ">>> routes = Art({b'/': 'home', b'/api': 'calls', b'/api/v1': 'old'}, key=Ended)\n"
+         ">>> routes.prefixes(b'/api/v2')\n"
+         "[(b'/', 'home'), (b'/api', 'calls')]\n")},
     {"peekitem", BY_NAMES(art_peekitem),
      DOC("peekitem($self, index=-1)",
-         "The pair at a place, of which a negative one counts from the end; else IndexError. It walks to it, from the\n"
-         "start or from the end.\n\n"
+         "The pair at a place, of which a negative one counts from the end; else IndexError. It walks to it from the\n"
+         "nearer end.\n\n"
          ">>> Art({3: 'c', 1: 'a', 2: 'b'}, key=int).peekitem(1)\n"
          "(2, 'b')\n")},
     {"popitem", BY_NAMES(art_popitem),
-     DOC("popitem($self, *, index=-1)",
+     DOC("popitem($self, index=-1)",
          "Takes the last pair out, or that at a place, and returns it. KeyError: the map is empty.")},
     {"range", BY_NAMES(art_range),
      DOC("range($self, start=None, stop=None, *, inclusive=(True, False), reverse=False)",
@@ -261,6 +271,7 @@ PyMethodDef sorted_methods[] = {
          "Walks along the pairs whose keys begin with a prefix.\n\n"
          ">>> list(Art({b'ape': 1, b'cat': 2, b'cow': 3}).prefix(b'c', reverse=True))\n"
          "[(b'cow', 3), (b'cat', 2)]\n")},
+    {"_prefix_keys", BY_NAMES(art_prefix_keys), NULL},
     {"remove_prefix", art_remove_prefix, METH_O,
      DOC("remove_prefix($self, prefix, /)",
          "Takes out all pairs whose keys begin with a prefix, or none for want of memory, and returns how many.\n\n"

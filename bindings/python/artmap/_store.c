@@ -180,64 +180,89 @@ int store_take_end(Art *map, bool is_last, PyObject **key, PyObject **value) {
     artmap_words_pair pair;
     artmap_span span = {is_last, ARTMAP_FROM_END, ARTMAP_TO_END, NULL, 0, NULL, 0};
     int found;
+    bool is_refused = false;
     *key = NULL;
     ALONE(map)
     found = first_key(&map->store, &span, &room, few, &pair);
     if (found > 0 && !(*key = key_object(map->codec, room, pair.key_len))) found = -1;
     if (found > 0) {
-        if (artmap_words_remove(&map->store.tree, room, pair.key_len, NULL) == ARTMAP_DONE) {
+        is_refused = artmap_words_remove(&map->store.tree, room, pair.key_len, NULL) != ARTMAP_DONE;
+        if (!is_refused) {
             *value = taken_out(&map->store, pair.word);
             map->changes++;
-        } else {
-            PyErr_NoMemory();
-            found = -1;
         }
         tidy(&map->store);
     }
     END_ALONE
     if (room != few) PyMem_Free(room);
-    if (found < 0) Py_CLEAR(*key);
-    return found;
+    if (!is_refused) return found;
+    Py_CLEAR(*key);
+    return PyErr_NoMemory(), -1;
 }
 
-/* The longest stored text that begins a query, which has no end mark and room for one. The greatest key that is not
- * above the query either begins it, or has in common with it whatever does. */
-static int find_text(Art *map, Key *query, PyObject **key, PyObject **value) {
-    uint8_t few[FEW], *room = few, *text = (uint8_t *)query->bytes;
+/* The longest stored key that begins a query, but for its end mark, for which the query has room. The greatest key that
+ * is not above the query either begins it, or has in common with it whatever does. Returns as store_first does. */
+static int find_ended(Store *store, uint8_t *query, size_t len, size_t *key_len, uint64_t *word) {
+    uint8_t few[FEW], *room = few;
     artmap_words_pair pair;
     int found;
-    for (size_t len = query->len, same = 0;; len = same) {
-        text[len] = 0;
-        artmap_span down = {true, ARTMAP_FROM_KEY, ARTMAP_TO_END, text, len + 1, NULL, 0};
-        found = first_key(&map->store, &down, &room, few, &pair);
+    for (size_t same = 0;; len = same) {
+        uint8_t had = query[len];
+        query[len] = 0;
+        artmap_span down = {true, ARTMAP_FROM_KEY, ARTMAP_TO_END, query, len + 1, NULL, 0};
+        found = first_key(store, &down, &room, few, &pair);
+        query[len] = had;
         if (found <= 0) break;
-        for (same = 0; same < len && same < pair.key_len - 1 && room[same] == text[same];) same++;
+        for (same = 0; same < len && same < pair.key_len - 1 && room[same] == query[same];) same++;
         if (same == pair.key_len - 1) break;
     }
-    if (found > 0) {
-        *key = key_object(OF_STR, room, pair.key_len);
-        if (*key) *value = kept(map->store.slots[pair.word]);
-        else found = -1;
-    }
+    *key_len = pair.key_len - 1, *word = pair.word;
     if (room != few) PyMem_Free(room);
     return found;
 }
 
-/* The pair with the longest key that begins a query, or equals it. Returns as store_first does. */
-int store_find(Art *map, Key *query, PyObject **key, PyObject **value) {
-    int found = 0;
-    size_t len;
+/* The pair with the longest key that begins the first `len` bytes of a query, or equals them. Returns as store_first
+ * does. */
+static int find(Art *map, Key *query, size_t len, Found *found) {
     uint64_t word;
+    int is_found;
+    if (query->codec != map->codec) return 0;
+    if (query->codec != OF_BYTES) is_found = find_ended(&map->store, (uint8_t *)query->bytes, len, &found->len, &word);
+    else is_found = artmap_words_find(&map->store.tree, query->bytes, len, &found->len, &word) == ARTMAP_DONE;
+    if (is_found > 0) found->value = kept(map->store.slots[word]);
+    return is_found;
+}
+
+int store_find(Art *map, Key *query, Found *found) {
+    int is_found;
     ALONE(map)
-    if (query->codec != map->codec) found = 0;
-    else if (query->codec == OF_STR) found = find_text(map, query, key, value);
-    else if (artmap_words_find(&map->store.tree, query->bytes, query->len, &len, &word) == ARTMAP_DONE) {
-        *key = key_object(OF_BYTES, query->bytes, len);
-        if (*key) *value = kept(map->store.slots[word]);
-        found = *key ? 1 : -1;
+    is_found = find(map, query, query->len, found);
+    END_ALONE
+    return is_found;
+}
+
+/* Makes place for one more. */
+static bool has_place(Found **found, size_t count) {
+    if (count & (count - 1)) return true;
+    Found *more = PyMem_Realloc(*found, (count ? 2 * count : 1) * sizeof **found);
+    if (more) *found = more;
+    return more;
+}
+
+/* All pairs whose keys begin a query, or equal it, the longest first, in a block: 0, or -1 for want of memory, and then
+ * there may be some, too. They are the caller's. */
+int store_prefixes(Art *map, Key *query, Found **found, size_t *count) {
+    int is_found = 1;
+    *found = NULL, *count = 0;
+    ALONE(map)
+    for (size_t len = query->len; is_found > 0;) {
+        is_found = has_place(found, *count) ? find(map, query, len, *found + *count) : -1;
+        if (is_found <= 0) break;
+        len = (*found)[(*count)++].len;
+        if (!len-- || query->codec == OF_BYTES) break;
     }
     END_ALONE
-    return found;
+    return is_found < 0 ? -1 : 0;
 }
 
 /* The words of all keys with a prefix, in `few`, which has SOME places, or in a block. NULL: no memory. */
@@ -351,7 +376,8 @@ static void drop(Store *store) {
 }
 
 /* Frees what no map has any more. Maps in maps in maps.. are freed one after the other, so that they don't need a stack
- * as deep as they are nested. */
+ * as deep as they are nested. (What waits is freed by the interpreter that has it, and no other, which a finalizer may
+ * call.) */
 void store_drop(Store store) {
     typedef struct Waiting {
         Store store;
@@ -359,7 +385,10 @@ void store_drop(Store store) {
     } Waiting;
     static _Thread_local Waiting *waiting;
     static _Thread_local int nested;
-    Waiting *it = nested >= NESTED ? PyMem_Malloc(sizeof *it) : NULL;
+    static _Thread_local PyInterpreterState *interpreter;
+    if (!nested) interpreter = PyInterpreterState_Get();
+    bool must_wait = nested >= NESTED && interpreter == PyInterpreterState_Get();
+    Waiting *it = must_wait ? PyMem_Malloc(sizeof *it) : NULL;
     if (it) {
         *it = (Waiting){store, waiting};
         waiting = it;

@@ -28,13 +28,15 @@ static int raise_with(PyObject *type, PyObject *text, PyObject *key, PyObject *s
 /* Raises ConflictError, which names the stored key. (Only keys of bytes are in conflict.) */
 static int raise_conflict(Art *map, PyObject *it) {
     Key key;
+    Found front;
     PyObject *stored = NULL, *value = NULL, *text;
     if (key_of(OF_BYTES, it, &key) == WITHIN) {
-        int found = store_find(map, &key, &stored, &value);
+        int found = store_find(map, &key, &front);
         bool is_front = found > 0;
         artmap_span with = {false, ARTMAP_FROM_END, ARTMAP_WITH_PREFIX, NULL, 0, key.bytes, key.len};
         if (!found) found = store_first(map, &with, &stored, &value);
-        if (found >= 0) {
+        else if (is_front) value = front.value, stored = key_object(OF_BYTES, key.bytes, front.len);
+        if (found >= 0 && (stored || !is_front)) {
             text = !found     ? PyUnicode_FromFormat("%R begins a stored key, or a stored key begins it", it)
                    : is_front ? PyUnicode_FromFormat("the stored key %R begins %R", stored, it)
                               : PyUnicode_FromFormat("%R begins the stored key %R", it, stored);
@@ -274,8 +276,13 @@ int update_by(Art *map, PyObject *given, PyObject *names) {
         }
     }
     PyObject *name, *value;
-    for (Py_ssize_t at = 0; !status && names && PyDict_Next(names, &at, &name, &value);)
+    for (Py_ssize_t at = 0; !status && names && PyDict_Next(names, &at, &name, &value);) {
+        Py_INCREF(name);
+        Py_INCREF(value);
         status = put_object(map, name, value);
+        Py_DECREF(name);
+        Py_DECREF(value);
+    }
     return status;
 }
 

@@ -8,6 +8,8 @@ typedef struct View {
 
 static Art *map_of(PyObject *self) { return ((View *)self)->map; }
 
+Art *view_map(PyObject *view) { return map_of(view); }
+
 PyObject *view_new(PyTypeObject *type, Art *map) {
     View *view = (View *)((allocfunc)PyType_GetSlot(type, Py_tp_alloc))(type, 0);
     if (view) view->map = (Art *)kept((PyObject *)map);
@@ -62,7 +64,19 @@ static PyObject *view_repr(PyObject *self) {
 
 static PyObject *view_mapping(PyObject *self, void *none) {
     (void)none;
-    return kept((PyObject *)map_of(self));
+    return PyDictProxy_New((PyObject *)map_of(self));
+}
+
+static PyObject *view_at(PyObject *self, PyObject *place) { return at_place(map_of(self), kind_of(self), place); }
+
+static int keys_del(PyObject *self, PyObject *place, PyObject *value) {
+    if (!value) return del_place(map_of(self), place);
+    return PyErr_SetString(PyExc_TypeError, "no place of the keys can be assigned to"), -1;
+}
+
+static PyObject *keys_count(PyObject *self, PyObject *key) {
+    int count = PySequence_Contains((PyObject *)map_of(self), key);
+    return count < 0 ? NULL : PyLong_FromLong(count);
 }
 
 /* Membership, by the map: what is no key or no pair is not in it. */
@@ -76,7 +90,7 @@ static int items_contains(PyObject *self, PyObject *it) {
     Place place = key_of(map->codec, PyTuple_GetItem(it, 0), &key);
     PyObject *value = place == WITHIN ? store_get(map, &key) : NULL;
     key_end(&key);
-    if (place == FAILED) return PyErr_ExceptionMatches(PyExc_TypeError) ? PyErr_Clear(), 0 : -1;
+    if (place == FAILED) return is_foreign(PyTuple_GetItem(it, 0)) ? 0 : -1;
     int is_same = value ? PyObject_RichCompareBool(value, PyTuple_GetItem(it, 1), Py_EQ) : 0;
     Py_XDECREF(value);
     return is_same;
@@ -178,24 +192,38 @@ static PyMethodDef methods_of_values[] = {
     {"__reversed__", view_reversed, METH_NOARGS, NULL},
     {NULL, NULL, 0, NULL},
 };
+static PyMethodDef methods_of_keys[] = {
+    {"__reversed__", view_reversed, METH_NOARGS, NULL},
+    {"isdisjoint", view_isdisjoint, METH_O, PyDoc_STR("Whether nothing is in both.")},
+    {"count", keys_count, METH_O, PyDoc_STR("count($self, key, /)\n--\n\n1 if a key is there, or else 0.")},
+    {NULL, NULL, 0, NULL},
+};
 static PyGetSetDef parts[] = {
-    {"mapping", view_mapping, NULL, PyDoc_STR("The map."), NULL},
+    {"mapping", view_mapping, NULL, PyDoc_STR("The map, to be read."), NULL},
     {NULL, NULL, NULL, NULL, NULL},
 };
 
 #define OF_EACH                                                                                                        \
     {Py_tp_new, no_new}, {Py_tp_iter, view_iter}, {Py_tp_repr, view_repr}, {Py_tp_getset, parts},                      \
-        {Py_tp_traverse, view_traverse}, {Py_tp_dealloc, view_dealloc}, {                                              \
+        {Py_tp_traverse, view_traverse}, {Py_tp_dealloc, view_dealloc}, {Py_mp_subscript, view_at}, {                  \
         Py_sq_length, view_len                                                                                         \
     }
 #define OF_SETS                                                                                                        \
-    {Py_tp_methods, methods}, {Py_tp_richcompare, view_compare}, {Py_nb_and, view_and}, {Py_nb_or, view_or},           \
+    {Py_tp_richcompare, view_compare}, {Py_nb_and, view_and}, {Py_nb_or, view_or},                                     \
         {Py_nb_subtract, view_sub}, {Py_nb_xor, view_xor}, {                                                           \
         Py_tp_hash, PyObject_HashNotImplemented                                                                        \
     }
 
-static PyType_Slot slots_of_keys[] = {OF_EACH, OF_SETS, {Py_sq_contains, keys_contains}, {0, NULL}};
-static PyType_Slot slots_of_items[] = {OF_EACH, OF_SETS, {Py_sq_contains, items_contains}, {0, NULL}};
+static PyType_Slot slots_of_keys[] = {
+    OF_EACH,
+    OF_SETS,
+    {Py_tp_methods, methods_of_keys},
+    {Py_sq_contains, keys_contains},
+    {Py_mp_ass_subscript, keys_del},
+    {0, NULL},
+};
+static PyType_Slot slots_of_items[] = {
+    OF_EACH, OF_SETS, {Py_tp_methods, methods}, {Py_sq_contains, items_contains}, {0, NULL}};
 static PyType_Slot slots_of_values[] = {OF_EACH, {Py_tp_methods, methods_of_values}, {0, NULL}};
 
 enum { FLAGS = Py_TPFLAGS_DEFAULT | Py_TPFLAGS_HAVE_GC };

@@ -10,7 +10,8 @@ enum { FEW = 12, FEW_BYTES = 448, MANY = 256, MANY_BYTES = 1 << 14, LONG = 1 << 
 
 struct Walk {
     PyObject_HEAD
-    Art *map; /* NULL at its end */
+    Art *map;        /* NULL at its end */
+    PyObject *owner; /* what is kept beside the map, or NULL */
     Kind kind;
     artmap_span span; /* what is left; its keys stand in `from` and `to` */
     uint8_t *from, *to;
@@ -19,6 +20,7 @@ struct Walk {
     size_t at, count;     /* of the pairs that were copied, how many are told */
     const uint8_t *next;  /* the key of the next one */
     size_t told;          /* in all */
+    size_t left;          /* how many it may still tell; SIZE_MAX: all that there are */
     bool is_all, is_rest; /* whether the span is all pairs; whether no pair is left after those that were copied */
     uint8_t *room;
     artmap_words_pair *pairs;
@@ -34,14 +36,19 @@ static uint8_t *copied(const void *bytes, size_t len) {
     return copy;
 }
 
+/* A walk of a type that is at its end. */
+static Walk *walk_made(PyTypeObject *type) {
+    Walk *it = (Walk *)((allocfunc)PyType_GetSlot(type, Py_tp_alloc))(type, 0);
+    if (it) it->room = it->few_bytes, it->pairs = it->few_pairs;
+    return it;
+}
+
 /* A walk along a span, whose keys are copied. NULL: one that is at its end. */
 PyObject *walk_new(Art *map, Kind kind, const artmap_span *span) {
-    PyTypeObject *type = map->state->walk;
-    allocfunc alloc = (allocfunc)PyType_GetSlot(type, Py_tp_alloc);
-    Walk *it = (Walk *)alloc(type, 0);
+    Walk *it = walk_made(map->state->walk);
     if (!it || !span) return (PyObject *)it;
-    it->kind = kind, it->span = *span;
-    it->room = it->few_bytes, it->room_len = FEW_BYTES, it->pairs = it->few_pairs, it->places = FEW, it->wanted = FEW;
+    it->kind = kind, it->span = *span, it->left = SIZE_MAX;
+    it->room_len = FEW_BYTES, it->places = FEW, it->wanted = FEW;
     it->is_all = span->from == ARTMAP_FROM_END && span->to == ARTMAP_TO_END;
     if (it->is_all && store_len(map) > FEW) it->wanted = MANY;
     if (span->from != ARTMAP_FROM_END) {
@@ -103,6 +110,7 @@ static bool fetch(Walk *it) {
     if (it->wanted > MANY) it->wanted = MANY;
     if (it->wanted > it->places) grow(it, it->wanted, it->wanted == MANY ? MANY_BYTES : it->wanted * 32);
     size_t places = it->wanted < it->places ? it->wanted : it->places;
+    if (places > it->left) places = it->left;
     it->at = it->count = 0;
     artmap_code code;
     while ((code = artmap_words_walk(&it->map->store.tree, &it->span, it->room, it->room_len, it->pairs, places,
@@ -117,6 +125,7 @@ static bool fetch(Walk *it) {
 /* Whether a pair is there that can be told: 1; 0: the walk is at its end; -1: no memory. */
 static int has_next(Walk *it) {
     bool is_same = it->seen == it->map->changes;
+    if (!it->left) return 0;
     if (it->at < it->count && is_same) return 1;
     if (it->count && it->is_rest && is_same) return 0;
     if (!fetch(it)) return PyErr_NoMemory(), -1;
@@ -126,6 +135,7 @@ static int has_next(Walk *it) {
 static void step(Walk *it) {
     it->next += it->pairs[it->at++].key_len;
     it->told++;
+    if (it->left != SIZE_MAX) it->left--;
 }
 
 /* What is told of the next pair, and of a pair its two parts in `pair`. NULL: there is none, and `has_ended` is true,
@@ -164,48 +174,115 @@ static PyObject *walk_next(PyObject *self) {
         Py_END_ALLOW_THREADS
     }
     /* (the collector may run here, and in no line up to END_ALONE_2) */
-    PyObject *told = NULL, *pair = it->kind == ITEMS ? PyTuple_New(2) : NULL;
+    PyObject *told = NULL, *owner = NULL, *pair = it->kind == ITEMS ? PyTuple_New(2) : NULL;
     if (it->kind == ITEMS && !pair) return NULL;
     Art *map = map_of(it);
     if (!map) return Py_XDECREF(pair), NULL;
     ALONE_2(it, map)
     if (it->map) told = told_next(it, pair, &has_ended);
-    if (has_ended && it->map) it->map = NULL, Py_DECREF(map);
+    if (has_ended && it->map) it->map = NULL, owner = it->owner, it->owner = NULL, Py_DECREF(map);
     END_ALONE_2
     if (!told) Py_XDECREF(pair);
     Py_DECREF(map);
+    Py_XDECREF(owner);
     return told;
 }
 
-/* Passes by so many pairs, or as many as there are: 0, or -1 for want of memory. Nobody else has the walk. */
-int walk_skip(PyObject *self, size_t count) {
+/* Passes by so many pairs, or as many as there are, and returns how many, or -1 for want of memory. It lets other
+ * threads run now and then. */
+Py_ssize_t walk_skip(PyObject *self, size_t count) {
     Walk *it = (Walk *)self;
-    int found = 1;
-    ALONE(it->map)
-    for (; count && (found = has_next(it)) > 0; count--) step(it);
+    Art *map = map_of(it);
+    size_t passed = 0;
+    int found = map != NULL;
+    while (found > 0 && passed < count) {
+        size_t end = count - passed < LONG ? count : passed + LONG;
+        ALONE_2(it, map)
+        for (; passed < end && (found = it->map ? has_next(it) : 0) > 0; passed++) step(it);
+        END_ALONE_2
+        if (found <= 0 || passed == count) break;
+        Py_BEGIN_ALLOW_THREADS
+        Py_END_ALLOW_THREADS
+    }
+    Py_XDECREF((PyObject *)map);
+    return found < 0 ? -1 : (Py_ssize_t)passed;
+}
+
+/* Lets a walk tell so many more at most. Nobody else has it. */
+void walk_limit(PyObject *walk, size_t count) { ((Walk *)walk)->left = count; }
+
+/* Lets a walk keep an object up to its end, beside its map. Nobody else has it. */
+void walk_keep(PyObject *walk, PyObject *owner) {
+    if (((Walk *)walk)->map && !((Walk *)walk)->owner) ((Walk *)walk)->owner = kept(owner);
+}
+
+/* What is left of a walk along a map, in a new one. */
+static bool copy_rest(const Walk *it, Walk *to) {
+    const artmap_words_pair *last = it->at ? &it->pairs[it->at - 1] : NULL;
+    to->span = it->span;
+    if (last) to->span.from = ARTMAP_AFTER_KEY, to->span.from_len = last->key_len;
+    if (to->span.from != ARTMAP_FROM_END) {
+        to->from = copied(last ? it->next - last->key_len : it->from, to->span.from_len);
+        to->span.from_key = to->from, to->from_places = to->span.from_len + 1;
+    }
+    if (it->to) to->span.to_key = to->to = copied(it->to, it->span.to_len);
+    to->kind = it->kind, to->is_all = it->is_all, to->told = it->told, to->left = it->left;
+    to->room_len = FEW_BYTES, to->places = FEW, to->wanted = FEW;
+    if ((it->to && !to->to) || (to->span.from != ARTMAP_FROM_END && !to->from)) return false;
+    to->map = (Art *)kept((PyObject *)it->map), to->owner = it->owner;
+    Py_XINCREF(to->owner);
+    return true;
+}
+
+static PyObject *walk_copy(PyObject *self, PyObject *none) {
+    Walk *it = (Walk *)self, *to = walk_made(Py_TYPE(self));
+    bool is_made = true;
+    (void)none;
+    if (!to) return NULL;
+    ALONE(it)
+    if (it->map) is_made = copy_rest(it, to);
     END_ALONE
-    return found < 0 ? -1 : 0;
+    if (!is_made) Py_CLEAR(to);
+    return (PyObject *)to;
+}
+
+/* As the iterators of a dict are pickled: a list of what is left, and `iter`. */
+static PyObject *walk_reduce(PyObject *self, PyObject *none) {
+    PyObject *copy = walk_copy(self, none), *list = copy ? PySequence_List(copy) : NULL;
+    PyObject *module = list ? PyImport_ImportModule("builtins") : NULL;
+    PyObject *make = module ? PyObject_GetAttrString(module, "iter") : NULL;
+    PyObject *found = make ? Py_BuildValue("O(O)", make, list) : NULL;
+    Py_XDECREF(copy);
+    Py_XDECREF(list);
+    Py_XDECREF(module);
+    Py_XDECREF(make);
+    return found;
 }
 
 /* Of all pairs, those that are left as the map is now; of others, those that are copied. */
 static PyObject *walk_hint(PyObject *self, PyObject *none) {
     Walk *it = (Walk *)self;
     (void)none;
-    if (!it->map) return PyLong_FromLong(0);
-    size_t len = store_len(it->map);
-    return PyLong_FromSize_t(!it->is_all ? it->count - it->at : len > it->told ? len - it->told : 0);
+    Art *map = map_of(it);
+    if (!map) return PyLong_FromLong(0);
+    size_t len = store_len(map), hint = !it->is_all ? it->count - it->at : len > it->told ? len - it->told : 0;
+    Py_DECREF(map);
+    return PyLong_FromSize_t(hint < it->left ? hint : it->left);
 }
 
 static int walk_traverse(PyObject *self, visitproc visit, void *arg) {
     Py_VISIT(Py_TYPE(self));
     Py_VISIT((PyObject *)((Walk *)self)->map);
+    Py_VISIT(((Walk *)self)->owner);
     return 0;
 }
 
 static int walk_clear(PyObject *self) {
     Art *map = ((Walk *)self)->map;
-    ((Walk *)self)->map = NULL;
+    PyObject *owner = ((Walk *)self)->owner;
+    ((Walk *)self)->map = NULL, ((Walk *)self)->owner = NULL;
     Py_XDECREF(map);
+    Py_XDECREF(owner);
     return 0;
 }
 
@@ -225,6 +302,8 @@ static void walk_dealloc(PyObject *self) {
 
 static PyMethodDef methods[] = {
     {"__length_hint__", walk_hint, METH_NOARGS, NULL},
+    {"__copy__", walk_copy, METH_NOARGS, NULL},
+    {"__reduce__", walk_reduce, METH_NOARGS, NULL},
     {NULL, NULL, 0, NULL},
 };
 
