@@ -16,14 +16,16 @@ import subprocess
 import bindings_c_model as model
 import cases
 import quick
-from bindings_c_model import CONFLICT, CUT_OFF, DONE, NO_MEMORY, NOT_FOUND
+from bindings_c_model import CONFLICT, CUT_OFF, DONE, NO_MAP, NO_MEMORY, NOT_FOUND
 
 TOP = cases.TOP
 WARNINGS = ["-Wall", "-Wextra", "-Werror", "-g"]
 EXAMPLES = ("films", "routes")
 STEPS, SCRIPTS = 400, 40
-CALLS = 37  # of tests/bindings_refused.c
-TAKE_NO_MEMORY = {2, 14, 19, 24, 25, 26, 27, 28, 29, 30, 34}
+CALLS = 52  # of tests/bindings_refused.c
+TAKE_NO_MEMORY = {2, 14, 19, 24, 25, 26, 27, 28, 29, 30, 34, 37, 38, 39, 40, 41, 44, 45, 46, 48, 49, 50, 51}
+OF_THE_OTHER_KIND = {37, 38, 39, 40, 41}  # a handle has no map of the call's kind: nothing is done
+
 COPY_A_KEY_IN_CONFLICT = {21, 23}  # where memory for it is refused, the conflict is told all the same
 LAY_OUT = {10, 18, 35, 36}  # a map is frozen out of order, and keeps room, where memory for the rest is refused
 # A library that is no part of this repository. It asks for memory, and gives it back.
@@ -79,6 +81,28 @@ def lengths(lib):
     code = lib.artmap_bytes_walk(at, ctypes.byref(model.Span()), view, size(huge), pairs, size(2), ctypes.byref(told_of))
     told("a walk into 2^32 bytes", (code, told_of.value, bytes(view[:8])) == (DONE, 2, b"avaluebx"), f"{code}")
     lib.artmap_bytes_free(at)
+
+
+def around_thirty(lib):
+    """Keys and values of 29 to 32 bytes: up to thirty stand in place, longer ones in a block."""
+    handle, size, told_of = model.Handle(), ctypes.c_size_t, ctypes.c_size_t(0)
+    at, room = ctypes.byref(handle), (ctypes.c_uint8 * 64)()
+    lib.artmap_bytes_new(at)
+    pairs = {bytes([n, m]) + b"k" * (n - 2): b"v" * (m - 1) + b"!" for n in range(29, 33) for m in range(29, 33)}
+    codes = [lib.artmap_bytes_put(at, key, size(len(key)), value, size(len(value))) for key, value in pairs.items()]
+    told("keys around thirty bytes go in", codes == [DONE] * 16, codes)
+    copy = model.Handle()
+    lib.artmap_bytes_clone(at, ctypes.byref(copy))
+    for handle_of, name in ((at, "there"), (ctypes.byref(copy), "in a copy")):
+        found = {}
+        for key in pairs:
+            lib.artmap_bytes_get(handle_of, key, size(len(key)), room, size(64), ctypes.byref(told_of))
+            found[key] = bytes(room[: told_of.value])
+        told(f"values around thirty bytes are {name}", found == pairs, found)
+    codes = [lib.artmap_bytes_remove(at, key, size(len(key))) for key in pairs]
+    told("keys around thirty bytes go out", codes == [DONE] * 16 and lib.artmap_bytes_len(at) == 0, codes)
+    for it in (at, ctypes.byref(copy)):
+        lib.artmap_bytes_free(it)
 
 
 def texts(lib, of):
@@ -154,18 +178,20 @@ def second(top):
 
 def refused(of, room):
     """Memory is refused at each request of each call: the map is as it was, and the call does its work once more."""
-    shim = cases.shim("refuse.c")
+    shim, exact = cases.shim("refuse.c"), {**os.environ, "GLIBC_TUNABLES": "glibc.malloc.tcache_count=0"}
     if not compiled(f"{TOP}/tests/bindings_refused.c", f"{room}/refused", of):
         return
     for call in range(CALLS):
-        free = run([f"{room}/refused", str(call)]).stdout.strip()
+        free = run([f"{room}/refused", str(call)], env=exact).stdout.strip()
+        is_none = free.startswith(f"{NO_MAP} kept {NO_MAP} ")
+        told(f"call {call}", is_none == (call in OF_THE_OTHER_KIND) and "leaks" not in free and "keeps" not in free, free)
         for rest in ("", "+"):
             number, is_right, why = 0, True, ""
             while is_right:
                 number += 1
                 traced = f"{room}/trace"
                 with open(traced, "w+b") as trace:
-                    env = {**os.environ, "LD_PRELOAD": shim, "REFUSE": f"{number}{rest}",
+                    env = {**exact, "LD_PRELOAD": shim, "REFUSE": f"{number}{rest}",
                            "REFUSE_TRACE": str(trace.fileno())}
                     ran = run([f"{room}/refused", str(call)], env=env, pass_fds=[trace.fileno()])
                     trace.seek(0)
@@ -195,6 +221,7 @@ def main():
     lib = model.loaded(f"{of}/libartmap.so")
     texts(lib, of)
     model.scripts(lib, told, SCRIPTS, STEPS)
+    around_thirty(lib)
     lengths(lib)
     TALLY.end()
 

@@ -3,8 +3,8 @@
 
     tests/calling.py      at the top of the repository
 Each Rust block of crates/art_NAME/README.md is a part of crates/callers/src/NAME.rt, letter for letter (for art_lines
-of engine.rt), and each library that has such callers shows one. uses/README.md has a section for each program
-crates/use_NAME: its Rust block is a part of src/main.rt, letter for letter, and its text blocks are stdin and stdout.
+of engine.rt), and each library that has such callers shows one. docs/USES.md has a link to the source of each program
+crates/use_NAME, and what is in backquotes in its paragraph stands in that source or in specs/.
 
 The benchmarks of perf/crates are callers, too. ./bench proves them, and rt ci may not: they read a clock. So each
 definition and lemma of a library that they cite has to stand where they cite it.
@@ -16,6 +16,7 @@ from glob import glob
 import cases
 
 CALLERS = "crates/callers/src"
+USES = "docs/USES.md"
 # Libraries whose callers stand among those of another one.
 CALLED_IN = {"art_lines": "art_engine"}
 BENCHES = "perf/crates"
@@ -50,16 +51,13 @@ def fault(name):
 
 
 def use_fault(name, page):
-    """Says where the section of a program parts from its files, or nothing."""
-    at = page.find(f"../crates/{name}/src/main.rt")
-    section = page[at:].split("\n## ")[0] if at >= 0 else ""
-    given, told, source = (read(f"crates/{name}/{it}") for it in ("stdin", "stdout", "src/main.rt"))
-    shown = blocks("rust", section)
-    if not shown or any(it not in source for it in shown):
-        return "uses/README.md shows what src/main.rt hasn't"
-    if blocks("text", section) != [given, told]:
-        return "uses/README.md shows another input or output"
-    return None
+    """Says what the paragraph of a program tells that its files haven't, or nothing."""
+    told = [it for it in re.split(r"\n(?:- |\n)", page) if f"(../crates/{name}/src/main.rt)" in it]
+    if len(told) != 1:
+        return f"{USES} has {len(told)} paragraphs with a link to its source"
+    texts = [read(it) for it in [f"crates/{name}/src/main.rt", *glob(f"crates/{name}/specs/**/*.antt", recursive=True)]]
+    lacking = [it for it in re.findall(r"`([^`]+)`", told[0]) if not any(it in text for text in texts)]
+    return f"{USES} names {', '.join(lacking)}, which its source and its specs/ haven't" if lacking else None
 
 
 def bench_fault(name):
@@ -79,7 +77,7 @@ def main():
     names = {f"art_{it}" for it in files if os.path.isdir(f"crates/art_{it}")} | {*CALLED_IN}
     faults = {name: fault(name) for name in sorted(names)}
     uses = sorted(it.split("/")[1] for it in glob("crates/use_*/src/main.rt"))
-    faults.update({name: use_fault(name, read("uses/README.md") or "") for name in uses})
+    faults.update({name: use_fault(name, read(USES) or "") for name in uses})
     faults.update({name: bench_fault(name) for name in sorted(os.listdir(BENCHES))})
     for name, why in faults.items():
         if told.wants(name):

@@ -3,19 +3,21 @@
 
     tests/documents.py           at the top of the repository; its last line is 'N passed, M failed'
     tests/documents.py --long    and the sentences of pages that have more than 25 words
-It proves nothing, and takes a second. It looks at these:
+It proves nothing, and takes some seconds. It looks at these:
 - The pages are those of PAGES, and one of each library and binding. No line of a page, source or definition is wider
   than 120 columns.
 - In a table of docs/PROOFS.md or README.md whose heads are 'Claim' and 'Carried by', each row names public calls of
   the crates in the heading above (of a program also those below it; in README.md of any) and, after a colon, clauses
   that these calls have. The clauses in the glossary of docs/PROOFS.md are those of some call.
 - Each public call of a library has a sentence and stands in out/proved.md, which tools/pages.py writes here.
-- Each link leads to a file that is there, and to a heading that it has; each path and
-  each name of a file in backquotes is there.
+- Each link leads to a file that is there, and to a heading that it has; each path and each name of a file in backquotes
+  is there. A name in backquotes, of several words put together, stands in some file that is no page.
 - Each block of Rust is a part of a program or caller that the gate runs; each edit shown is one that is there. (Lines
   and their replies are played by tests/program.py, the pages of the crates by tests/calling.py, blocks of Python by
   tests/bindings_python.py, those of a console by tests/packages.py.)
-- Dates and hashes stand in CHANGELOG.md and docs/PERFORMANCE.md alone. The picture there is drawn from its tables.
+- Dates and hashes stand in CHANGELOG.md and docs/PERFORMANCE.md alone, and each hash is of a commit that leads to this
+  one: so a clone of this branch alone has it. (In a shallow clone, which has no history, hashes are not looked at.) The
+  picture there is drawn from its tables.
 - docs/TESTING.md has a row for each part of ./test, in its order.
 - Sentences: in README.md and docs/TOUR.md the mean has at most 20 words; in each page at most one in ten has more than
   25, and none more than 40; none begins with what it denies.
@@ -31,21 +33,28 @@ import pages
 
 WIDTH, MEAN, LONG, LONGEST, PART = 120, 20, 25, 40, 0.1
 PAGES = ["README.md", "docs/INSTALL.md", "docs/LANGUAGE.md", "docs/TOUR.md", "docs/PROOFS.md", "docs/TESTING.md",
-         "CONTRIBUTING.md", "docs/DECISIONS.md", "docs/PERFORMANCE.md", "CHANGELOG.md", "tests/wrong/table.md", "uses/README.md"]
+         "CONTRIBUTING.md", "docs/DECISIONS.md", "docs/PERFORMANCE.md", "CHANGELOG.md", "tests/wrong/table.md", "docs/USES.md"]
 SHORT = ("README.md", "docs/TOUR.md")
 DATED = ("CHANGELOG.md", "docs/PERFORMANCE.md")
 MONTHS = "January|February|March|April|May|June|July|August|September|October|November|December"
 DATE = re.compile(rf"\b20\d\d-\d\d-\d\d\b|\b(?:{MONTHS}) \d")
 HASH = re.compile(r"\b(?=[0-9a-f]*[a-f])(?=[0-9a-f]*\d)[0-9a-f]{7,40}\b")
 DENIES = re.compile(r"(?:No|Not|Neither|Nor|Never|Nothing|None|Nobody|Nowhere)\b")
+# Names as `NodeArena` or `find_place`, and those of the kit.
+NAME = re.compile(r"\b(?:[A-Z]+[a-z]\w*[A-Z]\w*|[A-Za-z]\w*_\w*[A-Za-z])\b")
+OF_THE_KIT = {"also_shares"}
 FILE = re.compile(r"`((?:src/|specs/|proofs/)?[\w/]+\.(?:rt|antt|py|edits|lines|c|rs))`")
-PATH = re.compile(r"(?:\.ci|bindings|crates|docs|perf|tests|tools|uses)/[\w./-]+|[A-Z]+\.md|crates\.txt|proved\.txt|\./\w+")
+PATH = re.compile(r"(?:\.ci|bindings|crates|docs|perf|tests|tools)/[\w./-]+|[A-Z]+\.md|crates\.txt|proved\.txt|\./\w+")
 
 
 def files():
     words = ["git", "ls-files", "-co", "--exclude-standard"]
     found = subprocess.run(words, capture_output=True, text=True, check=True).stdout.splitlines()
     return [it for it in found if os.path.exists(it)]
+
+
+def without_blocks(page):
+    return re.sub(r"(?ms)^```.*?^```", "", pages.read(page))
 
 
 def lines_in(numbers):
@@ -151,13 +160,13 @@ def exported(crate):
 
 
 def anchors(page):
-    heads = re.findall(r"(?m)^#+ (.*)", re.sub(r"(?ms)^```.*?^```", "", pages.read(page)))
+    heads = re.findall(r"(?m)^#+ (.*)", without_blocks(page))
     return {re.sub(r"[^\w\- ]", "", it.lower()).replace(" ", "-") for it in heads}
 
 
 def of_links(page):
     text, folder = pages.read(page), os.path.dirname(page)
-    for target in re.findall(r"\]\(([^)\s]+)\)", re.sub(r"(?ms)^```.*?^```", "", text)):
+    for target in re.findall(r"\]\(([^)\s]+)\)", without_blocks(page)):
         path, _, anchor = target.partition("#")
         if re.match(r"\w+:", target):
             continue
@@ -178,6 +187,23 @@ def of_names(page):
         if not re.search(r"NAME|PART|SOURCE|FUNCTION|\bX\b|\ba/b\b", name):
             is_there = any(f"/{it}".endswith(f"/{name}") for it in known)
             yield f"{page}: {name}", "" if is_there else "no file has that name"
+
+
+def words_of_files():
+    """The words of all files but pages, and this one."""
+    found = set()
+    for path in files():
+        if not path.endswith((".md", ".svg", "tests/documents.py")):
+            with open(path, encoding="utf-8", errors="replace") as file:
+                found.update(re.findall(r"\w+", file.read()))
+    return found
+
+
+def of_words(page, known):
+    """Names of types and functions in backquotes: what was renamed is so found."""
+    told = " ".join(re.findall(r"`([^`\n]+)`", without_blocks(page)))
+    lacking = sorted({*NAME.findall(told)} - known - OF_THE_KIT)
+    yield f"{page}: names", f"no file has {', '.join(lacking)}" if lacking else ""
 
 
 def blocks(kind, page):
@@ -216,6 +242,18 @@ def of_parts():
     yield "docs/TESTING.md: the parts of ./test", "" if told == parts else f"it has {told}, and ./test {parts}"
 
 
+def of_commits(page):
+    """Each commit that a page names is this one or leads to it."""
+    asks = lambda *words: subprocess.run(["git", *words], capture_output=True, text=True)
+    if asks("rev-parse", "--is-shallow-repository").stdout.strip() == "true":
+        return
+    for name in sorted({*HASH.findall(without_blocks(page))}):
+        is_known = asks("cat-file", "-e", f"{name}^{{commit}}").returncode == 0
+        leads = is_known and asks("merge-base", "--is-ancestor", name, "HEAD").returncode == 0
+        why = "it doesn't lead to this commit" if is_known else "there is no such commit"
+        yield f"{page}: commit {name}", "" if leads else why
+
+
 # Language.
 
 
@@ -242,7 +280,7 @@ def of_language(page):
     told = list(sentences(page))
     sizes = [len(it.split()) for it in told]
     if page not in DATED:
-        text = re.sub(r"(?ms)^```.*?^```", "", pages.read(page))
+        text = without_blocks(page)
         found = DATE.findall(text) + HASH.findall(text)
         yield f"{page}: dates and hashes", f"it has {', '.join(found[:4])}" if found else ""
     if page in SHORT:
@@ -278,8 +316,9 @@ def main():
     rows += of_glossary(known)
     for page in ("README.md", "docs/PROOFS.md"):
         rows += of_claims(page, known) if page in found else []
+    words = words_of_files()
     for page in found:
-        rows += [*of_links(page), *of_names(page), *of_examples(page), *of_language(page)]
+        rows += [*of_words(page, words), *of_links(page), *of_names(page), *of_examples(page), *of_commits(page), *of_language(page)]
     told = cases.Tally()
     for name, why in rows:
         told.count(name, why, is_shown=False)

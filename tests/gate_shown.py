@@ -1,6 +1,7 @@
 #!/usr/bin/env python3
 """Shows what ./test says where the gate itself is at fault: a wrong record of what was proved or none, an edit that no
-longer applies or is let through, a part that is gone or ends without its counts. Each must fail it, with a clear line.
+longer applies or is let through, a crate that uses nothing of what it is to use, a part that is gone or ends without
+its counts. Each must fail it, with a clear line.
 
     tests/gate_shown.py     at the top of the repository; the last line is 'N passed, M failed'
 A tiny repository has ./test with the parts that tell of records and edits, and three that only say that they passed;
@@ -32,9 +33,9 @@ TABLE = "| Wrong body | Edits | Tried by | Function |\n|---|---|---|---|\n| a la
 PASSES = "print('1 passed, 0 failed')\n"
 # It says what rt ci has proved, by which the wrong bodies are tried.
 CI = f"import must_fail\nmust_fail.mark_tree()\n{PASSES}"
-OWN = ("cases.py", "edits.py", "record.py", "must_fail.py", "verdicts.py", "stubs.py", "processes.py", "proofs.py")
+OWN = ("cases.py", "edits.py", "listed.py", "record.py", "must_fail.py", "verdicts.py", "stubs.py", "processes.py", "proofs.py")
 OTHERS = ("words.py", "believed.py", "gate.py")
-EDITS, PROVED, LIB = "crates/tiny/edits/lib.edits", "proved.txt", "crates/tiny/src/lib.rt"
+EDITS, PROVED, LIB, LISTED = "crates/tiny/edits/lib.edits", "proved.txt", "crates/tiny/src/lib.rt", "crates.txt"
 ROWS, RUNS = "tests/wrong/table.md", "tests/wrong/programs.lines"
 # What is changed: its name, the file, how its text becomes another (None for no file), the line that tells of it.
 CASES = (
@@ -50,6 +51,9 @@ CASES = (
     ("an edit that is let through", EDITS, lambda text: text.replace("    2", "    1"), "LET THROUGH: .* has no open goal"),
     ("a row of an edit that is gone", ROWS, lambda text: text.replace("`larger`", "`lost`"), "no edit of that name"),
     ("a run of an edit that is gone", RUNS, lambda text: text + "tiny/lost tiny run.py\n", "no edit has that name: tiny/lost"),
+    ("a crate of the kit that is not used", LISTED, lambda _: "tiny: slab\n", "tiny: FAILED: crates.txt lists slab for it"),
+    ("a job of the kit done without it", LISTED, lambda text: text + "art_lines:\n", "art_lines: FAILED: it is to use hex"),
+    ("an error that derives nothing", LIB, lambda text: f"{text}\npub struct BitFailed;\n", "derive: BitFailed"),
     ("a part that is gone", "tests/words.py", lambda _: None, "there is no tests/words.py"),
     ("a part without its counts", "tests/words.py", lambda _: "print('done')\n", "no last line of counts, but: done"),
     ("a part that ends badly", "tests/words.py", lambda text: text + "raise SystemExit(3)\n", r"\n\d+ passed, 1 failed\n$"),
@@ -73,7 +77,7 @@ def make(top):
     os.makedirs(f"{top}/tools")
     for it in ("quick.py", "module.py"):
         shutil.copy(f"tools/{it}", f"{top}/tools/{it}")
-    files = {"crates.txt": "tiny:\n", "crates/tiny/src/lib.rt": SOURCE, EDITS: EDIT, ROWS: TABLE, RUNS: "# None.\n"}
+    files = {LISTED: "tiny:\n", "crates/tiny/src/lib.rt": SOURCE, EDITS: EDIT, ROWS: TABLE, RUNS: "# None.\n"}
     for path, text in files.items():
         cases.write(f"{top}/{path}", text)
     how = {"cwd": top, "stdin": subprocess.DEVNULL, "stdout": subprocess.DEVNULL, "check": True}

@@ -32,7 +32,7 @@ RULES = [
     (r"\bstruct (Index|PathReader|Readers)\b[^{;]*\{[^}]*\bpub\b", set(), "shows a field that is to be hidden"),
 ]
 # Wrong bodies: a file, a text that stands in it, and what takes its place. A rule refuses each.
-LOOKS = "        let visits = self.look_up(word, fields, sink)?;"
+LOOKS = "        let looked = self.look_up(word, fields, sink);"
 WRONG = {
     "walks a map before a look-up": ("handling.rt", LOOKS, f"        for _ in self.byte_map().iter() {{}}\n{LOOKS}"),
     "looks up beside the readers": (

@@ -2,7 +2,7 @@
 """Does what README.md tells a newcomer: a repository of one's own, with the map in it, whose program then runs.
 
     tests/newcomer.py [--quick]    at the top of the repository; its last line is 'N passed, M failed'
-The one block of shell of uses/README.md is run in an empty folder beside a link named art; the one block of Rust of
+The one block of shell of docs/USES.md is run in an empty folder beside a link named art; the one block of Rust of
 README.md that is of no example of bindings/rust becomes the program's source. The program is built without proofs
 (tools/quick.py), as `rt try` builds it, but with nothing optimized. What it prints is looked at. With --quick what is
 built is the program over the libraries here (tests/together.py), once the repository is seen to have the same.
@@ -42,7 +42,7 @@ def has_the_libraries(mine):
 
 def a_map_of_ones_own(room, is_quick):
     os.symlink(cases.TOP, f"{room}/art")
-    ran = subprocess.run(["sh", "-e"], input=shell_of("uses/README.md"), text=True, cwd=room, capture_output=True)
+    ran = subprocess.run(["sh", "-e"], input=shell_of("docs/USES.md"), text=True, cwd=room, capture_output=True)
     assert ran.returncode == 0, ran.stderr
     program, source = f"{room}/program", f"{room}/mine/crates/films/src/main.rt"
     cases.write(source, together.films())

@@ -289,6 +289,24 @@ def replies_before_it_waits(program):
                 it.gives(next(replies))
 
 
+def replies_where_a_line_is_begun(program):
+    """What is whole is answered, too, where the next line is begun, and where it fills the room that is read into."""
+    with Running(program) as it:
+        it.ran.stdin.write(b"put 1 00 61\nget 1")
+        it.gives(b"new\n")
+        it.ran.stdin.write(b" 00\n")
+        it.gives(b"is 61\n")
+    reads, writes = os.pipe()
+    try:
+        wants(os.write(writes, b"get 10 00\n" * 2048), 20_480)
+        with Running(program, stdin=reads) as it:
+            it.gives(b"none\n" * 2048)
+            os.close(writes)
+            it.ends()
+    finally:
+        os.close(reads)
+
+
 def seconds(program, lines):
     """How many seconds of processor time the program takes for some lines, none of which finds no memory."""
     before = resource.getrusage(resource.RUSAGE_CHILDREN).ru_utime
@@ -343,6 +361,7 @@ TESTS = [
     a_failed_write_is_told,
     a_closed_output_is_told,
     replies_before_it_waits,
+    replies_where_a_line_is_begun,
     few_system_calls,
     no_line_walks_a_map,
     reads_as_long_as_there_is_more,

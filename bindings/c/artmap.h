@@ -19,7 +19,8 @@
  * call tells a single word or length by a pointer, NULL says that it is not wanted. No other pointer may be NULL.
  *
  * Memory. Each call that may find none says so (ARTMAP_NO_MEMORY), and the map is as it was, but for what the call tells
- * as done. Where a key is in conflict and there is no memory either, the conflict is told.
+ * as done. Where a key is in conflict and there is no memory either, the conflict is told. A key or a value of thirty bytes
+ * or fewer takes no memory besides its pair's.
  *
  * Threads. A handle has one call at a time, those that only read too. It may go to another thread between two calls,
  * where the program orders them (by a lock, or by a thread's start or end). For readers in many threads at once, freeze
@@ -258,7 +259,8 @@ artmap_code artmap_words_split_off(artmap_words *map, const void *key, size_t ke
 artmap_code artmap_words_append(artmap_words *map, artmap_words *other);
 
 /* Allocates the nodes of so many more insertions, whatever their keys are: some kilobytes for each. As many insertions then
- * take no memory for nodes, so it serves a few that must find it. A key's own bytes are still allocated as it goes in.
+ * take no memory for nodes, so it serves a few that must find it. The bytes of a key or value of more than thirty are still
+ * allocated as it goes in.
  * ARTMAP_DONE: there is room for so many; always where there was; ARTMAP_NO_MEMORY. */
 artmap_code artmap_words_reserve(artmap_words *map, size_t additional);
 

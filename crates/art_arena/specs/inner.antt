@@ -1,5 +1,5 @@
-pub mod Entries
+pub mod ClaimedLends
+pub mod Claims
 pub mod Fits
 pub mod NodesLends
-pub mod SlotsLends
 pub mod Stepping

@@ -4,6 +4,7 @@
 #![tactic(auto)]
 
 mod arena;
+mod claimed;
 mod descent;
 mod ends;
 mod find;
@@ -17,7 +18,6 @@ mod nodes;
 mod path;
 mod prefix;
 mod reader;
-mod slots;
 mod stored;
 
 pub use arena::{LeafPtr, NodeArena, NodeRefused};

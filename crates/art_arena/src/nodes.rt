@@ -1,11 +1,11 @@
 //! The nodes of one kind, under their slab keys.
-ghost use Rattle.std.specs.Prelude.{◌≡◌, ℕ, ◌<◌, ◌≤◌, ◌^◌, ◌↔◌, ◌+◌, ◌/◌, length, max};
+ghost use Rattle.std.specs.Prelude.{◌≡◌, ℕ, ◌<◌, ◌≤◌, ◌-◌, ◌^◌, ◌↔◌, ◌+◌, max};
 ghost use Rattle.std.specs.Prelude.{[], Some, None, IfOk, IfErr, IsOk, IsSome, IsTrue, OnErr, OnOk};
 ghost use Rattle.std.specs.Borrow.{sem};
 ghost use Rattle.slab.specs.Slab.{get, slab_len, EndsWithValue, HasRoomFor, SameValues, Updates, IsSlotClone};
 ghost use Rattle.art_arena.specs.inner.NodesLends.{lends_in};
 
-use crate::slots::Slots;
+use crate::claimed::ClaimedSlab;
 use art_nodes::assume_proved;
 use std::alloc::{AllocError, AllocFailed, Global};
 use std::marker::Model;
@@ -17,7 +17,7 @@ pub(crate) const PREFIX_LEN_LIMIT: usize = 1 << 62;
 /// bytes is so short that a node fits in memory.
 #[derive(Drop)]
 pub(crate) struct Nodes<N, const PREFIX_LEN: usize> {
-    slab: Slots<N>,
+    slab: ClaimedSlab<N>,
 }
 
 impl<N, const PREFIX_LEN: usize> Model for Nodes<N, PREFIX_LEN> {
@@ -31,21 +31,17 @@ impl<N, const PREFIX_LEN: usize> Model for Nodes<N, PREFIX_LEN> {
     ghost invariant = { λ a. FitsWhereUsed PREFIX_LEN a.slab };
 }
 
-// Makes room for so many more values where the memory that `Slots::reserve` asks for is refused: for half as many as
-// there is room for, and so on, down to no more than these. With no room yet it asked for a few only.
+// Makes room for so many more values, where there is none: for as many as there are, if so much memory is had, else for
+// half as many, and so on, down to no more than these. So a first value asks for the memory of one.
 #[cold]
-fn reserve_fewer<T>(slab: &mut Slots<T>, additional: usize) -> Result<(), AllocError>
+fn grow<T>(slab: &mut ClaimedSlab<T>, additional: usize) -> Result<(), AllocError>
     ensures room { OnOk result (HasRoomFor slab.new additional) }
-    ensures few { slab.new.capacity
-        ≤ max slab.old.capacity (slab_len slab.old + max additional (slab.old.capacity / 2)) }
+    ensures few { slab.new.capacity ≤ max slab.old.capacity (slab_len slab.old + max additional (slab_len slab.old)) }
     ensures err { OnErr result (slab.new ≡ slab.old) }
     ensures capacity { slab.old.capacity ≤ slab.new.capacity }
     ensures kept { slab.new ≡ record slab.old { capacity = slab.new.capacity } }
 {
-    if slab.capacity() == 0 {
-        return Err(AllocError);
-    }
-    let mut more = slab.capacity() / 2;
+    let mut more = slab.len();
     'halves: while more > additional {
         if slab.reserve_exact(more).is_ok() {
             return Ok(());
@@ -55,21 +51,6 @@ fn reserve_fewer<T>(slab: &mut Slots<T>, additional: usize) -> Result<(), AllocE
     slab.reserve_exact(additional)
 }
 
-// Makes room for so many more values: for as many as there are, if so much memory is had, or else for fewer.
-fn reserve_in<T>(slab: &mut Slots<T>, additional: usize) -> Result<(), AllocError>
-    ensures room { OnOk result (HasRoomFor slab.new additional) }
-    ensures succeeds { HasRoomFor slab.old additional → IsOk result }
-    ensures err { OnErr result (slab.new ≡ slab.old) }
-    ensures enough { HasRoomFor slab.old additional → slab.new ≡ slab.old }
-    ensures capacity { slab.old.capacity ≤ slab.new.capacity }
-    ensures kept { slab.new ≡ record slab.old { capacity = slab.new.capacity } }
-{
-    match slab.reserve(additional) {
-        Ok(()) => Ok(()),
-        Err(_) => reserve_fewer(slab, additional),
-    }
-}
-
 impl<N, const PREFIX_LEN: usize> Nodes<N, PREFIX_LEN> {
     // No nodes. It takes no memory.
     pub(crate) fn new(alloc: Global) -> Self
@@ -77,7 +58,7 @@ impl<N, const PREFIX_LEN: usize> Nodes<N, PREFIX_LEN> {
         ensures capacity { result.capacity ≡ 0 }
     {
         Nodes {
-            slab: Slots::new(alloc),
+            slab: ClaimedSlab::new(alloc),
         }
     }
 
@@ -88,10 +69,10 @@ impl<N, const PREFIX_LEN: usize> Nodes<N, PREFIX_LEN> {
         self.slab.len()
     }
 
-    // Where a node fits in no memory, there is none, no slot for one, and no room.
+    // Where a node fits in no memory, there is none, and no room for one.
     pub(crate) fn none_fits(&self)
         ensures none { 2 ^ 62 ≤ PREFIX_LEN → (slot : ℕ) → get self.now slot ≡ None }
-        ensures slots { 2 ^ 62 ≤ PREFIX_LEN → length self.now.slots ≡ 0 }
+        ensures len { 2 ^ 62 ≤ PREFIX_LEN → slab_len self.now ≡ 0 }
         ensures capacity { 2 ^ 62 ≤ PREFIX_LEN → self.now.capacity ≡ 0 }
     {
         let _capacity = self.slab.capacity();
@@ -108,16 +89,16 @@ impl<N, const PREFIX_LEN: usize> Nodes<N, PREFIX_LEN> {
         self.slab.clear();
     }
 
-    // Puts clones of other nodes in place of these, each under the key of its original. There is room for as many as
-    // the original has slots: spare room is not copied.
+    // Puts clones of other nodes in place of these, each under the key of its original. There is room for no more:
+    // spare room is not copied.
     pub(crate) fn put_clones(&mut self, source: &Self) -> Result<(), AllocError>
     where
         N: Clone,
         requires { PREFIX_LEN < 2 ^ 62 }
         ensures clones { OnOk result ((slot : ℕ) → IsSlotClone N.is_clone (get source.now slot) (get self.new slot)) }
-        ensures exact { OnOk result (self.new.capacity ≡ length source.now.slots) }
+        ensures exact { OnOk result (self.new.capacity ≡ slab_len source.now) }
     {
-        let slab = source.slab.clone()?;
+        let slab = source.slab.try_clone()?;
         self.slab = slab;
         Ok(())
     }
@@ -145,7 +126,7 @@ impl<N, const PREFIX_LEN: usize> Nodes<N, PREFIX_LEN> {
         if PREFIX_LEN >= PREFIX_LEN_LIMIT {
             return Err(AllocError);
         }
-        reserve_in(slab, additional)
+        grow(slab, additional)
     }
 
     // There is no room for 2^64 nodes or more. Nothing is done.
@@ -181,16 +162,12 @@ impl<N, const PREFIX_LEN: usize> Nodes<N, PREFIX_LEN> {
         ensures succeeds { HasRoomFor self.old 1 → IsOk result }
         ensures capacity { self.old.capacity ≤ self.new.capacity }
         ensures enough { HasRoomFor self.old 1 → self.new.capacity ≡ self.old.capacity }
-        ensures below { IfOk result (λ slot. slot < 2 ^ 61) }
+        ensures below { IfOk result (λ slot. slot < 2 ^ 64 - 1) }
     {
-        let slab = &mut self.slab;
-        if PREFIX_LEN >= PREFIX_LEN_LIMIT {
+        if self.reserve(1).is_err() {
             return Err(AllocFailed { value: node });
         }
-        if reserve_in(slab, 1).is_err() {
-            return Err(AllocFailed { value: node });
-        }
-        Ok(slab.insert_reserved(node))
+        Ok(self.slab.insert_reserved(node))
     }
 
     // Whether a node fits in memory, as it does where there is room for one.
@@ -225,13 +202,7 @@ impl<N, const PREFIX_LEN: usize> Nodes<N, PREFIX_LEN> {
         ensures* writes_back { sem 𝓛 (lends_in N.row PREFIX_LEN.row self.entry slot result) }
         ensures value { get self.old slot ≡ Some result.now }
     {
-        match self.slab.get_mut(slot) {
-            Some(node) => node,
-            None => {
-                assume_proved(false);
-                unreachable!()
-            }
-        }
+        self.slab.get_mut(slot)
     }
 
     // Takes the node under this key out.
@@ -243,12 +214,6 @@ impl<N, const PREFIX_LEN: usize> Nodes<N, PREFIX_LEN> {
         ensures room { HasRoomFor self.new 1 }
         ensures capacity { self.new.capacity ≡ self.old.capacity }
     {
-        match self.slab.try_remove(slot) {
-            Some(node) => node,
-            None => {
-                assume_proved(false);
-                unreachable!()
-            }
-        }
+        self.slab.remove(slot)
     }
 }

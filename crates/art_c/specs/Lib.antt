@@ -8,6 +8,7 @@ pub mod Held
 pub mod Joins
 pub mod Layouts
 pub mod Loads
+pub mod Placed
 pub mod Prefixes
 pub mod Spans
 pub mod Walks

@@ -11,7 +11,7 @@ pub enum Code {
     Replaced,
     /// There is no such pair.
     NotFound,
-    /// The key is a front of a stored key, or a stored key is one of it.
+    /// The key begins a stored key, or a stored key begins it.
     Conflict,
     /// The room for what is copied out is too small. Its length is told.
     NoRoom,

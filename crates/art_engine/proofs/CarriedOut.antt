@@ -1,5 +1,5 @@
 -- What is promised of a line that is carried out, by the family of its word.
-use Rattle.std.proofs.Common.{◌≡◌, ℕ, List, [], ◌∷◌, ◌++◌, Bool, true, false, Some, None, refl, ap, sym, ◌∙◌, subst, arith}
+use Rattle.std.proofs.Common.{◌≡◌, ℕ, ◌≤◌, List, [], ◌∷◌, ◌++◌, Bool, true, false, Some, None, refl, ap, sym, ◌∙◌, subst, arith}
 use Rattle.std.specs.Prelude.{Option, flat_map}
 use Rattle.std.proofs.lemmas.Bool.{false≢true}
 use Rattle.art_lines.proofs.Common.{line_of, looks_up, changes, drops, asks_all, tenant_in_place, spells, Command, IsCut, name}
@@ -16,7 +16,7 @@ use Rattle.art_engine.specs.declared.drop_tenant.Dropped.{Dropped}
 use Rattle.art_engine.specs.declared.survey.Survey.{Survey}
 use Rattle.art_engine.specs.Survey.{IsSurvey, survey_words, survey_is_memory}
 use Rattle.art_engine.specs.Dropped.{IsDropDone, dropped_words, drop_is_memory, drop_visits}
-use Rattle.art_engine.proofs.Terms.{AreRecords, IsLineAnswered, IsChangeDone, IsCutLine, IsShort, IsWithin, LineMayRefuse, MayRefuse, ReadsOwnPath, Records, State, changed_words, command_reply, exactly, change_is_memory, line_visits, visits_of}
+use Rattle.art_engine.proofs.Terms.{AreRecords, IsLineAnswered, IsChangeDone, IsAnswerCut, IsShort, IsWithin, LineMayRefuse, MayRefuse, ReadsOwnPath, Records, State, changed_words, command_reply, exactly, change_is_memory, line_visits, visits_of}
 use Rattle.art_engine.proofs.CutRuns.{cut_line}
 use Rattle.art_engine.proofs.Replies.{told_of, same_left, bad_told, bad_left, done_told, done_left, done_lawful, all_told, all_left, all_lawful, drop_told, drop_left, drop_lawful, drop_reads}
 use Rattle.art_engine.proofs.Families.{look_leaves, all_leaves}
@@ -74,12 +74,13 @@ module _ (line before after : List ℕ) (old new : State) where
         ahead = ahead;
       }
 
-  pub look_up_cut : (w : LookUp) (f : Fields) → Some (looks_up w f) ≡ command_of line
+  pub look_up_cut : (w : LookUp) (f : Fields) (visits : ℕ) → Some (looks_up w f) ≡ command_of line
       → IsCut before after (flat_map line_of (command_reply (Some (looks_up w f)) old.records))
-      → new.reads ≡ old.reads → new.records ≡ old.records → new.ahead ≡ old.ahead → IsCutLine old line before after new
-  look_up_cut w f meant cut counted same ahead =
-      cut_line false old new line before after _ (told_of old.records old.records (looks_up w f) line meant refl) cut
-      (same ∙ same_left old.records (looks_up w f) line meant (look_leaves f w old.records)) (λ e. absurd (false≢true e)) (counted, ahead)
+      → visits ≤ (visits_of (Some (looks_up w f)) old.records).most
+      → new.reads ≡ old.reads ++ visits ∷ [] → new.records ≡ old.records → IsAnswerCut old line before after new
+  look_up_cut w f visits meant cut few counted same =
+      cut_line false old new line before after _ visits (told_of old.records old.records (looks_up w f) line meant refl) cut
+      (same ∙ same_left old.records (looks_up w f) line meant (look_leaves f w old.records)) (λ e. absurd (false≢true e)) (subst (λ o. visits ≤ (visits_of o old.records).most) meant few) counted
 
   module _ (d : Changed) (memory : Bool) (w : Change) (f : Fields) (meant : Some (changes w f) ≡ command_of line) (found : memory ≡ change_is_memory d)
       (h : IsChangeDone d (changes w f) old.records new.records) (ahead : new.ahead ≡ old.ahead) where
@@ -95,11 +96,11 @@ module _ (line before after : List ℕ) (old new : State) where
       ahead = ahead;
     }
 
-    pub change_cut : IsCut before after (line_of (changed_words d)) → new.reads ≡ old.reads → IsCutLine old line before after new
+    pub change_cut : IsCut before after (line_of (changed_words d)) → new.reads ≡ old.reads ++ 0 ∷ [] → IsAnswerCut old line before after new
     change_cut cut counted =
-        cut_line memory old new line before after _ (done_told d memory (changes w f) old.records old.records new.records line found refl meant h) cut
+        cut_line memory old new line before after _ 0 (done_told d memory (changes w f) old.records old.records new.records line found refl meant h) cut
         (done_left d memory (changes w f) old.records old.records new.records line found refl meant h)
-        (may_refuse old.records line (changes w f) memory meant (done_lawful d memory (changes w f) old.records old.records new.records line found refl meant h)) (counted, ahead)
+        (may_refuse old.records line (changes w f) memory meant (done_lawful d memory (changes w f) old.records old.records new.records line found refl meant h)) (omega arith) counted
 
   module _ (d : Dropped) (memory : Bool) (f : Fields) (meant : Some (drops f) ≡ command_of line) (found : memory ≡ drop_is_memory d)
       (h : IsDropDone d (tenant_in_place f) old.records new.records) (ahead : new.ahead ≡ old.ahead) where
@@ -115,11 +116,12 @@ module _ (line before after : List ℕ) (old new : State) where
       ahead = ahead;
     }
 
-    pub drop_cut : IsCut before after (line_of (dropped_words d)) → new.reads ≡ old.reads → IsCutLine old line before after new
-    drop_cut cut counted =
-        cut_line memory old new line before after _ (drop_told d memory (tenant_in_place f) old.records old.records new.records line found refl meant h) cut
+    pub drop_cut : (visits : ℕ) → visits ≡ drop_visits d → IsCut before after (line_of (dropped_words d)) → new.reads ≡ old.reads ++ visits ∷ [] → IsAnswerCut old line before after new
+    drop_cut visits is cut counted =
+        cut_line memory old new line before after _ visits (drop_told d memory (tenant_in_place f) old.records old.records new.records line found refl meant h) cut
         (drop_left d memory (tenant_in_place f) old.records old.records new.records line found refl meant h)
-        (may_refuse old.records line (drops f) memory meant (drop_lawful d memory (tenant_in_place f) old.records old.records new.records line found refl meant h)) (counted, ahead)
+        (may_refuse old.records line (drops f) memory meant (drop_lawful d memory (tenant_in_place f) old.records old.records new.records line found refl meant h))
+        (drop_reads d memory (tenant_in_place f) old.records old.records new.records line found refl meant h visits is).1 counted
 
   module _ (d : Survey) (memory : Bool) (w : Whole) (meant : Some (asks_all w) ≡ command_of line) (found : memory ≡ survey_is_memory d)
       (h : IsSurvey d (asks_all w) old.records) (same : new.records ≡ old.records) (ahead : new.ahead ≡ old.ahead) where
@@ -135,14 +137,14 @@ module _ (line before after : List ℕ) (old new : State) where
       ahead = ahead;
     }
 
-    pub survey_cut : IsCut before after (flat_map line_of (survey_words d old.records)) → new.reads ≡ old.reads → IsCutLine old line before after new
+    pub survey_cut : IsCut before after (flat_map line_of (survey_words d old.records)) → new.reads ≡ old.reads ++ 0 ∷ [] → IsAnswerCut old line before after new
     survey_cut cut counted =
-        cut_line memory old new line before after _ (all_told d memory (asks_all w) old.records old.records line found refl meant h) cut
+        cut_line memory old new line before after _ 0 (all_told d memory (asks_all w) old.records old.records line found refl meant h) cut
         (same ∙ all_left d memory (asks_all w) old.records old.records line found refl meant h (all_leaves w old.records))
-        (may_refuse old.records line (asks_all w) memory meant (all_lawful d memory (asks_all w) old.records old.records line found refl meant h)) (counted, ahead)
+        (may_refuse old.records line (asks_all w) memory meant (all_lawful d memory (asks_all w) old.records old.records line found refl meant h)) (omega arith) counted
 
   module _ (none : command_of line ≡ None) (same : new.records ≡ old.records) (ahead : new.ahead ≡ old.ahead) where
-    pub not_read_cut : IsCut before after (line_of (name (codes "bad") ∷ [])) → new.reads ≡ old.reads → IsCutLine old line before after new
+    pub not_read_cut : IsCut before after (line_of (name (codes "bad") ∷ [])) → new.reads ≡ old.reads ++ 0 ∷ [] → IsAnswerCut old line before after new
     not_read_cut cut counted =
-        cut_line false old new line before after _ (bad_told old.records line (sym none)) cut
-        (same ∙ bad_left old.records line (sym none)) (λ e. absurd (false≢true e)) (counted, ahead)
+        cut_line false old new line before after _ 0 (bad_told old.records line (sym none)) cut
+        (same ∙ bad_left old.records line (sym none)) (λ e. absurd (false≢true e)) (omega arith) counted

@@ -54,6 +54,10 @@ same_visits : (memory : Bool) (now : Records) (held line : List ℕ) (n : ℕ) �
 same_visits true now held line n s within = within
 same_visits false now held line n s within = subst (λ o. IsWithin (visits_of o now) n) s.command within
 
+pub same_most : (memory : Bool) (now : Records) (held line : List ℕ) (n : ℕ) → IsReadAs held line → n ≤ (line_visits memory held now).most → n ≤ (line_visits memory line now).most
+same_most true now held line n s few = few
+same_most false now held line n s few = subst (λ o. n ≤ (visits_of o now).most) s.command few
+
 same_done : (memory : Bool) (now new : State) (held line : List ℕ) → IsReadAs held line → IsLineDone memory now held new → IsLineDone memory now line new
 same_done memory now new held line s d =
     record {

@@ -1,5 +1,5 @@
 -- A run whose last write failed.
-use Rattle.std.proofs.Common.{◌≡◌, ◌≢◌, ℕ, ◌<◌, List, [], ◌∷◌, ◌++◌, Bool, true, length, refl, ap, sym, ◌∙◌, subst, arith, append_assoc, length-append}
+use Rattle.std.proofs.Common.{◌≡◌, ◌≢◌, ℕ, ◌<◌, ◌≤◌, List, [], ◌∷◌, ◌++◌, Bool, true, length, refl, ap, sym, ◌∙◌, subst, arith, append_assoc, length-append}
 use Rattle.std.specs.Prelude.{IsTrue}
 use Rattle.std.proofs.lemmas.Bool.{and_from, lt-ltb}
 use Rattle.std.proofs.lemmas.Bool.Decides.{Decides-eqb}
@@ -8,9 +8,10 @@ use Rattle.std.proofs.lemmas.List.{length-take}
 use Rattle.art_bytes.proofs.Common.{is_proper_front}
 use Rattle.art_lines.specs.Lines.{whole_lines_of, unfinished_line_of}
 use Rattle.art_lines.proofs.Common.{lines_of, IsCut}
-use Rattle.art_engine.proofs.Terms.{Records, State, LineMayRefuse, answer, left_by, IsCutLine, AfterWriteFault, Carried, IsCutRun, NoNewline}
+use Rattle.art_lines.specs.Reading.{command_of}
+use Rattle.art_engine.proofs.Terms.{State, LineMayRefuse, answer, left_by, line_visits, most_ahead, IsAnswerCut, IsCutLine, AfterWriteFault, Carried, IsCutRun, NoNewline}
 use Rattle.art_engine.proofs.LineLemmas.{whole_lines_of-line, whole_lines_of-more}
-use Rattle.art_engine.proofs.Carrying.{IsReadAs, same_answer, same_left, same_refusal, closed, cut}
+use Rattle.art_engine.proofs.Carrying.{IsReadAs, same_answer, same_left, same_most, same_refusal, closed, cut}
 
 -- other lines after do not matter
 fault_more : (start : State) (ls more : List (List ℕ)) (written : List ℕ) (now : State) → AfterWriteFault start ls written now → AfterWriteFault start (ls ++ more) written now
@@ -31,18 +32,28 @@ cut_run-more start now text more all before taken e r =
 cut_next : (start now new : State) (text held before taken taken' line handled : List ℕ) → Carried start now text held before taken → IsReadAs handled line
     → IsCutLine now handled taken taken' new → IsCutRun start new (whole_lines_of text ++ line ∷ []) before taken'
 cut_next start now new text held before taken taken' line handled c s l =
-    let written : List ℕ = c.written ++ l.begun in
+    let a = l.cut in
+    let written : List ℕ = c.written ++ a.begun in
     let is_cut : IsCutLine now line c.written written new = record {
-      memory = l.memory;
-      lawful = λ yes. same_refusal now.records handled line s (l.lawful yes);
-      begun = l.begun;
-      is_cut = subst (λ a. IsTrue (is_proper_front l.begun a)) (same_answer l.memory now.records handled line s) l.is_cut;
-      output = refl;
-      left = l.left ∙ ap (λ (r : Records). record now { records = r; prefetched = new.prefetched }) (same_left l.memory now.records handled line s);
+      cut = record {
+        memory = a.memory;
+        lawful = λ yes. same_refusal now.records handled line s (a.lawful yes);
+        begun = a.begun;
+        is_cut = subst (λ t. IsTrue (is_proper_front a.begun t)) (same_answer a.memory now.records handled line s) a.is_cut;
+        output = refl;
+        left = a.left ∙ same_left a.memory now.records handled line s;
+        visits = a.visits;
+        few = same_most a.memory now.records handled line a.visits s a.few;
+        counted = a.counted;
+      };
+      visits_ahead = l.visits_ahead;
+      few = subst (λ o. l.visits_ahead ≤ most_ahead o) s.command l.few;
+      unused = l.unused;
+      counted_ahead = l.counted_ahead;
     } in
     record {
       written = written;
-      output = l.output ∙ ap (λ t. t ++ l.begun) c.output ∙ append_assoc before c.written l.begun;
+      output = a.output ∙ ap (λ t. t ++ a.begun) c.output ∙ append_assoc before c.written a.begun;
       fault = (whole_lines_of text, [], line, c.written, now, refl, c.outcome, is_cut);
     }
 
@@ -61,10 +72,6 @@ cut_run-last start now new text held before taken taken' handled c some same l =
     subst (λ ls. IsCutRun start new (whole_lines_of text ++ ls) before taken') (sym (closed (unfinished_line_of text) long))
     (cut_next start now new text held before taken taken' (unfinished_line_of text) handled c (cut (unfinished_line_of text) handled (same ∙ c.rest)) l)
 
--- nothing of what is told changed but the records
-with_records : (old new : State) (r : Records) → new.records ≡ r → new.reads ≡ old.reads → new.ahead ≡ old.ahead → new ≡ record old { records = r; prefetched = new.prefetched }
-with_records old new r e f g = λ i. record { records = e i; reads = f i; ahead = g i; prefetched = new.prefetched }
-
 -- a beginning after which some bytes are missing
 is_proper : (begun missing text : List ℕ) → missing ≢ [] → begun ++ missing ≡ text → IsTrue (is_proper_front begun text)
 is_proper begun [] text some e = absurd (some refl)
@@ -74,16 +81,44 @@ is_proper begun (b ∷ rest) text some e =
     and_from _ _ (lt-ltb (length begun) (length text) longer) ((starts_is Decides-eqb text begun _ refl).1 (b ∷ rest) (sym e))
 
 -- a line that was carried out, and whose answer was cut
-pub cut_line : (memory : Bool) (old new : State) (line before after output : List ℕ) → output ≡ answer memory old.records line → IsCut before after output
-    → new.records ≡ left_by memory old.records line → (memory ≡ true → LineMayRefuse old.records line) → (new.reads ≡ old.reads) × (new.ahead ≡ old.ahead) → IsCutLine old line before after new
-cut_line memory old new line before after output is cut left lawful same =
+pub cut_line : (memory : Bool) (old new : State) (line before after output : List ℕ) (visits : ℕ) → output ≡ answer memory old.records line → IsCut before after output
+    → new.records ≡ left_by memory old.records line → (memory ≡ true → LineMayRefuse old.records line) → visits ≤ (line_visits memory line old.records).most → new.reads ≡ old.reads ++ visits ∷ []
+    → IsAnswerCut old line before after new
+cut_line memory old new line before after output visits is cut left lawful few counted =
     record {
       memory = memory;
       lawful = lawful;
       begun = cut.begun;
       is_cut = is_proper cut.begun cut.missing (answer memory old.records line) cut.is_cut (cut.parts ∙ is);
       output = cut.output;
-      left = with_records old new (left_by memory old.records line) left same.0 same.1;
+      left = left;
+      visits = visits;
+      few = few;
+      counted = counted;
+    }
+
+-- and what was read ahead of it is told, too
+pub told_ahead : (old now new : State) (line before after : List ℕ) (n : ℕ) → IsAnswerCut old line before after now → now.ahead ≡ old.ahead → n ≤ most_ahead (command_of line)
+    → new.records ≡ now.records → new.reads ≡ now.reads → new.ahead ≡ now.ahead ++ n ∷ [] → IsCutLine old line before after new
+told_ahead old now new line before after n a same few records reads ahead = record {
+  cut = record { memory = a.memory; lawful = a.lawful; begun = a.begun; is_cut = a.is_cut; output = a.output; left = records ∙ a.left; visits = a.visits; few = a.few; counted = reads ∙ a.counted };
+  visits_ahead = n;
+  few = few;
+  unused = [];
+  counted_ahead = ahead ∙ ap (λ ns. ns ++ n ∷ []) same;
+}
+
+-- and then what was read ahead of lines that did not come
+pub told_unused : (old now new : State) (line before after unused : List ℕ) → IsCutLine old line before after now
+    → new.records ≡ now.records → new.reads ≡ now.reads → new.ahead ≡ now.ahead ++ unused → IsCutLine old line before after new
+told_unused old now new line before after unused l records reads ahead =
+    let a = l.cut in
+    record {
+      cut = record { memory = a.memory; lawful = a.lawful; begun = a.begun; is_cut = a.is_cut; output = a.output; left = records ∙ a.left; visits = a.visits; few = a.few; counted = reads ∙ a.counted };
+      visits_ahead = l.visits_ahead;
+      few = l.few;
+      unused = l.unused ++ unused;
+      counted_ahead = ahead ∙ ap (λ ns. ns ++ unused) l.counted_ahead ∙ append_assoc old.ahead (l.visits_ahead ∷ l.unused) unused;
     }
 
 -- a line that was cut out of a state that has the same records, and of which the same is told
@@ -92,4 +127,11 @@ pub cut_from : (first old new : State) (line before after : List ℕ) → old.re
 cut_from first old new line before after r e a l =
     let s : IsCutLine (record { records = first.records; reads = first.reads; ahead = first.ahead; prefetched = old.prefetched }) line before after new =
     subst (λ (t : State). IsCutLine t line before after new) (λ i. record { records = r i; reads = e i; ahead = a i; prefetched = old.prefetched }) l in
-    record { memory = s.memory; lawful = s.lawful; begun = s.begun; is_cut = s.is_cut; output = s.output; left = s.left }
+    let c = s.cut in
+    record {
+      cut = record { memory = c.memory; lawful = c.lawful; begun = c.begun; is_cut = c.is_cut; output = c.output; left = c.left; visits = c.visits; few = c.few; counted = c.counted };
+      visits_ahead = s.visits_ahead;
+      few = s.few;
+      unused = s.unused;
+      counted_ahead = s.counted_ahead;
+    }

@@ -6,7 +6,7 @@ use Rattle.art_lines.proofs.Common.{lines_of, lines_so_far, name, natural, signe
 use Rattle.art_lines.specs.Reading.{command_of, natural_in, tenant_in, number_in, bytes_in}
 use Rattle.art_bytes.proofs.Common.{is_below, conflicts}
 use Rattle.art_engine.proofs.Terms.{number_key_of, number_of_bytes, full_key_of, exactly, visits_of, path_nodes, fronts_shared, KeyRecord, KeyFits, Records, no_records, own, with_own, State, unread, most_ahead, dump_of, audit_lines, MayRefuse, LineMayRefuse, answers, IsLineDone, reply_to}
-use Rattle.art_engine.proofs.Terms.{IsOutcome, AfterWriteFault, IsCutLine}
+use Rattle.art_engine.proofs.Terms.{IsAnswerCut, IsOutcome, AfterWriteFault, IsCutLine}
 use Rattle.hex.proofs.OnLiterals.{hex_on_literals}
 use Rattle.std.specs.Fmt.{digits}
 use mathlib.Core.Bool.{false≢true}
@@ -224,32 +224,45 @@ read_fault-after_a_line = record { asked = (codes "put 1 0a 61", false) ∷ []; 
 text-cut_after_a_byte : IsCut (codes "o") (codes "on") (codes "new")
 text-cut_after_a_byte = record { begun = codes "n"; missing = codes "ew"; is_cut = λ e. cc; parts = refl; output = refl }
 
+-- the state after the put, which read no node, and ahead of which none was read
+abbrev after_put : State
+after_put = record { records = one_record; reads = 0 ∷ []; ahead = 0 ∷ []; prefetched = [] }
+
 -- a put was carried out, and of its answer nothing was taken
-line-cut_at_once : IsCutLine empty (codes "put 1 0a 61") (codes "o") (codes "o") (unread one_record)
+answer-cut_at_once : IsAnswerCut empty (codes "put 1 0a 61") (codes "o") (codes "o") after_put
 unfolding one_record computed
-line-cut_at_once = record {
+answer-cut_at_once = record {
   memory = false;
   lawful = λ no_memory. absurd (false≢true no_memory);
   begun = [];
   is_cut = refl;
   output = refl;
   left = refl;
+  visits = 0;
+  few = lit≤ tt;
+  counted = refl;
 }
 
 -- or a beginning was
-line-cut_within : IsCutLine empty (codes "put 1 0a 61") [] (codes "ne") (unread one_record)
+answer-cut_within : IsAnswerCut empty (codes "put 1 0a 61") [] (codes "ne") after_put
 unfolding one_record computed
-line-cut_within = record {
+answer-cut_within = record {
   memory = false;
   lawful = λ no_memory. absurd (false≢true no_memory);
   begun = codes "ne";
   is_cut = refl;
   output = refl;
   left = refl;
+  visits = 0;
+  few = lit≤ tt;
+  counted = refl;
 }
 
+line-cut_within : IsCutLine empty (codes "put 1 0a 61") [] (codes "ne") after_put
+line-cut_within = record { cut = answer-cut_within; visits_ahead = 0; few = omega arith; unused = []; counted_ahead = refl }
+
 -- so no line was answered whole
-write_fault-within_a_reply : AfterWriteFault empty (codes "put 1 0a 61" ∷ codes "get 1 0a" ∷ []) (codes "ne") (unread one_record)
+write_fault-within_a_reply : AfterWriteFault empty (codes "put 1 0a 61" ∷ codes "get 1 0a" ∷ []) (codes "ne") after_put
 write_fault-within_a_reply = ([], codes "get 1 0a" ∷ [], codes "put 1 0a 61", [], empty, refl, record { asked = []; are = refl; output = refl; done = refl }, line-cut_within)
 
 -- Records: a key is bytes, so that no record has 256 in its key.

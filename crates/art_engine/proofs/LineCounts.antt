@@ -1,6 +1,6 @@
 -- How many nodes a line reads, by the family of its word.
-use Rattle.std.proofs.Common.{◌≡◌, ℕ, ◌+◌, ◌-◌, ◌^◌, min, subst, ◌∙◌, arith}
-use Rattle.std.specs.Prelude.{List, Option, Some}
+use Rattle.std.proofs.Common.{◌≡◌, ℕ, ◌+◌, ◌-◌, ◌≤◌, ◌^◌, min, subst, ◌∙◌, arith}
+use Rattle.std.specs.Prelude.{List, Option, Some, Result, Ok, Err, OnOk}
 use Rattle.art_lines.proofs.Common.{Command, looks_up}
 use Rattle.art_lines.specs.declared.command.fields.Fields.{Fields}
 use Rattle.art_lines.specs.declared.command.word.LookUp.{LookUp}
@@ -23,3 +23,15 @@ pub counted_within : (w : LookUp) (f : Fields) (r : Records) (x y a b n : ℕ) �
 counted_within look_up.NGet f r x y a b n none nothing is keys numbers = keys_alone _ y x b a n nothing none (is ∙ omega arith) numbers keys
 counted_within look_up.NSpan f r x y a b n none nothing is keys numbers = keys_alone _ y x b a n nothing none (is ∙ omega arith) numbers keys
 counted_within w f r x y a b n none nothing is keys numbers = keys_alone _ x y a b n none nothing is keys numbers
+
+-- and they are no more than either may have read
+pub few_within : (w : LookUp) (f : Fields) (r : Records) (x y a b n : ℕ) → x ≡ 0 → y ≡ 0 → n ≡ min (a + b) (2 ^ 64 - 1)
+    → a ≤ x + (key_visits (Some (looks_up w f)) r).most → b ≤ y + (number_visits (Some (looks_up w f)) r).most → n ≤ (visits_of (Some (looks_up w f)) r).most
+few_within look_up.NGet f r x y a b n none nothing is keys numbers = let k : a ≤ x + 0 = keys in omega arith
+few_within look_up.NSpan f r x y a b n none nothing is keys numbers = let k : a ≤ x + 0 = keys in omega arith
+few_within w f r x y a b n none nothing is keys numbers = let k : b ≤ y + 0 = numbers in omega arith
+
+-- what follows of two facts that hold where all went well
+pub on_both : {T E P Q R : Type 0} (r : Result T E) → (P → Q → R) → OnOk r P → OnOk r Q → OnOk r R
+on_both (Ok x) f p q = f p q
+on_both (Err e) f p q = tt

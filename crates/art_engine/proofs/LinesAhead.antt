@@ -110,3 +110,11 @@ pub next_more : (text rest part following : List ℕ) (before now : List (List �
 next_more text rest part following before now e is none more =
     e ∙ ap (λ t. before ++ whole_lines_of t) is ∙ ap (λ ls. before ++ ls) (whole_lines_of-front part following none)
     ∙ sym (append_assoc before (part ∷ []) (whole_lines_of following)) ∙ ap (λ ls. ls ++ whole_lines_of following) (sym more)
+
+-- what the line at a place has read, and what is left after it
+pub passed_after : (lines : List Line) (len at : ℕ) (d : Line) → at < len → at < length lines
+    → (get_or lines at d).read + read_of (drop (suc at) (take len lines)) ≡ read_of (drop at (take len lines))
+passed_after lines zero at d low fits = absurd (omega arith)
+passed_after [] (suc len) at d low fits = absurd (omega arith)
+passed_after (x ∷ xs) (suc len) zero d low fits = sym (sum_by-cons (λ (l : Line). l.read) x (take len xs))
+passed_after (x ∷ xs) (suc len) (suc at) d low fits = passed_after xs len at d (omega arith) (omega arith)

@@ -34,6 +34,12 @@ listing_grew bound full longest old mid new m kept few whole fits is =
       fits = omega arith;
     }
 
+-- and however far it was listed, no more is read
+pub listing_most : (bound full longest old mid new m : ℕ) → mid ≤ old + (full + 6) * (longest + 2) → full ≡ bound + 4 → new ≤ mid + m → new ≤ old + (listing m bound longest).most
+listing_most bound full longest old mid new m few whole high =
+    let cost : (full + 6) * (longest + 2) ≤ 2 * (bound + 6) * (longest + 2) = mul-le (full + 6) (longest + 2) (2 * (bound + 6)) (longest + 2) (omega arith) (omega arith) in
+    omega arith
+
 -- a path is read
 pub path_grew : (path old new : ℕ) → path < 2 ^ 64 → new ≡ min (old + path) (2 ^ 64 - 1) → Grew (exactly path) old new
 path_grew path old new fits is = record { most = omega arith; least = omega arith; fits = omega arith }

@@ -21,7 +21,7 @@ use Rattle.art_engine.proofs.Filters.{All-each, map-alike}
 use Rattle.std.proofs.lemmas.List.{length-map}
 use Rattle.art_engine.proofs.FullTests.{begins_full, between_full, same_full}
 use Rattle.art_engine.proofs.ListedLines.{are_listed, are_numbered}
-use Rattle.art_engine.proofs.Listings.{listing_grew, path_grew, longest_by_keys, within_longest}
+use Rattle.art_engine.proofs.Listings.{listing_grew, listing_most, path_grew, longest_by_keys, within_longest}
 use Rattle.art_engine.proofs.MappedTrees.{paths_by_keys}
 use Rattle.art_engine.proofs.NumberKeys.{HaveBytes, between_numbers}
 use Rattle.art_engine.proofs.NumberPlaces.{number_bytes, number_keys_are, number_found, numbers_passing, stand_all}
@@ -68,6 +68,14 @@ module _ (t : ℕ) (T G : List ℕ → Bool) (tests : IsFullTest t T G) (ps : Li
       let number : length left ≡ length (filter (λ p. G p.0) (own t (records_of ps)).keys) = sym (length-map left own_pair) ∙ ap length own_left in
       subst (λ n. Grew (listing n bound (longest full_key_of (map record_of ps))) old new) number
       (listing_grew bound full (longest full_key_of (map record_of ps)) old mid new (length left) kept opens whole (left_few few) is)
+
+  -- and however far it was listed, by no more
+  pub left_most : (bound full old mid new : ℕ) → full ≡ bound + 4 → OpeningReads (longest full_key_of (map record_of ps)) full old mid → new ≤ mid + length left
+      → new ≤ old + (listing (length (filter (λ p. G p.0) (own t (records_of ps)).keys)) bound (longest full_key_of (map record_of ps))).most
+  left_most bound full old mid new whole opens few =
+      let number : length left ≡ length (filter (λ p. G p.0) (own t (records_of ps)).keys) = sym (length-map left own_pair) ∙ ap length own_left in
+      subst (λ n. new ≤ old + (listing n bound (longest full_key_of (map record_of ps))).most) number
+      (listing_most bound full (longest full_key_of (map record_of ps)) old mid new (length left) opens whole few)
 
 -- the tests of the two listings
 pub list_tests : (t : ℕ) (k : List ℕ) → t < 2 ^ 32 → IsFullTest t (λ j. begins_with (full_key t k) j) (λ j. begins_with k j)
@@ -146,3 +154,9 @@ module _ (t : ℕ) (low high : ℤ) (fits_low : HaveBytes t low) (fits_high : Ha
   numbers_left_grew old mid new few kept opens is =
       let number : length numbers_left ≡ length (numbers_from_to low high (own t (number_records_of ns)).numbers) = sym (length-map numbers_left own_number) ∙ ap length own_numbers_left in
       subst (λ n. Grew (listing n 8 12) old new) number (listing_grew 8 12 12 old mid new (length numbers_left) kept opens (omega arith) (numbers_left_few few) is)
+
+  pub numbers_left_most : (old mid new : ℕ) → OpeningReads 12 12 old mid → new ≤ mid + length numbers_left
+      → new ≤ old + (listing (length (numbers_from_to low high (own t (number_records_of ns)).numbers)) 8 12).most
+  numbers_left_most old mid new opens few =
+      let number : length numbers_left ≡ length (numbers_from_to low high (own t (number_records_of ns)).numbers) = sym (length-map numbers_left own_number) ∙ ap length own_numbers_left in
+      subst (λ n. new ≤ old + (listing n 8 12).most) number (listing_most 8 12 12 old mid new (length numbers_left) opens (omega arith) few)

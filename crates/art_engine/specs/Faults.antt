@@ -1,19 +1,33 @@
 -- What was written and what is held where a write fails.
-use Rattle.std.specs.Prelude.{◌≡◌, ℕ, Bool, true, IsTrue, List, ◌∷◌, ◌++◌}
+use Rattle.std.specs.Prelude.{◌≡◌, ℕ, ◌≤◌, Bool, true, IsTrue, List, [], ◌∷◌, ◌++◌}
 use Rattle.art_bytes.specs.Keys.{is_proper_front}
+use Rattle.art_lines.specs.Reading.{command_of}
+use Rattle.art_engine.specs.Ahead.{most_ahead}
+use Rattle.art_engine.specs.Counts.{line_visits}
 use Rattle.art_engine.specs.State.{State}
 use Rattle.art_engine.specs.Refusals.{LineMayRefuse}
 use Rattle.art_engine.specs.Outcome.{answer, left_by, IsOutcome}
 
--- A line was carried out, and of its answer a beginning was taken that is not all of it. What it has read is not
--- counted. What was read ahead of it and of others is, by the readers, and not told.
-pub record IsCutLine (old : State) (line before after : List ℕ) (new : State) : Type 0 where
+-- A line was carried out, and of its answer a beginning was taken that is not all of it. What it has read is counted,
+-- at most what a line may read whose answer is whole.
+pub record IsAnswerCut (old : State) (line before after : List ℕ) (new : State) : Type 0 where
   pub memory : Bool
   pub lawful : memory ≡ true → LineMayRefuse old.records line
   pub begun : List ℕ
   pub is_cut : IsTrue (is_proper_front begun (answer memory old.records line))
   pub output : after ≡ before ++ begun
-  pub left : new ≡ record old { records = left_by memory old.records line; prefetched = new.prefetched }
+  pub left : new.records ≡ left_by memory old.records line
+  pub visits : ℕ
+  pub few : visits ≤ (line_visits memory line old.records).most
+  pub counted : new.reads ≡ old.reads ++ visits ∷ []
+
+-- So it was, and what was read ahead of it is counted, too, and then what was read ahead of lines that did not come.
+pub record IsCutLine (old : State) (line before after : List ℕ) (new : State) : Type 0 where
+  pub cut : IsAnswerCut old line before after new
+  pub visits_ahead : ℕ
+  pub few : visits_ahead ≤ most_ahead (command_of line)
+  pub unused : List ℕ
+  pub counted_ahead : new.ahead ≡ old.ahead ++ visits_ahead ∷ unused
 
 -- After a failed write, one line more than the `answered` ones was carried out. Their answers were written whole,
 -- and of the answer to the last a beginning that is not all of it.

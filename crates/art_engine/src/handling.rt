@@ -1,10 +1,11 @@
 //! What a line does to an index. No map is at hand here: an index lends readers, and makes changes.
-ghost use Rattle.std.specs.Prelude.{◌≡◌, ◌∷◌, [], ◌++◌, OnErr, IfOk, IfErr, is_err, true};
+ghost use Rattle.std.specs.Prelude.{◌≡◌, ◌≤◌, ◌∷◌, [], ◌++◌, OnErr, IfOk, IfErr, is_err, true};
 ghost use Rattle.std.specs.Prelude.{option_map, false, Some, None};
 ghost use Rattle.art_lines.specs.Parsed.{asks_all, changes, command_with, drops, looks_up};
 ghost use Rattle.art_lines.specs.Reading.{command_of};
 ghost use Rattle.art_engine.specs.Counts.{IsShort, IsWithin, ReadsOwnPath, line_visits};
-ghost use Rattle.art_engine.specs.Faults.{IsCutLine};
+ghost use Rattle.art_engine.specs.Ahead.{most_ahead};
+ghost use Rattle.art_engine.specs.Faults.{IsAnswerCut, IsCutLine};
 ghost use Rattle.art_engine.specs.Outcome.{answer, left_by};
 ghost use Rattle.art_engine.specs.Progress.{IsLineAnswered};
 ghost use Rattle.art_engine.specs.Refusals.{LineMayRefuse};
@@ -80,6 +81,7 @@ impl<const PREFIX_LEN: usize> Index<PREFIX_LEN> {
 
         // Nothing is read ahead of it.
         ensures ahead { IfOk result (λ done. self.new.ahead ≡ self.old.ahead ++ 0 ∷ []) }
+        ensures ahead_of_cut { OnErr result (self.new.ahead ≡ self.old.ahead ++ 0 ∷ []) }
         ensures prefetched { self.new.prefetched ≡ self.old.prefetched }
 
         ensures err { IfErr result (λ fault. fault ≡ RunFault.Write) }
@@ -102,6 +104,7 @@ impl<const PREFIX_LEN: usize> Index<PREFIX_LEN> {
     ) -> Result<Handled, RunFault>
         requires open { W.has_failed sink.old ≡ false }
         requires read { option_map (λ word. command_with word fields.now) word ≡ command_of line.now }
+        requires few { ahead ≤ most_ahead (command_of line.now) }
         ensures output { IfOk result (λ done.
             W.taken sink.new ≡ W.taken sink.old ++ answer done.memory self.old.records line.now) }
         ensures left { IfOk result (λ done. self.new.records ≡ left_by done.memory self.old.records line.now) }
@@ -111,15 +114,22 @@ impl<const PREFIX_LEN: usize> Index<PREFIX_LEN> {
         ensures short { IfOk result (λ done. IsShort (command_of line.now) done.visits) }
         ensures own_path { IfOk result (λ done. ReadsOwnPath (command_of line.now) self.old.records done.visits) }
         ensures counted { IfOk result (λ done. self.new.reads ≡ self.old.reads ++ done.visits ∷ []) }
-        ensures ahead { IfOk result (λ done. self.new.ahead ≡ self.old.ahead ++ ahead ∷ []) }
+        ensures ahead { self.new.ahead ≡ self.old.ahead ++ ahead ∷ [] }
         ensures prefetched { self.new.prefetched ≡ self.old.prefetched }
         ensures err { IfErr result (λ fault. fault ≡ RunFault.Write) }
         ensures failed { is_err result ≡ W.has_failed sink.new }
         ensures cut { OnErr result (IsCutLine self.old line.now (W.taken sink.old) (W.taken sink.new) self.new) }
     {
-        let handled = self.execute(line, word, fields, sink)?;
-        self.count_ahead(ahead);
-        Ok(handled)
+        match self.execute(line, word, fields, sink) {
+            Ok(handled) => {
+                self.count_ahead(ahead);
+                Ok(handled)
+            }
+            Err(fault) => {
+                self.count_ahead(ahead);
+                Err(fault)
+            }
+        }
     }
 
     // Executes a line as `execute_parsed` does, and counts nothing of what was read ahead of it.
@@ -134,10 +144,10 @@ impl<const PREFIX_LEN: usize> Index<PREFIX_LEN> {
         requires read { option_map (λ word. command_with word fields.now) word ≡ command_of _line.now }
         ensures done { IfOk result (λ done. IsLineAnswered done.memory done.visits _line.now self.old self.new
             (W.taken sink.old) (W.taken sink.new)) }
-        ensures prefetched { self.new.prefetched ≡ self.old.prefetched }
+        ensures kept { (self.new.ahead ≡ self.old.ahead) × (self.new.prefetched ≡ self.old.prefetched) }
         ensures err { IfErr result (λ fault. fault ≡ RunFault.Write) }
         ensures failed { is_err result ≡ W.has_failed sink.new }
-        ensures cut { OnErr result (IsCutLine self.old _line.now (W.taken sink.old) (W.taken sink.new) self.new) }
+        ensures cut { OnErr result (IsAnswerCut self.old _line.now (W.taken sink.old) (W.taken sink.new) self.new) }
     {
         match word {
             Some(Word::LookUp(word)) => self.execute_look_up(_line, word, fields, sink),
@@ -160,16 +170,19 @@ impl<const PREFIX_LEN: usize> Index<PREFIX_LEN> {
         requires read { Some (looks_up word fields.now) ≡ command_of _line.now }
         ensures done { IfOk result (λ done. IsLineAnswered done.memory done.visits _line.now self.old self.new
             (W.taken sink.old) (W.taken sink.new)) }
-        ensures prefetched { self.new.prefetched ≡ self.old.prefetched }
+        ensures kept { (self.new.ahead ≡ self.old.ahead) × (self.new.prefetched ≡ self.old.prefetched) }
         ensures err { IfErr result (λ fault. fault ≡ RunFault.Write) }
         ensures failed { is_err result ≡ W.has_failed sink.new }
-        ensures cut { OnErr result (IsCutLine self.old _line.now (W.taken sink.old) (W.taken sink.new) self.new) }
+        ensures cut { OnErr result (IsAnswerCut self.old _line.now (W.taken sink.old) (W.taken sink.new) self.new) }
     {
-        let visits = self.look_up(word, fields, sink)?;
-        Ok(Handled {
-            memory: false,
-            visits,
-        })
+        let looked = self.look_up(word, fields, sink);
+        match looked.0 {
+            Ok(()) => Ok(Handled {
+                memory: false,
+                visits: looked.1,
+            }),
+            Err(fault) => Err(fault),
+        }
     }
 
     // Makes a change, and writes how it went.
@@ -184,14 +197,14 @@ impl<const PREFIX_LEN: usize> Index<PREFIX_LEN> {
         requires read { Some (changes word fields.now) ≡ command_of _line.now }
         ensures done { IfOk result (λ done. IsLineAnswered done.memory done.visits _line.now self.old self.new
             (W.taken sink.old) (W.taken sink.new)) }
-        ensures prefetched { self.new.prefetched ≡ self.old.prefetched }
+        ensures kept { (self.new.ahead ≡ self.old.ahead) × (self.new.prefetched ≡ self.old.prefetched) }
         ensures err { IfErr result (λ fault. fault ≡ RunFault.Write) }
         ensures failed { is_err result ≡ W.has_failed sink.new }
-        ensures cut { OnErr result (IsCutLine self.old _line.now (W.taken sink.old) (W.taken sink.new) self.new) }
+        ensures cut { OnErr result (IsAnswerCut self.old _line.now (W.taken sink.old) (W.taken sink.new) self.new) }
     {
         let done = self.change(word, fields);
-        write_changed(sink, &done)?;
         self.count(0);
+        write_changed(sink, &done)?;
         Ok(Handled {
             memory: done.is_memory(),
             visits: 0,
@@ -209,14 +222,14 @@ impl<const PREFIX_LEN: usize> Index<PREFIX_LEN> {
         requires read { Some (drops fields.now) ≡ command_of _line.now }
         ensures done { IfOk result (λ done. IsLineAnswered done.memory done.visits _line.now self.old self.new
             (W.taken sink.old) (W.taken sink.new)) }
-        ensures prefetched { self.new.prefetched ≡ self.old.prefetched }
+        ensures kept { (self.new.ahead ≡ self.old.ahead) × (self.new.prefetched ≡ self.old.prefetched) }
         ensures err { IfErr result (λ fault. fault ≡ RunFault.Write) }
         ensures failed { is_err result ≡ W.has_failed sink.new }
-        ensures cut { OnErr result (IsCutLine self.old _line.now (W.taken sink.old) (W.taken sink.new) self.new) }
+        ensures cut { OnErr result (IsAnswerCut self.old _line.now (W.taken sink.old) (W.taken sink.new) self.new) }
     {
         let dropped = self.drop_tenant(fields);
-        write_dropped(sink, dropped)?;
         self.count(dropped.visits());
+        write_dropped(sink, dropped)?;
         Ok(Handled {
             memory: dropped.is_memory(),
             visits: dropped.visits(),
@@ -235,14 +248,14 @@ impl<const PREFIX_LEN: usize> Index<PREFIX_LEN> {
         requires read { Some (asks_all word) ≡ command_of _line.now }
         ensures done { IfOk result (λ done. IsLineAnswered done.memory done.visits _line.now self.old self.new
             (W.taken sink.old) (W.taken sink.new)) }
-        ensures prefetched { self.new.prefetched ≡ self.old.prefetched }
+        ensures kept { (self.new.ahead ≡ self.old.ahead) × (self.new.prefetched ≡ self.old.prefetched) }
         ensures err { IfErr result (λ fault. fault ≡ RunFault.Write) }
         ensures failed { is_err result ≡ W.has_failed sink.new }
-        ensures cut { OnErr result (IsCutLine self.old _line.now (W.taken sink.old) (W.taken sink.new) self.new) }
+        ensures cut { OnErr result (IsAnswerCut self.old _line.now (W.taken sink.old) (W.taken sink.new) self.new) }
     {
         let found = self.survey(word);
-        self.write_survey(found, sink)?;
         self.count(0);
+        self.write_survey(found, sink)?;
         Ok(Handled {
             memory: found.is_memory(),
             visits: 0,
@@ -255,13 +268,13 @@ impl<const PREFIX_LEN: usize> Index<PREFIX_LEN> {
         requires read { command_of _line.now ≡ None }
         ensures done { IfOk result (λ done. IsLineAnswered done.memory done.visits _line.now self.old self.new
             (W.taken sink.old) (W.taken sink.new)) }
-        ensures prefetched { self.new.prefetched ≡ self.old.prefetched }
+        ensures kept { (self.new.ahead ≡ self.old.ahead) × (self.new.prefetched ≡ self.old.prefetched) }
         ensures err { IfErr result (λ fault. fault ≡ RunFault.Write) }
         ensures failed { is_err result ≡ W.has_failed sink.new }
-        ensures cut { OnErr result (IsCutLine self.old _line.now (W.taken sink.old) (W.taken sink.new) self.new) }
+        ensures cut { OnErr result (IsAnswerCut self.old _line.now (W.taken sink.old) (W.taken sink.new) self.new) }
     {
-        write_piece(sink, b"bad\n")?;
         self.count(0);
+        write_piece(sink, b"bad\n")?;
         Ok(Handled {
             memory: false,
             visits: 0,

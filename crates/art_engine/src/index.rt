@@ -1,6 +1,6 @@
 //! An index. It alone holds the two maps: what it lends are readers that count, what it makes are changes. So it can be
 //! read whole what touches a map.
-ghost use Rattle.std.specs.Prelude.{◌≡◌, ◌+◌, ◌∷◌, [], ◌++◌, List, ℕ, map, OnErr, IfOk, IfErr, Some, false, flat_map};
+ghost use Rattle.std.specs.Prelude.{◌≡◌, ◌+◌, ◌≤◌, ◌∷◌, [], ◌++◌, List, ℕ, map, OnOk, IfErr, Some, false, flat_map};
 ghost use Rattle.art_lines.specs.Commands.{Spells};
 ghost use Rattle.art_lines.specs.Parsed.{asks_all, changes, looks_up, tenant_in_place};
 ghost use Rattle.art_lines.specs.Words.{line_of};
@@ -163,30 +163,31 @@ impl<const PREFIX_LEN: usize> Index<PREFIX_LEN> {
         &self.numbers
     }
 
-    /// Executes a look-up through a reader of each map, and returns how many nodes both have read. That is counted.
+    /// Executes a look-up through a reader of each map. Also returns how many nodes both have read, whatever became of
+    /// the reply. That is counted.
     pub(crate) fn look_up<W: Sink>(
         &mut self,
         word: LookUp,
         fields: &Fields,
         sink: &mut W,
-    ) -> Result<u64, RunFault>
+    ) -> (Result<(), RunFault>, u64)
         requires open { W.has_failed sink.old ≡ false }
-        ensures output { Writes result (W.taken sink.old) (W.taken sink.new)
+        ensures output { Writes result.0 (W.taken sink.old) (W.taken sink.new)
             (flat_map line_of (command_reply (Some (looks_up word fields.now)) self.old.records))
             (W.has_failed sink.new) }
-        ensures err { IfErr result (λ fault. fault ≡ RunFault.Write) }
-        ensures visits { IfOk result (λ count.
-            IsWithin (visits_of (Some (looks_up word fields.now)) self.old.records) count) }
-        ensures counted { IfOk result (λ count. self.new.reads ≡ self.old.reads ++ count ∷ []) }
-        ensures uncounted { OnErr result (self.new.reads ≡ self.old.reads) }
+        ensures err { IfErr result.0 (λ fault. fault ≡ RunFault.Write) }
+        ensures visits { OnOk result.0
+            (IsWithin (visits_of (Some (looks_up word fields.now)) self.old.records) result.1) }
+        ensures few { result.1 ≤ (visits_of (Some (looks_up word fields.now)) self.old.records).most }
+        ensures counted { self.new.reads ≡ self.old.reads ++ result.1 ∷ [] }
         ensures kept { (self.new.records ≡ self.old.records) × (self.new.ahead ≡ self.old.ahead)
             × (self.new.prefetched ≡ self.old.prefetched) }
         ensures are { AreRecords self.old.records }
     {
         let readers = Readers::new(&self.records, &self.numbers);
-        let visits = readers.execute(word, fields, sink)?;
-        self.count(visits);
-        Ok(visits)
+        let executed = readers.execute(word, fields, sink);
+        self.count(executed.1);
+        executed
     }
 
     /// Counts what a line has read.

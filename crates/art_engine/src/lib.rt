@@ -24,8 +24,11 @@ mod readers;
 mod running;
 mod survey;
 
+pub use art_lines::{
+    Command, FromReader, ReadFailed, Sink, Source, ToWriter, WriteFailed, parse_line,
+};
 pub use handling::{Handled, RunFault};
 pub use index::Index;
-pub use lookup::look_up;
+pub use lookup::{look, look_up};
 pub use maps::are_records;
 pub use running::{flushed, run};

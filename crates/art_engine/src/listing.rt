@@ -1,5 +1,5 @@
 //! Walks over a tenant's records, each leaf that is read counted. A span is opened, and then read and written as lines.
-ghost use Rattle.std.specs.Prelude.{◌≡◌, ◌+◌, ◌++◌, ◌^◌, ◌<◌, ℕ, IfOk, List, OnErr, OnOk, Some, false, flat_map};
+ghost use Rattle.std.specs.Prelude.{◌≡◌, ◌+◌, ◌++◌, ◌^◌, ◌<◌, ◌≤◌, ℕ, IfOk, List, OnErr, OnOk, Some, false, flat_map};
 ghost use Rattle.std.specs.Prelude.{int_lt, is_err, length, map, max, take};
 ghost use Rattle.std.specs.Global.{Vec};
 ghost use Rattle.std.specs.List.{AllByRecursion};
@@ -117,6 +117,7 @@ fn write_pairs<K: ListedKey, W: Sink, const PREFIX_LEN: usize>(
     ensures kept { IsSameMap records.old records.new }
     ensures counts { OnOk result
         (GrewBy (length (span_pairs records.old.nodes span.old)) records.old.count records.new.count) }
+    ensures few { records.new.count ≤ records.old.count + length (span_pairs records.old.nodes span.old) }
 {
     let mut room = [0; ROOM];
     let (mut held, mut count) = (0, 0);
@@ -147,6 +148,9 @@ pub(crate) fn write_list<W: Sink, const PREFIX_LEN: usize>(
     ensures visits { (ps : List Pair) → ReadsRecords PREFIX_LEN records.old ps → OnOk result (Grew
         (visits_of (Some (of_tenant (tenant_in_place fields.now) (list (key_in_place fields.now)))) (records_of ps))
         records.old.count records.new.count) }
+    ensures few { (ps : List Pair) → ReadsRecords PREFIX_LEN records.old ps → records.new.count ≤ records.old.count
+        + (visits_of (Some (of_tenant (tenant_in_place fields.now) (list (key_in_place fields.now))))
+        (records_of ps)).most }
 {
     let mut span = records.prefix(&SliceKey(fields.full_key()));
     write_pairs(records, &mut span, sink)
@@ -171,6 +175,9 @@ pub(crate) fn write_span<W: Sink, const PREFIX_LEN: usize>(
         (visits_of (Some (of_tenant (tenant_in_place fields.now)
         (span (key_in_place fields.now) (value_in_place fields.now)))) (records_of ps))
         records.old.count records.new.count) }
+    ensures few { (ps : List Pair) → ReadsRecords PREFIX_LEN records.old ps → records.new.count ≤ records.old.count
+        + (visits_of (Some (of_tenant (tenant_in_place fields.now)
+        (span (key_in_place fields.now) (value_in_place fields.now)))) (records_of ps)).most }
 {
     if fields.value().cmp(fields.key()).is_lt() {
         return write_piece(sink, b"bounds\n");
@@ -199,6 +206,11 @@ fn write_between<W: Sink, const PREFIX_LEN: usize>(
         (max (length (key_in_place fields.now)) (length (value_in_place fields.now)))
         (longest full_key_of (records_of ps).keys))
         records.old.count records.new.count) }
+    ensures few { (ps : List Pair) → ReadsRecords PREFIX_LEN records.old ps → records.new.count ≤ records.old.count
+        + (listing (length (pairs_from_to (key_in_place fields.now) (value_in_place fields.now)
+        (own (tenant_in_place fields.now) (records_of ps)).keys))
+        (max (length (key_in_place fields.now)) (length (value_in_place fields.now)))
+        (longest full_key_of (records_of ps).keys)).most }
 {
     let (low, high) = (SliceKey(fields.full_key()), SliceKey(fields.full_bound()));
     let mut span = records.range(Bound::Included(&low), Bound::Excluded(&high));
@@ -224,6 +236,9 @@ pub(crate) fn write_number_span<W: Sink, const PREFIX_LEN: usize>(
         (visits_of (Some (of_tenant (tenant_in_place fields.now)
         (nspan (number_in_place fields.now) (bound_in_place fields.now)))) (number_records_of ns))
         numbers.old.count numbers.new.count) }
+    ensures few { (ns : List NumberPair) → ReadsNumbers PREFIX_LEN numbers.old ns
+        → numbers.new.count ≤ numbers.old.count + (visits_of (Some (of_tenant (tenant_in_place fields.now)
+        (nspan (number_in_place fields.now) (bound_in_place fields.now)))) (number_records_of ns)).most }
 {
     if fields.bound() < fields.number() {
         return write_piece(sink, b"bounds\n");
@@ -250,6 +265,10 @@ fn write_numbers_between<W: Sink, const PREFIX_LEN: usize>(
         (listing (length (numbers_from_to (number_in_place fields.now) (bound_in_place fields.now)
         (own (tenant_in_place fields.now) (number_records_of ns)).numbers)) 8 12)
         numbers.old.count numbers.new.count) }
+    ensures few { (ns : List NumberPair) → ReadsNumbers PREFIX_LEN numbers.old ns
+        → numbers.new.count ≤ numbers.old.count
+        + (listing (length (numbers_from_to (number_in_place fields.now) (bound_in_place fields.now)
+        (own (tenant_in_place fields.now) (number_records_of ns)).numbers)) 8 12).most }
 {
     let (low, high) = (fields.number_key(), fields.bound_key());
     let mut span = numbers.range(Bound::Included(&low), Bound::Included(&high));

@@ -6,7 +6,8 @@
 //! A descent follows the line's full key and no further, and each node is counted. It passes prefixes as the look-up
 //! of the line does, by their lengths or by their bytes. No reply rests on what is prefetched: if a line between
 //! changes a tree, a later path may have been prefetched in vain.
-ghost use Rattle.std.specs.Prelude.{◌≡◌, ◌≤◌, ◌<◌, ◌+◌, [], IfSome, IsTrue, drop, length, option_map, take, ◌++◌, map};
+ghost use Rattle.std.specs.Prelude.{◌≡◌, ◌≤◌, ◌<◌, ◌+◌, [], None, IfSome, IsTrue, drop, length};
+ghost use Rattle.std.specs.Prelude.{option_map, take, ◌++◌, map};
 ghost use Rattle.std.specs.List.{sum_by};
 ghost use Rattle.std.specs.Prelude.{if◌then◌else◌};
 ghost use Rattle.art_arena.specs.arena.Visited.{count_of};
@@ -255,6 +256,20 @@ impl ReadAhead {
             return;
         }
         self.parse_now(line);
+    }
+
+    /// Passes by the next of the lines that are still to come, and returns how many nodes were prefetched for it.
+    pub(crate) fn pass_next(&mut self) -> Option<u64>
+        ensures some { IfSome result (λ n. n + read_of (to_come self.new) ≡ read_of (to_come self.old)) }
+        ensures fewer { IfSome result (λ _. length (to_come self.new) < length (to_come self.old)) }
+        ensures none { result ≡ None → (to_come self.old ≡ []) × (to_come self.new ≡ []) }
+    {
+        let at = self.at;
+        if at < self.len && at < self.lines.len() {
+            self.at += 1;
+            return Some(self.lines[at].parsed().ahead);
+        }
+        None
     }
 
     /// Parses a line in its turn.

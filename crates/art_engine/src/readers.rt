@@ -1,5 +1,5 @@
 //! What a look-up is given: a reader of each map, and no map.
-ghost use Rattle.std.specs.Prelude.{◌≡◌, List, Some, false, flat_map, IfErr, IfOk};
+ghost use Rattle.std.specs.Prelude.{◌≡◌, ◌≤◌, List, Some, false, flat_map, IfErr, OnOk};
 ghost use Rattle.art_lines.specs.Words.{line_of};
 ghost use Rattle.art_engine.specs.Counts.{visits_of, IsWithin};
 ghost use Rattle.art_lines.specs.Writes.{Writes};
@@ -42,31 +42,35 @@ impl<'a, const PREFIX_LEN: usize> Readers<'a, PREFIX_LEN> {
         }
     }
 
-    /// Executes a look-up through a reader of each map, and returns how many nodes both have read.
+    /// Executes a look-up through a reader of each map. Also returns how many nodes both have read, whatever became of
+    /// the reply.
     pub(crate) fn execute<W: Sink>(
         self,
         word: LookUp,
         fields: &Fields,
         sink: &mut W,
-    ) -> Result<u64, RunFault>
+    ) -> (Result<(), RunFault>, u64)
         requires open { W.has_failed sink.old ≡ false }
         requires bytes { (ps : List Pair) × ReadsRecords PREFIX_LEN self.bytes ps }
         requires numbers { (ns : List NumberPair) × ReadsNumbers PREFIX_LEN self.numbers ns }
         requires unread { (self.bytes.count ≡ 0) × (self.numbers.count ≡ 0) }
         ensures output { (ps : List Pair) (ns : List NumberPair) → ReadsRecords PREFIX_LEN self.entry.bytes ps
-            → ReadsNumbers PREFIX_LEN self.entry.numbers ns → Writes result (W.taken sink.old) (W.taken sink.new)
+            → ReadsNumbers PREFIX_LEN self.entry.numbers ns → Writes result.0 (W.taken sink.old) (W.taken sink.new)
             (flat_map line_of (command_reply (Some (looks_up word fields.now)) (all_records_of ps ns)))
             (W.has_failed sink.new) }
-        ensures err { IfErr result (λ fault. fault ≡ RunFault.Write) }
+        ensures err { IfErr result.0 (λ fault. fault ≡ RunFault.Write) }
         ensures visits { (ps : List Pair) (ns : List NumberPair) → ReadsRecords PREFIX_LEN self.entry.bytes ps
-            → ReadsNumbers PREFIX_LEN self.entry.numbers ns → IfOk result (λ count. IsWithin
-            (visits_of (Some (looks_up word fields.now)) (all_records_of ps ns)) count) }
+            → ReadsNumbers PREFIX_LEN self.entry.numbers ns → OnOk result.0 (IsWithin
+            (visits_of (Some (looks_up word fields.now)) (all_records_of ps ns)) result.1) }
+        ensures few { (ps : List Pair) (ns : List NumberPair) → ReadsRecords PREFIX_LEN self.entry.bytes ps
+            → ReadsNumbers PREFIX_LEN self.entry.numbers ns
+            → result.1 ≤ (visits_of (Some (looks_up word fields.now)) (all_records_of ps ns)).most }
     {
         let Readers {
             mut bytes,
             mut numbers,
         } = self;
-        look_up(&mut bytes, &mut numbers, word, fields, sink)?;
-        Ok(bytes.visits().saturating_add(numbers.visits()))
+        let done = look_up(&mut bytes, &mut numbers, word, fields, sink);
+        (done, bytes.visits().saturating_add(numbers.visits()))
     }
 }

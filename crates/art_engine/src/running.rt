@@ -1,13 +1,15 @@
 //! From a source to a sink.
-ghost use Rattle.std.specs.Prelude.{◌≡◌, ℕ, ◌<◌, ◌++◌, ◌∷◌, ◌↔◌, ◌⊎◌, [], List, take, OnOk, OnErr, IfErr, is_err};
-ghost use Rattle.std.specs.Prelude.{true, false, suc, Err};
+ghost use Rattle.std.specs.Prelude.{◌≡◌, ℕ, ◌+◌, ◌<◌, ◌≤◌, ◌++◌, ◌∷◌, ◌↔◌, ◌⊎◌, [], List, length, take, OnOk, OnErr};
+ghost use Rattle.std.specs.Prelude.{Bool, IfErr, IfOk, IsTrue, is_err, true, false, suc, Err, Ok, option_map};
 ghost use Rattle.art_lines.specs.Ends.{bytes_taken, calls_to_flush, has_write_failed, writes_unflushed};
 ghost use Rattle.art_lines.specs.Lines.{lines_of, whole_lines_of, lines_so_far};
 ghost use Rattle.art_engine.specs.State.{State};
-ghost use Rattle.art_engine.specs.Ahead.{AreNext, IsAllTold, Tells};
-ghost use Rattle.art_engine.specs.ReadAhead.{to_come, read_of, texts_of};
-ghost use Rattle.art_engine.specs.Outcome.{IsOutcome};
-ghost use Rattle.art_engine.specs.Faults.{AfterWriteFault};
+ghost use Rattle.art_lines.specs.Parsed.{command_with};
+ghost use Rattle.art_lines.specs.Reading.{command_of};
+ghost use Rattle.art_engine.specs.Ahead.{AreNext, IsAllTold, Tells, most_ahead, total};
+ghost use Rattle.art_engine.specs.ReadAhead.{ahead_now, fields_now, to_come, read_of, texts_of, word_now};
+ghost use Rattle.art_engine.specs.Outcome.{IsLineDone, IsOutcome, answer};
+ghost use Rattle.art_engine.specs.Faults.{AfterWriteFault, IsCutLine};
 ghost use Rattle.art_engine.specs.Progress.{Carried, IsCutRun, NoNewline};
 
 use crate::handling::RunFault;
@@ -15,7 +17,7 @@ use crate::index::Index;
 use crate::piece::PieceRoom;
 use crate::read_ahead::ReadAhead;
 use arrayvec::ArrayVec;
-use art_lines::{Sink, Source, ToWriter};
+use art_lines::{ReadFailed, Sink, Source, ToWriter};
 use memchr::memchr;
 use std::io::Write;
 
@@ -49,8 +51,9 @@ pub fn run<S: Source, W: Sink, const PREFIX_LEN: usize>(
         × (W.taken sink.new ≡ W.taken sink.old ++ written)
         × IsOutcome index.old (lines_of text) written index.new) }
 
-    // All that the readers counted that went ahead of lines is counted for these lines, and nothing else is.
-    ensures ahead { OnOk result (IsAllTold index.old index.new) }
+    // However it ends, all that the readers counted that went ahead of lines is told, and nothing else is: what was
+    // read ahead of a line beside it, and after a failed write that of lines which did not come after them.
+    ensures ahead { IsAllTold index.old index.new }
 
     // A fault is that of the end that failed.
     ensures read { (result ≡ Err RunFault.Read) ↔ (S.has_failed source.new ≡ true) }
@@ -61,7 +64,6 @@ pub fn run<S: Source, W: Sink, const PREFIX_LEN: usize>(
         × (S.given source.new ≡ S.given source.old ++ text)
         × (W.taken sink.new ≡ W.taken sink.old ++ written)
         × IsOutcome index.old (whole_lines_of text) written index.new }
-    ensures ahead_of_read_fault { result ≡ Err RunFault.Read → IsAllTold index.old index.new }
 
     // After a failed write, one line more is carried out than is answered whole. Of its answer a beginning is written.
     ensures after_write_fault { result ≡ Err RunFault.Write → (text written : List ℕ)
@@ -93,14 +95,13 @@ fn run_held<S: Source, W: Sink, const PREFIX_LEN: usize>(
         × (S.given source.new ≡ S.given source.old ++ text)
         × (W.taken sink.new ≡ W.taken sink.old ++ written)
         × IsOutcome index.old (lines_of text) written index.new) }
-    ensures ahead { OnOk result (IsAllTold index.old index.new) }
+    ensures ahead { IsAllTold index.old index.new }
     ensures read { (result ≡ Err RunFault.Read) ↔ (S.has_failed source.new ≡ true) }
     ensures write { (result ≡ Err RunFault.Write) ↔ (W.has_failed sink.new ≡ true) }
     ensures after_read_fault { result ≡ Err RunFault.Read → (text written : List ℕ)
         × (S.given source.new ≡ S.given source.old ++ text)
         × (W.taken sink.new ≡ W.taken sink.old ++ written)
         × IsOutcome index.old (whole_lines_of text) written index.new }
-    ensures ahead_of_read_fault { result ≡ Err RunFault.Read → IsAllTold index.old index.new }
     ensures after_write_fault { result ≡ Err RunFault.Write → (text written : List ℕ)
         × (S.given source.new ≡ S.given source.old ++ text)
         × (W.taken sink.new ≡ W.taken sink.old ++ written)
@@ -110,7 +111,7 @@ fn run_held<S: Source, W: Sink, const PREFIX_LEN: usize>(
     'reads: loop {
         sink.send();
         let buf = room.as_mut_slice();
-        let Ok(n) = source.read(buf) else {
+        let Ok(n) = read_piece(source, sink, buf) else {
             return Err(RunFault::Read);
         };
         if n == 0 {
@@ -124,9 +125,30 @@ fn run_held<S: Source, W: Sink, const PREFIX_LEN: usize>(
     }
     let line = held.as_slice();
     read_ahead.parse_now(line);
-    let parsed = read_ahead.parsed();
-    index.execute_parsed(line, parsed.word, parsed.fields, 0, sink)?;
+    execute_current(index, read_ahead, line, sink)?;
     Ok(())
+}
+
+/// Reads the next piece, and returns how many bytes it has. No other function reads from a source. Nothing may be held
+/// back in the sink then: a client may wait for its replies before it sends more.
+#[inline(always)]
+fn read_piece<S: Source, W: Sink>(
+    source: &mut S,
+    _sink: &W,
+    buf: &mut [u8],
+) -> Result<usize, ReadFailed>
+    requires room { 0 < length buf.old }
+    requires out { W.is_out _sink.now }
+    ensures bound { IfOk result (λ n. n ≤ length buf.new) }
+    ensures gives { IfOk result (λ n. S.given source.new ≡ S.given source.old ++ take n buf.new) }
+    ensures gives_none { OnErr result (S.given source.new ≡ S.given source.old) }
+    ensures failed { is_err result ≡ S.has_failed source.new }
+    ensures ends { result ≡ Ok 0 → IsTrue (S.has_ended source.new) }
+    ensures goes_on { IfOk result (λ n. 0 < n → S.has_ended source.new ≡ S.has_ended source.old) }
+    ensures ended_before { OnErr result (S.has_ended source.new ≡ S.has_ended source.old) }
+    ensures fewer { IfOk result (λ n. 0 < n → S.reads_left source.new < S.reads_left source.old) }
+{
+    source.read(buf)
 }
 
 /// Executes the lines that the piece ends, and holds what stands after them. A line that lies whole in the piece is
@@ -143,8 +165,8 @@ fn feed<W: Sink, const PREFIX_LEN: usize>(
     ensures carried { OnOk result ((start : State) (text before : List ℕ)
         → Carried start index.old text held.old.items before (W.taken sink.old)
         → Carried start index.new (text ++ piece.now) held.new.items before (W.taken sink.new)) }
-    ensures used_up { OnOk result (to_come read_ahead.new ≡ []) }
-    ensures counted { OnOk result (Tells index.old 0 index.new 0) }
+    ensures used_up { to_come read_ahead.new ≡ [] }
+    ensures counted { Tells index.old 0 index.new 0 }
     ensures cut { OnErr result ((start : State) (text before : List ℕ)
         → Carried start index.old text held.old.items before (W.taken sink.old)
         → IsCutRun start index.new (whole_lines_of (text ++ piece.now)) before (W.taken sink.new)) }
@@ -180,8 +202,8 @@ fn finish_line<W: Sink, const PREFIX_LEN: usize>(
     ensures emptied { OnOk result (held.new.items ≡ []) }
     ensures comes { OnOk result ((following : List ℕ) → rest.now ≡ (part.now ++ 10 ∷ []) ++ following
         → AreNext (texts_of (to_come read_ahead.new)) following) }
-    ensures counted { OnOk result
-        (Tells index.old (read_of (to_come read_ahead.old)) index.new (read_of (to_come read_ahead.new))) }
+    ensures used_up { OnErr result (to_come read_ahead.new ≡ []) }
+    ensures counted { Tells index.old (read_of (to_come read_ahead.old)) index.new (read_of (to_come read_ahead.new)) }
     ensures cut { OnErr result ((start : State) (text before : List ℕ)
         → NoNewline part.now
         → Carried start index.old text held.old.items before (W.taken sink.old)
@@ -192,17 +214,61 @@ fn finish_line<W: Sink, const PREFIX_LEN: usize>(
     if held.is_empty() {
         index.prefetch(read_ahead, rest);
         read_ahead.next(part);
-        let parsed = read_ahead.parsed();
-        index.execute_parsed(part, parsed.word, parsed.fields, parsed.ahead, sink)?;
+        execute_current(index, read_ahead, part, sink)?;
         return Ok(());
     }
     append_capped(held, part);
     let line = held.as_slice();
     read_ahead.parse_now(line);
-    let parsed = read_ahead.parsed();
-    index.execute_parsed(line, parsed.word, parsed.fields, 0, sink)?;
+    execute_current(index, read_ahead, line, sink)?;
     held.clear();
     Ok(())
+}
+
+/// Executes the line that came last, whose bytes these are. If the sink fails, what was read ahead of lines that do not
+/// come is counted, too.
+fn execute_current<W: Sink, const PREFIX_LEN: usize>(
+    index: &mut Index<PREFIX_LEN>,
+    read_ahead: &mut ReadAhead,
+    line: &[u8],
+    sink: &mut W,
+) -> Result<(), RunFault>
+    requires open { W.has_failed sink.old ≡ false }
+    requires read { option_map (λ word. command_with word (fields_now read_ahead.old)) (word_now read_ahead.old)
+        ≡ command_of line.now }
+    requires few { ahead_now read_ahead.old ≤ most_ahead (command_of line.now) }
+    ensures done { OnOk result ((memory : Bool) × IsLineDone memory index.old line.now index.new
+        × (W.taken sink.new ≡ W.taken sink.old ++ answer memory index.old.records line.now)) }
+    ensures cut { OnErr result (IsCutLine index.old line.now (W.taken sink.old) (W.taken sink.new) index.new) }
+    ensures kept { OnOk result (to_come read_ahead.new ≡ to_come read_ahead.old) }
+    ensures used_up { OnErr result (to_come read_ahead.new ≡ []) }
+    ensures counted { total index.new.ahead + read_of (to_come read_ahead.new)
+        ≡ total index.old.ahead + ahead_now read_ahead.old + read_of (to_come read_ahead.old) }
+    ensures prefetched { index.new.prefetched ≡ index.old.prefetched }
+    ensures err { IfErr result (λ fault. fault ≡ RunFault.Write) }
+    ensures failed { is_err result ≡ W.has_failed sink.new }
+{
+    let parsed = read_ahead.parsed();
+    match index.execute_parsed(line, parsed.word, parsed.fields, parsed.ahead, sink) {
+        Ok(_handled) => Ok(()),
+        Err(fault) => {
+            count_unused(index, read_ahead);
+            Err(fault)
+        }
+    }
+}
+
+/// Counts what was read ahead of lines that do not come, each by itself.
+fn count_unused<const PREFIX_LEN: usize>(index: &mut Index<PREFIX_LEN>, read_ahead: &mut ReadAhead)
+    ensures told { (unused : List ℕ) × (index.new.ahead ≡ index.old.ahead ++ unused)
+        × (total unused ≡ read_of (to_come read_ahead.old)) }
+    ensures used_up { to_come read_ahead.new ≡ [] }
+    ensures kept { (index.new.records ≡ index.old.records) × (index.new.reads ≡ index.old.reads)
+        × (index.new.prefetched ≡ index.old.prefetched) }
+{
+    'lines: while let Some(ahead) = read_ahead.pass_next() {
+        index.count_ahead(ahead);
+    }
 }
 
 /// Appends the part to what is held, as far as there is room.

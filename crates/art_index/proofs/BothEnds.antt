@@ -1,7 +1,9 @@
 -- What holds at the end of the program of the two steps to it: all is answered, and what was written is flushed.
-use Rattle.std.proofs.Common.{◌≡◌, ℕ, Bool, true, false, List, [], ◌++◌, Ok, Err, Result, sym, ap, subst, ◌∙◌}
-use Rattle.std.specs.Prelude.{OnOk, IfErr, is_err, ◌↔◌}
-use Rattle.art_lines.specs.Lines.{lines_of}
+use Rattle.std.proofs.Common.{◌≡◌, ℕ, Bool, true, false, List, [], ◌++◌, Ok, Err, Result, refl, sym, ap, subst, ◌∙◌}
+use Rattle.std.proofs.Common.{append-nil, inl, inr}
+use Rattle.std.specs.Prelude.{OnErr, OnOk, IfErr, is_err, ◌↔◌, ◌⊎◌}
+use Rattle.art_lines.specs.Lines.{lines_of, lines_so_far, whole_lines_of}
+use Rattle.art_engine.specs.Faults.{AfterWriteFault}
 use Rattle.art_engine.specs.State.{State}
 use Rattle.art_engine.specs.Outcome.{IsOutcome}
 use Rattle.art_engine.specs.declared.handling.RunFault.{RunFault}
@@ -36,3 +38,81 @@ pub no_write_failed : {T U E : Type 0} (first : Result T E) (last : Result U E) 
 no_write_failed (Ok x) (Ok y) failed exact kept = sym exact
 no_write_failed (Ok x) (Err e) failed exact kept = tt
 no_write_failed {T} {U} {E} (Err e) last failed exact kept = subst (λ r. OnOk r (failed ≡ false)) (sym kept) tt
+
+-- a failed write is told where the read did not fail: by the first step, or by the flush after it
+pub write_is_told : {T : Type 0} (first last : Result T RunFault) (read before after : Bool) → (first ≡ Err Read) ↔ (read ≡ true)
+    → (first ≡ Err Write) ↔ ((before ≡ true) × (read ≡ false)) → IfErr first (λ e. last ≡ Err e) → OnOk first (IfErr last (λ e. e ≡ Write)) → OnOk first (is_err last ≡ after)
+    → OnErr first (after ≡ before) → (last ≡ Err Write) ↔ ((after ≡ true) × (read ≡ false))
+write_is_told (Ok x) (Ok y) read before after told wrote kept write exact same = (λ e. absurd (cc), λ f. let yes = f.0 in absurd (cc))
+write_is_told (Ok x) (Err e) true before after told wrote kept write exact same = let no = told.1 refl in absurd (cc)
+write_is_told (Ok x) (Err e) false before after told wrote kept write exact same = (λ _. (sym exact, refl), λ _. ap Err write)
+write_is_told (Err e) last read before after told wrote kept write exact same =
+    (λ f. let is = wrote.0 (sym kept ∙ f) in (same ∙ is.0, is.1), λ f. kept ∙ wrote.1 (sym same ∙ f.0, f.1))
+
+-- where one fault is told, a failed write is told where the read did not fail
+pub ran_write_is_told : {T : Type 0} (first : Result T RunFault) (read wrote : Bool) → (first ≡ Err Read) ↔ (read ≡ true) → (first ≡ Err Write) ↔ (wrote ≡ true)
+    → (first ≡ Err Write) ↔ ((wrote ≡ true) × (read ≡ false))
+ran_write_is_told first true wrote told w = (λ f. let is = told.1 refl in absurd (cc), λ f. let no = f.1 in absurd (cc))
+ran_write_is_told first false wrote told w = (λ f. (w.0 f, refl), λ f. w.1 f.0)
+
+-- where a failed read is told, it is that of the first step, and what holds after that one's fault
+pub read_first : {T A : Type 0} (first last : Result T RunFault) → IfErr first (λ e. last ≡ Err e) → OnOk first (IfErr last (λ e. e ≡ Write)) → OnErr first A → last ≡ Err Read
+    → (first ≡ Err Read) × A
+read_first (Ok x) (Ok y) kept write a is = absurd (cc)
+read_first (Ok x) (Err e) kept write a is = let no : e ≡ Write = write in absurd (cc)
+read_first (Err e) last kept write a is = (sym kept ∙ is, a)
+
+-- and where a failed write is told, it is that of the first step, or all was answered
+pub write_first : {T Q : Type 0} (first last : Result T RunFault) → IfErr first (λ e. last ≡ Err e) → OnOk first Q → last ≡ Err Write → (first ≡ Err Write) ⊎ Q
+write_first (Ok x) last kept q is = inr q
+write_first (Err e) last kept q is = inl (sym kept ∙ is)
+
+module _ (old new : State) (given taken out start begun : List ℕ) (none : start ≡ []) (nothing : begun ≡ []) (same : out ≡ taken) where
+  whole : (text : List ℕ) → given ≡ start ++ text → text ≡ given
+  whole text is = sym (is ∙ ap (λ s. s ++ text) none)
+
+  -- what was answered after a failed read, from nothing
+  pub read_answered : (failed now : Bool) → now ≡ failed
+      → ((text written rest : List ℕ) × (given ≡ start ++ text) × (taken ++ rest ≡ begun ++ written) × (failed ≡ false → rest ≡ []) × IsOutcome old (whole_lines_of text) written new)
+      → (written rest : List ℕ) × (out ++ rest ≡ written) × (now ≡ false → rest ≡ []) × IsOutcome old (whole_lines_of given) written new
+  read_answered failed now is o =
+      let text : List ℕ = o.0 in let written : List ℕ = o.1 in let rest : List ℕ = o.2 in (
+        written,
+        rest,
+        ap (λ t. t ++ rest) same ∙ o.4 ∙ ap (λ s. s ++ written) nothing,
+        λ fine. o.5 (sym is ∙ fine),
+        subst (λ t. IsOutcome old (whole_lines_of t) written new) (whole text o.3) o.6,
+      )
+
+  pub read_answered_at_once : ((text written : List ℕ) × (given ≡ start ++ text) × (taken ≡ begun ++ written) × IsOutcome old (whole_lines_of text) written new)
+      → IsOutcome old (whole_lines_of given) out new
+  read_answered_at_once o =
+      let text : List ℕ = o.0 in let written : List ℕ = o.1 in
+      subst (λ w. IsOutcome old (whole_lines_of given) w new) (sym (same ∙ o.3 ∙ ap (λ s. s ++ written) nothing))
+      (subst (λ t. IsOutcome old (whole_lines_of t) written new) (whole text o.2) o.4)
+
+  -- and after a failed write
+  pub write_answered : (ended : Bool)
+      → ((text written rest : List ℕ) × (given ≡ start ++ text) × (taken ++ rest ≡ begun ++ written)
+      × (AfterWriteFault old (lines_so_far ended text) written new ⊎ IsOutcome old (lines_of text) written new))
+      → (written rest : List ℕ) × (out ++ rest ≡ written) × (AfterWriteFault old (lines_so_far ended given) written new ⊎ IsOutcome old (lines_of given) written new)
+  write_answered ended o =
+      let text : List ℕ = o.0 in let written : List ℕ = o.1 in let rest : List ℕ = o.2 in (
+        written,
+        rest,
+        ap (λ t. t ++ rest) same ∙ o.4 ∙ ap (λ s. s ++ written) nothing,
+        subst (λ t. AfterWriteFault old (lines_so_far ended t) written new ⊎ IsOutcome old (lines_of t) written new) (whole text o.3) o.5,
+      )
+
+  pub write_answered_at_once : (ended : Bool)
+      → ((text written : List ℕ) × (given ≡ start ++ text) × (taken ≡ begun ++ written) × AfterWriteFault old (lines_so_far ended text) written new)
+      → AfterWriteFault old (lines_so_far ended given) out new
+  write_answered_at_once ended o =
+      let text : List ℕ = o.0 in let written : List ℕ = o.1 in
+      subst (λ w. AfterWriteFault old (lines_so_far ended given) w new) (sym (same ∙ o.3 ∙ ap (λ s. s ++ written) nothing))
+      (subst (λ t. AfterWriteFault old (lines_so_far ended t) written new) (whole text o.2) o.4)
+
+  -- where all was answered nothing is left
+  pub all_written : (ended : Bool) → IsOutcome old (lines_of given) out new
+      → (written rest : List ℕ) × (out ++ rest ≡ written) × (AfterWriteFault old (lines_so_far ended given) written new ⊎ IsOutcome old (lines_of given) written new)
+  all_written ended o = (out, [], append-nil out, inr o)

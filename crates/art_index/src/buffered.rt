@@ -26,12 +26,14 @@ pub fn run_buffered<S: Source, W: Sink, const PREFIX_LEN: usize>(
         × (W.taken sink.new.sink ≡ ⟦<Buffered<W> as Sink>⟧.taken sink.old ++ written)
         × IsOutcome index.old (lines_of text) written index.new) }
 
-    ensures ahead { OnOk result (IsAllTold index.old index.new) }
+    // However it ends, all that was read ahead of lines is told.
+    ensures ahead { IsAllTold index.old index.new }
 
     // A failure of either end stays one. That of the source is told first.
     ensures read { (result ≡ Err RunFault.Read) ↔ (S.has_failed source.new ≡ true) }
-    ensures write { W.has_failed sink.new.sink ≡ true → IsErr result }
-    ensures write_failed { result ≡ Err RunFault.Write → W.has_failed sink.new.sink ≡ true }
+    ensures write { (result ≡ Err RunFault.Write)
+        ↔ ((W.has_failed sink.new.sink ≡ true) × (S.has_failed source.new ≡ false)) }
+    ensures any { W.has_failed sink.new.sink ≡ true → IsErr result }
 
     // After a failed read, the whole lines of the text given are answered, and nothing else. The inner sink of the
     // buffered one has taken all answers, or where it failed, too, all but some at their end.

@@ -10,10 +10,12 @@
 //! contract can say.
 #![tactic(auto)]
 
-ghost use Rattle.std.specs.Prelude.{◌≡◌, ◌<◌, ◌↔◌, length, true, false, OnOk, Err};
+ghost use Rattle.std.specs.Prelude.{◌≡◌, ◌<◌, ◌++◌, ◌↔◌, ◌⊎◌, ℕ, List, [], length, true, false, OnOk, Err};
 ghost use Rattle.art_lines.specs.Ends.{bytes_given, has_run_out, has_read_failed};
 ghost use Rattle.art_lines.specs.Ends.{bytes_taken, calls_to_flush, has_write_failed, writes_unflushed};
-ghost use Rattle.art_lines.specs.Lines.{lines_of};
+ghost use Rattle.art_lines.specs.Lines.{lines_of, lines_so_far, whole_lines_of};
+ghost use Rattle.art_engine.specs.Ahead.{IsAllTold};
+ghost use Rattle.art_engine.specs.Faults.{AfterWriteFault};
 ghost use Rattle.art_engine.specs.Outcome.{IsOutcome};
 
 mod buffered;
@@ -45,6 +47,24 @@ fn serve(rt: &HostRuntime, index: &mut Index<PREFIX_LEN>, room: Vec<u8>) -> Ends
     // A failure of either end is told, that of the source first.
     ensures read { (result.done ≡ Err RunFault.Read) ↔ (has_read_failed result.source ≡ true) }
     ensures write { OnOk result.done (has_write_failed result.sink ≡ false) }
+    ensures write_failed { (result.done ≡ Err RunFault.Write)
+        ↔ ((has_write_failed result.sink ≡ true) × (has_read_failed result.source ≡ false)) }
+
+    // However it ends, all that was read ahead of lines is told.
+    ensures ahead { IsAllTold index.old index.new }
+
+    // After a failed read, the whole lines are answered, and nothing else. Where no write failed, all of it is written.
+    ensures after_read_fault { result.done ≡ Err RunFault.Read → (written rest : List ℕ)
+        × (bytes_taken result.sink ++ rest ≡ written)
+        × (has_write_failed result.sink ≡ false → rest ≡ [])
+        × IsOutcome index.old (whole_lines_of (bytes_given result.source)) written index.new }
+
+    // After a failed write, one line more is carried out than is answered whole; or all lines are, and the last answers
+    // did not leave, or were not flushed. All of the answers is written but some bytes at their end.
+    ensures after_write_fault { result.done ≡ Err RunFault.Write → (written rest : List ℕ)
+        × (bytes_taken result.sink ++ rest ≡ written)
+        × (AfterWriteFault index.old (lines_so_far (has_run_out result.source) (bytes_given result.source)) written
+        index.new ⊎ IsOutcome index.old (lines_of (bytes_given result.source)) written index.new) }
 {
     let mut source = FromReader::new(rt.stdin());
     let mut gathering = Buffered::new(ToWriter::new(rt.stdout()), room);
@@ -63,6 +83,15 @@ fn serve_at_once(rt: &HostRuntime, index: &mut Index<PREFIX_LEN>) -> Ends
     ensures flushed { OnOk result.done ((0 < calls_to_flush result.sink) × (writes_unflushed result.sink ≡ 0)) }
     ensures read { (result.done ≡ Err RunFault.Read) ↔ (has_read_failed result.source ≡ true) }
     ensures write { OnOk result.done (has_write_failed result.sink ≡ false) }
+    ensures write_failed { (result.done ≡ Err RunFault.Write)
+        ↔ ((has_write_failed result.sink ≡ true) × (has_read_failed result.source ≡ false)) }
+    ensures ahead { IsAllTold index.old index.new }
+    ensures after_read_fault { result.done ≡ Err RunFault.Read
+        → IsOutcome index.old (whole_lines_of (bytes_given result.source)) (bytes_taken result.sink) index.new }
+    ensures after_write_fault { result.done ≡ Err RunFault.Write
+        → AfterWriteFault index.old (lines_so_far (has_run_out result.source) (bytes_given result.source))
+        (bytes_taken result.sink) index.new
+        ⊎ IsOutcome index.old (lines_of (bytes_given result.source)) (bytes_taken result.sink) index.new }
 {
     let mut source = FromReader::new(rt.stdin());
     let mut sink = ToWriter::new(rt.stdout());

@@ -14,7 +14,6 @@ use Rattle.std.proofs.Math.Facts.{to_z-of_z}
 use mir.Val.{to_z, of_z}
 use lib.Lanes.{zip2, Each1, chunk}
 use Rattle.art_lines.proofs.Terms.{fields_of, negated, IsFirst, HasNoFirst, AreFirstDigits, IsDigit, IsDigitAt, pairs_shown}
-use Rattle.art_lines.proofs.DigitGroups.{minus}
 use Rattle.art_lines.proofs.Parsing.{digit_is, all_digits, fields_first, fields_none, fields_some, natural_empty, natural_long, natural_padded, natural_other, natural_read, natural_wide, natural_is, tenant_none, tenant_result, number_below, number_above, number_none, number_result, number_empty}
 use Rattle.art_lines.specs.Reading.{natural_in, tenant_in, number_in}
 
@@ -59,6 +58,10 @@ pub shown_few : (most : ℕ) (text : List ℕ) (len n : ℕ) → AreFirstDigits 
 shown_few most text len n h few = let small = shown_small text len n h in let ten : 0 < 10 = omega arith in let more = pow-le-pow_right {n = 10} ten few in omega arith
 
 -- ---- eight digits
+
+-- one lane less another
+abbrev pub minus : ℕ → ℕ → ℕ
+minus a b = (a + (2 ^ 8 - b)) % 2 ^ 8
 
 digit_range : (d : ℕ) → d < 256 → (d + 208) % 256 < 10 → (48 ≤ d) × (d ≤ 57)
 digit_range d small low = (omega arith, omega arith)

@@ -1,15 +1,12 @@
 pub mod HexText
 pub mod Cuts
 pub mod Gathering
-pub mod EightDigits
 pub mod ReplyLines
 pub mod Parsing
 pub mod LastField
 pub mod Shapes
 pub mod FullKeys
-pub mod DigitPairs
 pub mod Spelling
-pub mod DigitGroups
 pub mod Decimals
 pub mod Buffering
 pub mod Terms

@@ -1,5 +1,5 @@
 -- What the parser's steps say of the definitions.
-use Rattle.std.proofs.Common.{◌≡◌, ℕ, zero, suc, ◌+◌, ◌-◌, ◌/◌, ◌^◌, ◌<◌, ◌≤◌, List, [], ◌∷◌, ◌++◌, length, take, drop, get_or, append_assoc, append-nil, length-append, refl, ap, sym, ◌∙◌, Bool, true, false, cond, arith, add-one, Some, None, Option, Ok, Err, Result, IsOk, OnOk, drop_of_length-le}
+use Rattle.std.proofs.Common.{◌≡◌, ℕ, zero, suc, ◌+◌, ◌-◌, ◌^◌, ◌<◌, ◌≤◌, List, [], ◌∷◌, ◌++◌, length, take, drop, get_or, append_assoc, append-nil, length-append, refl, ap, sym, ◌∙◌, Bool, true, false, cond, arith, add-one, Some, None, Option, Ok, Err, Result, IsOk, OnOk, drop_of_length-le}
 use Rattle.std.specs.Prelude.{◌==◌, decimal, nat_lt, nat_le, ◌&&◌, codes, IfSome}
 use Rattle.std.specs.List.{onto_first}
 use Rattle.std.specs.Str.{bytes_eq}
@@ -21,8 +21,7 @@ use Rattle.std.specs.Borrow.{Bor}
 use Rattle.std.specs.Result.{OkIff, result_ok}
 use Rattle.std.proofs.Common.{inl, inr, subst}
 use Rattle.hex.specs.Hex.{decode_of, decode_pairs}
-use Rattle.hex.proofs.HexLemmas.{decode_of-odd}
-use Rattle.std.specs.Prelude.{◌%◌}
+use Rattle.hex.proofs.HexLemmas.{decode_of-ok}
 use Rattle.hex.specs.declared.error.FromHexError.{FromHexError}
 use Rattle.art_lines.specs.declared.command.word.Word.{Word}
 use Rattle.art_lines.proofs.Terms.{Shape, fields_of, negated, some_bytes, command_by, command_in, called, found_among, all_words, word_in, shape_of, with_shape, IsRead}
@@ -245,15 +244,10 @@ pub bytes_dash : (text : List ℕ) → true ≡ bytes_eq text (codes "-") → So
 unfolding bytes_in
 bytes_dash text h = let e = sym h in rw e refl
 
-pub bytes_short : (text : List ℕ) → false ≡ bytes_eq text (codes "-") → length text / 2 ≡ 0 → None ≡ bytes_in text
+pub bytes_empty : (text : List ℕ) → length text ≡ 0 → None ≡ bytes_in text
 unfolding bytes_in decode_pairs
-bytes_short [] h e = refl
-bytes_short (x ∷ []) h e = let f = sym h in rw f refl
-bytes_short (x ∷ y ∷ r) h e = absurd (omega arith)
-
-pub bytes_odd : (text : List ℕ) → false ≡ bytes_eq text (codes "-") → length text % 2 ≡ 1 → None ≡ bytes_in text
-unfolding bytes_in
-bytes_odd text h odd = let f = sym h in rw (f, decode_of-odd text odd) refl
+bytes_empty [] e = refl
+bytes_empty (x ∷ r) e = absurd (omega arith)
 
 bytes_bad : (text : List ℕ) → false ≡ bytes_eq text (codes "-") → is_ok (decode_of text) ≡ false → None ≡ bytes_in text
 unfolding bytes_in
@@ -284,9 +278,11 @@ module _ (front : ℕ) (xs lent new tail : List ℕ) (kept : length (take front 
       ∙ ap (drop front) whole ∙ ap (λ n. drop n (a ++ new)) (sym kept) ∙ drop-append_seam a new
 
   pub decoded : (text : List ℕ) (b : Bool) → MatchBool b (decode_of text ≡ Ok new) (is_ok (decode_of text) ≡ false)
-      → false ≡ bytes_eq text (codes "-") → 0 < length new
+      → false ≡ bytes_eq text (codes "-") → 0 < length text
       → IsRead b (drop front (refill (length xs) xs (take front lent ++ (new ++ tail)))) (bytes_in text)
-  decoded text true d other some = ap (λ l. Some l) pairs_with_prefix ∙ bytes_good text new other d some
+  decoded text true d other some =
+      let long = (decode_of-ok text new d).2 in
+      ap (λ l. Some l) pairs_with_prefix ∙ bytes_good text new other d (omega arith)
   decoded text false d other some = bytes_bad text other d
 
 -- whether something was read, where that is told

@@ -12,4 +12,3 @@ pub mod Parsed
 pub mod Gathered
 pub mod Ends
 pub mod Decimals
-pub mod Digits

@@ -1,5 +1,5 @@
 -- What the parser's values stand for.
-use Rattle.std.specs.Prelude.{ℕ, ℤ, List, take, drop}
+use Rattle.std.specs.Prelude.{ℕ, ℤ, Bool, true, false, List, take, drop}
 use Rattle.std.specs.Int.{from_be_bytes, w32}
 use Rattle.art_lines.specs.declared.command.Command.{Command}
 use Rattle.art_lines.specs.declared.command.Command.TheVariants.{Put, Over, Del, Get, Find, List as ListOf, Span}
@@ -74,3 +74,13 @@ changes w f = command_with (Change w) f
 
 abbrev pub drops : Fields → said.Command
 drops f = command_with Drop f
+
+-- whether it is one of the six look-ups
+abbrev pub is_look_up : Command → Bool
+is_look_up (Get tenant key) = true
+is_look_up (Find tenant key) = true
+is_look_up (ListOf tenant front) = true
+is_look_up (Span tenant low high) = true
+is_look_up (NGet tenant number) = true
+is_look_up (NSpan tenant low high) = true
+is_look_up other = false

@@ -130,6 +130,8 @@ impl<S: Sink> Sink for Buffered<S> {
 
     ghost has_failed = { λ s. has_stopped s };
 
+    ghost is_out = { λ s. (S.has_failed (inner_sink s) ≡ false → held_back s ≡ []) × S.is_out (inner_sink s) };
+
     fn write(&mut self, piece: &[u8]) -> Result<usize, WriteFailed> {
         if self.to == self.room.len() {
             self.write_out();
@@ -148,8 +150,11 @@ impl<S: Sink> Sink for Buffered<S> {
             ≡ S.taken (inner_sink self.old) ++ held_back self.old }
         ensures stays_open { has_stopped self.new ≡ has_stopped self.old }
         ensures sent { S.has_failed (inner_sink self.new) ≡ false → held_back self.new ≡ [] }
+        ensures out { (S.has_failed (inner_sink self.new) ≡ false → held_back self.new ≡ [])
+            × S.is_out (inner_sink self.new) }
     {
         self.write_out();
+        self.sink.send();
     }
 
     fn failed(&self) -> bool {

@@ -7,7 +7,6 @@ ghost use Rattle.art_lines.specs.Reading.{command_of};
 ghost use Rattle.art_lines.specs.Parsed.{meaning, command_with, looks_up, changes};
 
 mod decimals;
-mod digits;
 pub mod fields;
 pub mod shapes;
 pub mod word;
@@ -17,8 +16,11 @@ use fields::{FIELD, Fields};
 use shapes::{read_fields, split_field};
 use word::{Change, LookUp, Whole, Word, row_of};
 
-/// The longest line in bytes, without its newline.
+/// The longest line, in bytes, without its newline.
 pub const LINE: usize = 4096;
+
+/// The longest line with its newline, in bytes: room for any line, and for any reply of one line.
+pub const LINE_ROOM: usize = LINE + 1;
 
 /// What a line asks for.
 #[derive(Drop)]

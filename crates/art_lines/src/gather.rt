@@ -5,6 +5,7 @@ ghost use Rattle.art_lines.specs.ReplyWords.{pair_words, number_words, end_words
 ghost use Rattle.art_lines.specs.Writes.{IsCut, Writes};
 ghost use Rattle.art_lines.specs.Gathered.{IsPartTaken};
 
+use crate::command::LINE_ROOM;
 use crate::reply::{write_long, write_pair, write_piece};
 use crate::room::{put_found, put_number, put_pair, put_text};
 use crate::stream::{Sink, WriteFailed};
@@ -12,9 +13,6 @@ use itoa::Buffer;
 
 /// The bytes of lines that are gathered before they are written, at most, where all records are told.
 pub const ROOM: usize = 8192;
-
-/// The longest line of a record, with its newline.
-const LINE: usize = 4097;
 
 /// The bytes of a tenant, which stand before those of its keys.
 const TENANT_LEN: usize = 4;
@@ -56,7 +54,7 @@ pub fn reserve_line<W: Sink>(sink: &mut W, room: &[u8], held: usize) -> Result<u
     ensures cut { OnErr result (IsCut (W.taken sink.old) (W.taken sink.new) (take held room.now)) }
     ensures failed { is_err result ≡ W.has_failed sink.new }
 {
-    flush_above(sink, room, held, ROOM - LINE - 1)
+    flush_above(sink, room, held, ROOM - LINE_ROOM - 1)
 }
 
 /// Returns the key that stands after the tenant in a full key.

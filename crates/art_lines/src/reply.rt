@@ -6,15 +6,13 @@ ghost use Rattle.art_lines.specs.Words.{shown, line_of, name, natural, bytes};
 ghost use Rattle.art_lines.specs.ReplyWords.{found_or, end_words, pair_words, find_reply};
 ghost use Rattle.art_lines.specs.Writes.{Writes};
 
+use crate::command::LINE_ROOM;
 use crate::room::{put_found, put_pair, put_text};
 use crate::stream::{Sink, WriteFailed};
 use itoa::Buffer;
 
 /// The bytes that are encoded at a time.
 const PART: usize = 64;
-
-/// Room for the longest line.
-const LINE: usize = 4097;
 
 /// Room for the line of a word of four letters and so many bytes.
 const SHORT: usize = 136;
@@ -225,7 +223,7 @@ pub fn write_prefix_pair<W: Sink>(
             if key.len() + value.len() <= PART {
                 write_at(sink, &mut [0; SHORT], key, value)
             } else {
-                write_at(sink, &mut [0; LINE], key, value)
+                write_at(sink, &mut [0; LINE_ROOM], key, value)
             }
         }
         None => write_piece(sink, b"none\n"),

@@ -2,12 +2,26 @@
 ghost use Rattle.std.specs.Prelude.{◌≡◌, ℕ, ◌<◌, ◌≤◌, ◌+◌, ◌++◌, ◌⊎◌, List, Bool, length, take, is_err, IsTrue, IsErr};
 ghost use Rattle.std.specs.Prelude.{IfOk, OnErr, Ok};
 
+use thiserror::Error;
+
 /// A source failed to give bytes.
-#[derive(Clone, Copy, Debug, PartialEq, Eq)]
+///
+/// ```
+/// let told = format!(in rt.alloc(); "{}", art_lines::ReadFailed)?;
+/// assert_eq!(rt; told.as_str(), "the source failed to give bytes");
+/// ```
+#[derive(Clone, Copy, Debug, PartialEq, Eq, Error)]
+#[error("the source failed to give bytes")]
 pub struct ReadFailed;
 
 /// A sink failed to take bytes.
-#[derive(Clone, Copy, Debug, PartialEq, Eq)]
+///
+/// ```
+/// let told = format!(in rt.alloc(); "{}", art_lines::WriteFailed)?;
+/// assert_eq!(rt; told.as_str(), "the sink failed to take bytes");
+/// ```
+#[derive(Clone, Copy, Debug, PartialEq, Eq, Error)]
+#[error("the sink failed to take bytes")]
 pub struct WriteFailed;
 
 /// What gives bytes until it ends or fails.
@@ -69,6 +83,9 @@ pub trait Sink {
     /// How often the writer below it was asked to take bytes, if each write asks it.
     ghost calls: { Self → ℕ } = { λ _. 0 };
 
+    /// Whether nothing is held back: all that it took is handed on, as far as what stands behind it takes bytes.
+    ghost is_out: { Self → Type 0 } = { λ _. Unit {0} };
+
     /// Takes some bytes from the front of `piece`, at least one if there are any, and returns how many they are.
     fn write(&mut self, piece: &[u8]) -> Result<usize, WriteFailed>
         ensures bound { IfOk result (λ n. n ≤ length piece.now) }
@@ -85,7 +102,7 @@ pub trait Sink {
     fn send(&mut self)
         ensures keeps { taken self.new ≡ taken self.old }
         ensures stays_open { has_failed self.new ≡ has_failed self.old }
-    {}
+        ensures out { is_out self.new };
 
     /// Returns whether a write has failed.
     fn failed(&self) -> bool

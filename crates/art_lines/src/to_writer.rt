@@ -112,6 +112,8 @@ impl<W: Write> Sink for ToWriter<W> {
         }
     }
 
+    fn send(&mut self) {}
+
     fn failed(&self) -> bool {
         self.failed
     }

@@ -183,7 +183,7 @@ impl<K: AsBytes, V, const PREFIX_LEN: usize> TreeMap<K, V, PREFIX_LEN> {
 /// assert_eq!(rt; shelves[&7].len(), 1);
 /// ```
 impl<K: AsBytes, V, const PREFIX_LEN: usize> MadeWith<Global> for TreeMap<K, V, PREFIX_LEN> {
-    ghost is_made_with = { λ m. m.pairs ≡ [] };
+    ghost is_made_with = { λ m. (m.pairs ≡ []) × HasNoRoom m.nodes };
 
     fn made_with(alloc: Global) -> Self {
         TreeMap::with_prefix_len(alloc)

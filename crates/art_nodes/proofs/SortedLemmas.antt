@@ -140,17 +140,16 @@ module _ (room : ℕ) (header : Header) (keys : List ℕ) (names : List Name) (b
       let same = length-zip_same (insert keys at byte) (insert names at name) new.side.same_length in
       omega (arith, long, same, length-insert keys at byte within, side.counts)
 
--- rows after an edit of the node that holds them
+-- bytes and names after an edit of the node that holds them
 pub record BecomesRows (room : ℕ) (header : Header) (keys : List ℕ) (names : List Name) (node : InnerNode) (children : List (ℕ × Name)) : Type 0 where
   pub held : InUse room header keys names
-  pub view : sorted_node header (in_use header keys) (in_use header names) ≡ with_children node children
+  pub view : sorted_node header (in_use header keys) names ≡ with_children node children
 
--- rows whose items in use are those of an edited node
+-- bytes of which those in use, with the names, are those of an edited node
 pub rows_of : (room : ℕ) (header : Header) (keys : List ℕ) (names : List Name) (node : InnerNode) (children : List (ℕ × Name)) {front : List ℕ}
-    {fronts : List Name} → in_use header keys ≡ front → in_use header names ≡ fronts → length keys ≡ room → length names ≡ room
-    → Becomes room header front fronts node children → BecomesRows room header keys names node children
-rows_of room header keys names node children e f keys_fill names_fill new =
+    → in_use header keys ≡ front → length keys ≡ room → Becomes room header front names node children → BecomesRows room header keys names node children
+rows_of room header keys names node children e keys_fill new =
     record {
-      held = record { keys_fill = keys_fill; names_fill = names_fill; within = omega (arith, new.side.counts, new.side.fits); side = rw (e, f) new.side };
-      view = rw (e, f) new.view;
+      held = record { keys_fill = keys_fill; within = omega (arith, new.side.counts, new.side.fits); side = rw e new.side };
+      view = rw e new.view;
     }

@@ -1,5 +1,5 @@
--- What a contract sees of a node's name, and the word that the name is kept in.
-use Rattle.std.specs.Prelude.{ℕ, suc, zero, ◌+◌, ◌*◌, ◌/◌, ◌%◌, ◌<◌, Option, Some, None}
+-- What a contract sees of a node's name, and how a place for a name keeps it.
+use Rattle.std.specs.Prelude.{◌≡◌, ℕ, suc, zero, ◌+◌, ◌-◌, ◌<◌, ◌^◌, Option, Some, None}
 use Rattle.art_nodes.specs.declared.kind.NodeType.{NodeType}
 use Rattle.art_nodes.specs.declared.kind.NodeType.TheVariants.{Node4, Node16, Node32, Node48, Node256, Leaf}
 
@@ -26,33 +26,26 @@ kind_coded (suc (suc (suc (suc zero)))) = Node48
 kind_coded (suc (suc (suc (suc (suc zero))))) = Node256
 kind_coded code = Leaf
 
--- the word of a name: the code in the low three bits, the slab key above
-abbrev pub word_of : Name → ℕ
-word_of n = n.slot * 8 + code_of n.kind
+-- what stands in a place for a name, by its code and slab key: none where the code is zero
+abbrev pub name_in_place : ℕ → ℕ → Option Name
+name_in_place zero slot = None
+name_in_place (suc rest) slot = Some (record { kind = kind_coded (suc rest); slot = slot })
 
--- the name in a word
-abbrev pub name_in : ℕ → Name
-name_in word = record { kind = kind_coded (word % 8); slot = word / 8 }
+-- the code that a place keeps for a name, or for none
+abbrev pub place_code : Option Name → ℕ
+place_code None = 0
+place_code (Some n) = code_of n.kind
 
--- the low three bits of a word are the code of a kind
-pub record IsWord (word : ℕ) : Type 0 where
-  pub coded : 0 < word % 8
-  pub below : word % 8 < 7
+-- the slab key that a place keeps for a name, or for none
+abbrev pub place_slot : Option Name → ℕ
+place_slot None = 0
+place_slot (Some n) = n.slot
 
--- what stands in a place for a name: its word, or zero where there is none
-abbrev pub name_in_place : ℕ → Option Name
-name_in_place zero = None
-name_in_place (suc rest) = Some (name_in (suc rest))
-
--- the word that a place holds for a name, or for none
-abbrev pub place_word : Option Name → ℕ
-place_word None = 0
-place_word (Some n) = word_of n
-
--- a place holds zero, or the word of a name
-abbrev pub IsPlaceWord : ℕ → Type 0
-IsPlaceWord zero = Unit {0}
-IsPlaceWord (suc rest) = IsWord (suc rest)
+-- a place has the code of a kind with a slab key, or zero twice
+pub record IsCodedPlace (code slot : ℕ) : Type 0 where
+  pub below : code < 7
+  pub fits : slot < 2 ^ 64 - 1
+  pub unnamed : code ≡ 0 → slot ≡ 0
 
 -- the slab key that a number is one more than; at zero there is none
 abbrev pub linked_by : ℕ → Option ℕ

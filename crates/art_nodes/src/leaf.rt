@@ -30,7 +30,7 @@ struct Link {
 }
 
 impl Model for Link {
-    ghost use Rattle.std.specs.Prelude.{ℕ, Option, ◌≤◌, ◌^◌};
+    ghost use Rattle.std.specs.Prelude.{ℕ, Option, ◌≤◌, ◌-◌, ◌^◌};
     ghost use Rattle.std.proofs.Common.{ap};
     ghost use Rattle.art_nodes.specs.Name.{linked_by, above_of};
     ghost use Rattle.art_nodes.specs.lemmas.NameLaws.{above_of-linked_by};
@@ -39,7 +39,7 @@ impl Model for Link {
 
     ghost view = { λ link. linked_by link.above };
 
-    ghost invariant = { λ link. link.above ≤ 2 ^ 61 };
+    ghost invariant = { λ link. link.above ≤ 2 ^ 64 - 1 };
 
     ghost inverse = { λ slot. record { above = above_of slot } };
 

@@ -1,42 +1,40 @@
 //! Names of nodes: a kind, and a key in the slab of that kind.
-ghost use Rattle.std.specs.Prelude.{◌≡◌, ◌≢◌, ◌<◌, ◌%◌, ◌^◌, ◌↔◌, IsTrue, IsSome, IfSome};
+ghost use Rattle.std.specs.Prelude.{◌≡◌, ◌≢◌, ◌<◌, ◌-◌, ◌%◌, ◌^◌, ◌↔◌, IsTrue, IsSome, IfSome};
 ghost use Rattle.art_nodes.specs.Name as name;
 
 use crate::hint::assume_proved;
 use crate::kind::{NodeKind, NodeType};
+use crate::unaligned::Unaligned;
 use std::alloc::AllocError;
 use std::fmt;
 use std::marker::{Model, PhantomData};
 
-// Every slab key is below it, so that three bits of a word are free for the kind.
-const SLOTS: usize = 1 << 61;
+// Every slab key is below it, since each is below the capacity of its slab. So one more than a key fits in a word.
+const SLOTS: usize = usize::MAX;
 
-/// The name of a node of any kind. It is one word of eight bytes, so that nodes of many children stay small: the kind
-/// in the low three bits, and the slab key above them.
+/// The name of a node of any kind. It takes nine bytes, so that nodes of many children stay small. The slab key comes
+/// first: a copy of nine bytes moves eight and then one, so a name that was just written is read in the same pieces.
 #[derive(Clone, Copy, PartialEq, Eq, Hash)]
 pub struct OpaqueNodePtr {
-    word: usize,
+    slot: Unaligned,
+    kind: NodeType,
 }
 
 impl Model for OpaqueNodePtr {
-    ghost use Rattle.std.specs.Prelude.{ℕ};
-    ghost use Rattle.std.proofs.Common.{ap};
-    ghost use Rattle.art_nodes.specs.Name.{Name, IsWord, name_in, word_of};
-    ghost use Rattle.art_nodes.specs.lemmas.NameLaws.{word_of-name_in};
+    ghost use Rattle.std.specs.Prelude.{◌<◌, ◌-◌, ◌^◌};
+    ghost use Rattle.art_nodes.specs.Name.{Name};
 
     ghost Value = { Name };
 
-    ghost view = { λ p. name_in p.word };
+    ghost view = { λ p. record { kind = p.kind; slot = p.slot } };
 
-    ghost invariant = { λ p. IsWord p.word };
+    ghost invariant = { λ p. p.slot < 2 ^ 64 - 1 };
 
-    ghost inverse = { λ n. record { word = word_of n } };
-
-    ghost inverse_ok = { λ p h. ap (λ (word : ℕ). record { word = word }) (word_of-name_in p.word h) };
+    ghost inverse = { λ n. record { kind = n.kind; slot = n.slot } };
 }
 
-// The code of a kind in the word of a name.
-const fn code_of(kind: NodeType) -> usize
+// The code of a kind in a place: 0 is left for none.
+const fn code_of(kind: NodeType) -> u8
     ensures { result ≡ name.code_of kind }
 {
     match kind {
@@ -49,13 +47,33 @@ const fn code_of(kind: NodeType) -> usize
     }
 }
 
+// The kind that has this code.
+fn kind_coded(code: u8) -> NodeType
+    requires { (0 < code) × (code < 7) }
+    ensures { result ≡ name.kind_coded code }
+{
+    match code {
+        1 => NodeType::Node4,
+        2 => NodeType::Node16,
+        3 => NodeType::Node32,
+        4 => NodeType::Node48,
+        5 => NodeType::Node256,
+        6 => NodeType::Leaf,
+        _ => {
+            assume_proved(false);
+            unreachable!()
+        }
+    }
+}
+
 impl OpaqueNodePtr {
     fn new(kind: NodeType, slot: usize) -> Self
-        requires { slot < 2 ^ 61 }
+        requires { slot < 2 ^ 64 - 1 }
         ensures { result ≡ record { kind = kind; slot = slot } }
     {
         OpaqueNodePtr {
-            word: slot * 8 + code_of(kind),
+            slot: Unaligned::new(slot),
+            kind,
         }
     }
 
@@ -63,25 +81,14 @@ impl OpaqueNodePtr {
     pub fn node_type(self) -> NodeType
         ensures { result ≡ self.kind }
     {
-        match self.word % 8 {
-            1 => NodeType::Node4,
-            2 => NodeType::Node16,
-            3 => NodeType::Node32,
-            4 => NodeType::Node48,
-            5 => NodeType::Node256,
-            6 => NodeType::Leaf,
-            _ => {
-                assume_proved(false);
-                unreachable!()
-            }
-        }
+        self.kind
     }
 
     /// Returns the slab key.
     pub fn slot(self) -> usize
         ensures { result ≡ self.slot }
     {
-        self.word / 8
+        self.slot.get()
     }
 
     /// Returns the name of the node of the kind `N` with the same slab key: of the same node, if it is of that kind.
@@ -89,7 +96,7 @@ impl OpaqueNodePtr {
         ensures { result ≡ self.slot }
     {
         NodePtr {
-            slot: self.word / 8,
+            slot: self.slot.get(),
             node: PhantomData,
         }
     }
@@ -134,27 +141,30 @@ impl Default for OpaqueNodePtr {
     }
 }
 
-/// A place for a name, which may have none: the word of the name, or zero. An `Option` would take two words.
+/// A place for a name, which may have none: the code of its kind, or zero, beside its slab key. An `Option` would take
+/// a byte more.
 #[derive(Clone, Copy)]
 pub(crate) struct Place {
-    word: usize,
+    slot: Unaligned,
+    code: u8,
 }
 
 impl Model for Place {
     ghost use Rattle.std.specs.Prelude.{ℕ, Option};
-    ghost use Rattle.std.proofs.Common.{ap};
-    ghost use Rattle.art_nodes.specs.Name.{Name, IsPlaceWord, name_in_place, place_word};
-    ghost use Rattle.art_nodes.specs.lemmas.NameLaws.{place_word-name_in_place};
+    ghost use Rattle.std.proofs.Common.{ap₂};
+    ghost use Rattle.art_nodes.specs.Name.{Name, IsCodedPlace, name_in_place, place_slot, place_code};
+    ghost use Rattle.art_nodes.specs.lemmas.NameLaws.{place_slot-name_in_place, place_code-name_in_place};
 
     ghost Value = { Option Name };
 
-    ghost view = { λ p. name_in_place p.word };
+    ghost view = { λ p. name_in_place p.code p.slot };
 
-    ghost invariant = { λ p. IsPlaceWord p.word };
+    ghost invariant = { λ p. IsCodedPlace p.code p.slot };
 
-    ghost inverse = { λ place. record { word = place_word place } };
+    ghost inverse = { λ place. record { slot = place_slot place; code = place_code place } };
 
-    ghost inverse_ok = { λ p h. ap (λ (word : ℕ). record { word = word }) (place_word-name_in_place p.word h) };
+    ghost inverse_ok = { λ p h. ap₂ (λ (slot code : ℕ). record { slot = slot; code = code })
+        (place_slot-name_in_place p.code p.slot h) (place_code-name_in_place p.code p.slot h) };
 }
 
 impl Place {
@@ -163,8 +173,14 @@ impl Place {
         ensures { result ≡ name }
     {
         match name {
-            Some(name) => Place { word: name.word },
-            None => Place { word: 0 },
+            Some(name) => Place {
+                slot: name.slot,
+                code: code_of(name.kind),
+            },
+            None => Place {
+                slot: Unaligned::new(0),
+                code: 0,
+            },
         }
     }
 
@@ -172,10 +188,13 @@ impl Place {
     pub(crate) fn get(self) -> Option<OpaqueNodePtr>
         ensures { result ≡ self }
     {
-        if self.word == 0 {
+        if self.code == 0 {
             None
         } else {
-            Some(OpaqueNodePtr { word: self.word })
+            Some(OpaqueNodePtr {
+                slot: self.slot,
+                kind: kind_coded(self.code),
+            })
         }
     }
 }
@@ -187,13 +206,13 @@ pub struct NodePtr<N> {
 }
 
 impl<N> Model for NodePtr<N> {
-    ghost use Rattle.std.specs.Prelude.{ℕ, ◌<◌, ◌^◌};
+    ghost use Rattle.std.specs.Prelude.{ℕ, ◌<◌, ◌-◌, ◌^◌};
 
     ghost Value = { ℕ };
 
     ghost view = { λ p. p.slot };
 
-    ghost invariant = { λ p. p.slot < 2 ^ 61 };
+    ghost invariant = { λ p. p.slot < 2 ^ 64 - 1 };
 
     ghost inverse = { λ n. record { slot = n; node = record {} } };
 }
@@ -216,10 +235,10 @@ impl<N> Clone for NodePtr<N> {
 impl<N> Copy for NodePtr<N> {}
 
 impl<N: NodeKind> NodePtr<N> {
-    /// Returns the name of the node of this kind with that slab key, whether one is held there or not. A slab key is
-    /// below 2^61: of a larger number only the low 61 bits count.
+    /// Returns the name of the node of this kind with that slab key, whether one is held there or not. Each slab key is
+    /// below 2^64 - 1, which is none: it counts as 0.
     pub fn from_slot(slot: usize) -> Self
-        ensures { result ≡ slot % 2 ^ 61 }
+        ensures { result ≡ slot % (2 ^ 64 - 1) }
     {
         NodePtr {
             slot: slot % SLOTS,
@@ -238,7 +257,7 @@ impl<N: NodeKind> NodePtr<N> {
     // The slab key, with the bound on all of them.
     pub(crate) fn bounded_slot(self) -> usize
         ensures value { result ≡ self }
-        ensures below { result < 2 ^ 61 }
+        ensures below { result < 2 ^ 64 - 1 }
     {
         self.slot
     }

@@ -14,17 +14,18 @@ use crate::inner_node::{InnerNodeCommon, InnerNodeInit};
 use crate::names::OpaqueNodePtr;
 use crate::row::{place_below, place_in, position_in, put_in, take_out};
 use crate::sealed::Sealed;
+use arrayvec::ArrayVec;
 use std::fmt;
 use std::marker::{Model, PhantomData};
 use std::ops::Bound;
 
-/// An inner node of up to `SIZE` children, by ascending byte. The header counts the bytes and the names in use, which
-/// are the first ones. So a whole array of bytes is compared at once, and no length stands beside it.
+/// An inner node of up to `SIZE` children, by ascending byte. The bytes are an array, of which the header counts those
+/// in use, the first ones: so all of it is compared at once.
 #[derive(Drop)]
 pub struct InnerNodeSorted<K, V, const PREFIX_LEN: usize, const SIZE: usize> {
     header: Header<PREFIX_LEN>,
     keys: [u8; SIZE],
-    names: [OpaqueNodePtr; SIZE],
+    names: ArrayVec<OpaqueNodePtr, SIZE>,
     tree: PhantomData<(K, V)>,
 }
 
@@ -38,10 +39,10 @@ impl<K, V, const PREFIX_LEN: usize, const SIZE: usize> Model
 
     ghost view = { λ n. record {
       header = n.header;
-      children = zip (in_use n.header n.keys) (in_use n.header n.names);
+      children = zip (in_use n.header n.keys) n.names.items;
     } };
 
-    ghost invariant = { λ n. InUse SIZE n.header n.keys n.names };
+    ghost invariant = { λ n. InUse SIZE n.header n.keys n.names.items };
 }
 
 // The place of the byte among the first `used` of these ascending bytes, or the place where it belongs.
@@ -64,7 +65,7 @@ impl<K, V, const PREFIX_LEN: usize, const SIZE: usize> InnerNodeSorted<K, V, PRE
         ensures same_length { length result.0.now ≡ length result.1.now }
     {
         let used = self.header.num_children();
-        (&self.keys[..used], &self.names[..used])
+        (&self.keys[..used], self.names.as_slice())
     }
 
     /// Makes a node of two children, the first under the smaller byte. Its prefix is the first `len` bytes of these,
@@ -88,9 +89,9 @@ impl<K, V, const PREFIX_LEN: usize, const SIZE: usize> InnerNodeSorted<K, V, PRE
         let mut keys = [0; SIZE];
         keys[0] = low.0;
         keys[1] = high.0;
-        let mut names = [OpaqueNodePtr::default(); SIZE];
-        names[0] = low.1;
-        names[1] = high.1;
+        let mut names = ArrayVec::new();
+        names.push(low.1);
+        names.push(high.1);
         InnerNodeSorted {
             header,
             keys,
@@ -111,7 +112,7 @@ impl<K, V, const PREFIX_LEN: usize, const SIZE: usize> InnerNodeInit<PREFIX_LEN>
         InnerNodeSorted {
             header: Header::new(bytes, len),
             keys: [0; SIZE],
-            names: [OpaqueNodePtr::default(); SIZE],
+            names: ArrayVec::new(),
             tree: PhantomData,
         }
     }
@@ -136,7 +137,7 @@ impl<K, V, const PREFIX_LEN: usize, const SIZE: usize> InnerNodeCommon<PREFIX_LE
 
     fn lookup_child(&self, byte: u8) -> Option<OpaqueNodePtr> {
         match position_in(&self.keys, self.header.num_children(), byte) {
-            Some(at) => Some(self.names[at]),
+            Some(at) => Some(self.names.as_slice()[at]),
             None => None,
         }
     }
@@ -144,10 +145,11 @@ impl<K, V, const PREFIX_LEN: usize, const SIZE: usize> InnerNodeCommon<PREFIX_LE
     fn write_child(&mut self, byte: u8, name: OpaqueNodePtr) {
         let used = self.header.num_children();
         match find(&self.keys, used, byte) {
-            Ok(at) => self.names[at] = name,
+            Ok(at) => self.names.as_mut_slice()[at] = name,
             Err(at) => {
                 put_in(&mut self.keys, used, at, byte);
-                put_in(&mut self.names, used, at, name);
+                self.names.push(name);
+                put_in(self.names.as_mut_slice(), used, at, name);
                 self.header.inc_num_children();
             }
         }
@@ -159,23 +161,24 @@ impl<K, V, const PREFIX_LEN: usize, const SIZE: usize> InnerNodeCommon<PREFIX_LE
             Ok(at) => at,
             Err(_) => return None,
         };
-        let removed = self.names[at];
+        let removed = self.names.as_slice()[at];
         take_out(&mut self.keys, used, at);
-        take_out(&mut self.names, used, at);
+        take_out(self.names.as_mut_slice(), used, at);
+        self.names.truncate(used - 1);
         self.header.dec_num_children();
         Some(removed)
     }
 
     fn iter(&self) -> ChildIter<'_> {
         let used = self.header.num_children();
-        ChildIter::sorted(&self.keys[..used], &self.names[..used])
+        ChildIter::sorted(&self.keys[..used], self.names.as_slice())
     }
 
     fn range(&self, start: Bound<u8>, end: Bound<u8>) -> ChildIter<'_> {
         let used = self.header.num_children();
         let low = place_below(&self.keys, used, start_of(start));
         let high = place_below(&self.keys, used, end_of(end));
-        ChildIter::sorted_part(&self.keys[..used], &self.names[..used], low, high)
+        ChildIter::sorted_part(&self.keys[..used], self.names.as_slice(), low, high)
     }
 }
 

@@ -6,10 +6,18 @@ use Rattle.art_nodes.specs.declared.leaf.LeafNode.{LeafNode}
 use Rattle.art_arena.proofs.Common.{Arena, leaf_held, cell_of, node_at, links_at, Allocates, KeepsNodes, SameNodes, Cell, leaf_name, Holds, HoldsOnly, IsIn, found_in, IsAtKey, IsTreeBeside, IsSubtree, Shape, leaf_at, LeafAt, leaves, pairs_of, key_of, cells, Shrinks, Step, tree_of, AscendsByKey}
 use Rattle.art_arena.proofs.Common.{keeps-beside, Holds-add, Holds-same, only-holds, shape_means, nodes-part, nodes-subtree, outside-apart, AreLinked-same, all_left, in_map, in_unmap, in_middle, all_at, nodes-update, links-update, nodes-same, links-same}
 use Rattle.art_operations.proofs.Terms.{IsLeafPlace, HasLeavesBeside, IsDeletedBeside, IsInsertedBeside, IsPoint, HasConflict, NoConflict, DeleteResult, InsertPoint, InsertResult, HasKey, IsBlocked, with_key, HasPairs, HasPairsBeside, CanPut, HasPut, HasTaken, HoldsTreeOf, NoChange}
+use Rattle.art_operations.specs.Insertions.{IsForConflict, IsPairRefused}
+use Rattle.art_operations.specs.declared.insert.result.PairRefused.{PairRefused}
+use Rattle.art_operations.specs.declared.insert.result.PairRefused.TheVariants.{Conflict, Memory}
 use Rattle.art_operations.specs.declared.insert.point.InsertKind.TheVariants as kind
 use Rattle.art_operations.proofs.KeyedLists.{stored-free}
 use Rattle.art_operations.proofs.NotStored.{not-stored, which}
 use Rattle.art_operations.proofs.LeafPairs.{leaf_pair, pairs_ascend, free_pairs, none_found, stored_in, stored_pair, taken_pair, shrinks-map, same_leaf, found_leaf, held_leaf}
+
+-- what was refused for want of memory is so where no pair blocks the key
+pub memory-refused : {K V B : Type 0} (key k : K) (value v : V) (refused : PairRefused K V) → IsPairRefused k v ⊥ refused → (IsForConflict refused → ⊥) → (k ≡ key) × (v ≡ value) → (B → ⊥) → IsPairRefused key value B refused
+memory-refused key k value v (Conflict l w) is other back free = absurd is.2
+memory-refused key k value v (Memory l w) is other back free = (is.0 ∙ back.0, is.1 ∙ back.1, free)
 
 module _ {K V : Type 0} (bytes : K → List ℕ) (P : ℕ) where
   -- an arena with the same nodes has the same tree

@@ -160,6 +160,7 @@ module _ {K V : Type 0} (bytes : K → List ℕ) where
                 let P = λ (p : K × V). IsBefore (bytes p.0) next in
                 let befores = all_weaker (λ (p : K × V). IsBefore (bytes p.0) key) P (λ p first. before_trans (bytes p.0) key next first (subst (λ b. IsBefore b next) is less)) (pairs_of before) all-before in
                 subst (IsAfterAll bytes next) (sym (pairs-parts bytes before m [])) (all_append P (pairs_of before) ((k, v) ∷ []) befores (less, tt));
+            last = (pairs_of before, pairs-parts bytes before m []);
           }
 
       pub put-inserted : found ≡ None → HasInserted new then k v before pass.rest → HasPutIn new then bytes k v None pairs

@@ -31,10 +31,10 @@ abbrev pub IsForConflict : {K V : Type 0} → PairRefused K V → Type 0
 IsForConflict (Conflict k v) = Unit {0}
 IsForConflict (Memory k v) = ⊥
 
--- a refusal hands this key and this value back, and where it is for a conflict there is one
+-- a refusal hands this key and this value back, and it is for a conflict exactly where there is one
 abbrev pub IsPairRefused : {K V : Type 0} → K → V → Type 0 → PairRefused K V → Type 0
 IsPairRefused key value IsBlocked (Conflict k v) = (k ≡ key) × (v ≡ value) × IsBlocked
-IsPairRefused key value IsBlocked (Memory k v) = (k ≡ key) × (v ≡ value)
+IsPairRefused key value IsBlocked (Memory k v) = (k ≡ key) × (v ≡ value) × (IsBlocked → ⊥)
 
 -- the last steps to the leaf, where these led to what its key met
 abbrev pub steps_after : InsertParentNodeChange → List Step → List Step

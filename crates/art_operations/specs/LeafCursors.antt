@@ -78,11 +78,12 @@ module _ {K V : Type 0} (arena : Arena K V) (cursor : LeafCursor) where
       pub above : AllByRecursion (λ p. IsBefore key (bytes p.0)) (pairs_of below.among.back)
 
     -- the pairs have this one now in the place of the one that is answered, if one had its key; the cursor stands
-    -- after it
+    -- just after it
     pub record HasPutIn (key : K) (value : V) (old : Option (K × V)) (pairs : List (K × V)) : Type 0 where
       pub old_is : cons_option old [] ≡ with_key (key_of bytes) (bytes key) pairs
       pub among : StandsInList (with_pair_put bytes key value pairs)
       pub passed : (next : List ℕ) → IsBefore (bytes key) next → IsAfterAll bytes next (pairs_of among.front)
+      pub last : (rest : List (K × V)) × (pairs_of among.front ≡ rest ++ (key, value) ∷ [])
 
     -- these pairs, which ascend, can be put in from there on: the keys of all before the cursor come before the first
     pub record StandsAhead (pairs left : List (K × V)) : Type 0 where

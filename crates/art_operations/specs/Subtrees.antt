@@ -1,10 +1,11 @@
 -- The part of a tree whose keys begin with a prefix, and what its deletion leaves.
-use Rattle.std.specs.Prelude.{◌≡◌, ℕ, ◌-◌, List, [], ◌∷◌, ◌++◌, length, take, Option, Some, None}
+use Rattle.std.specs.Prelude.{◌≡◌, ◌≢◌, ℕ, ◌-◌, List, [], ◌∷◌, ◌++◌, length, take, Option, Some, None}
 use Rattle.art_bytes.specs.Keys.{BeginsWith}
 use Rattle.art_nodes.specs.InnerNode.{InnerNode}
 use Rattle.art_nodes.specs.Kind.{shrunk_kind, CanShrink}
+use Rattle.art_nodes.specs.declared.kind.NodeType.{NodeType}
 use Rattle.art_nodes.specs.Name.{Name}
-use Rattle.art_arena.specs.arena.Arena.{Arena, HasRoomOf}
+use Rattle.art_arena.specs.arena.Arena.{Arena, HasRoomOf, KeepsRoomOf}
 use Rattle.art_arena.specs.arena.Cells.{Cell}
 use Rattle.art_arena.specs.arena.Context.{Frame, path_to, leaves_before, leaves_after}
 use Rattle.art_arena.specs.arena.Linked.{first_slot, last_slot}
@@ -78,3 +79,13 @@ module _ {K V : Type 0} (arena : Arena K V) where
   abbrev pub HasRoomAbove : List Step → Type 0
   HasRoomAbove [] = Unit {0}
   HasRoomAbove (step ∷ more) = CanLoseChild step.node
+
+module _ {K V : Type 0} (old new : Arena K V) where
+  -- no kind has more room than it had, but this one
+  abbrev pub GainsRoomOfOnly : NodeType → Type 0
+  GainsRoomOfOnly kind = (other : NodeType) → other ≢ kind → (n : ℕ) → HasRoomOf new other n → HasRoomOf old other n
+
+  -- none but the next smaller one of the inner node above a place; where there is no such node, none at all
+  abbrev pub GainsRoomAbove : List Step → Type 0
+  GainsRoomAbove [] = KeepsRoomOf new old
+  GainsRoomAbove (step ∷ more) = GainsRoomOfOnly (shrunk_kind step.node.kind)

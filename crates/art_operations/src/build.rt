@@ -25,6 +25,7 @@ use art_bytes::AsBytes;
 use art_nodes::OpaqueNodePtr;
 pub use over_leaves::{SpineRoom, keep_leaves, rebuild};
 use std::alloc::{AllocError, Global};
+use thiserror::Error;
 
 // For so many pairs room is made at once, or for as many as there are.
 const MOST_AT_ONCE: usize = 32;
@@ -39,9 +40,10 @@ pub struct TreeBuilder {
 }
 
 /// Why a pair was not taken. The error returns it.
-#[derive(Debug, Drop)]
+#[derive(Debug, Drop, Error)]
 pub enum PushRefused<K, V> {
     /// The key doesn't go after the last: it comes before it, has its bytes, or one of both is a prefix of the other.
+    #[error("the key doesn't go after the last one")]
     NotAfter {
         /// The key.
         key: K,
@@ -49,6 +51,7 @@ pub enum PushRefused<K, V> {
         value: V,
     },
     /// The call was out of memory.
+    #[error("no memory for a leaf, or for an inner node above it")]
     Memory {
         /// The key.
         key: K,

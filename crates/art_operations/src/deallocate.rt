@@ -4,7 +4,7 @@
 //! A tree is freed from its last children on. What waits stands below the first child of what is at hand. If the last
 //! child of a node is an inner node, the node itself takes the place of the first childless node below that child,
 //! which is freed for it. So the way down to that one is gone only once.
-ghost use Rattle.std.specs.Prelude.{◌≡◌, ◌<◌, ◌++◌, ◌-◌, ◌^◌, min, Bool, List, IfSome, IfNone, length};
+ghost use Rattle.std.specs.Prelude.{◌≡◌, ◌≢◌, ◌<◌, ◌++◌, ◌-◌, ◌^◌, min, Bool, List, IfSome, IfNone, length};
 ghost use Rattle.art_nodes.specs.Name.{Name};
 ghost use Rattle.art_arena.specs.arena.Arena.{node_at, leaf_capacity, KeepsRoom, KeepsRoomOf, SameNodes};
 ghost use Rattle.art_arena.specs.arena.Cells.{Cell, Holds};
@@ -133,7 +133,10 @@ fn child_below<K, V, const PREFIX_LEN: usize>(
 }
 
 // Where to look for the next child of a root: below the one that was taken out, if the root is the same.
-fn below_which(left: OpaqueNodePtr, root: OpaqueNodePtr, taken: u8) -> u8 {
+fn below_which(left: OpaqueNodePtr, root: OpaqueNodePtr, taken: u8) -> u8
+    ensures same { left ≡ root → result ≡ taken }
+    ensures other { left ≢ root → result ≡ 255 }
+{
     if left == root { taken } else { u8::MAX }
 }
 

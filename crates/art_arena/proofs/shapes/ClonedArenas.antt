@@ -1,5 +1,6 @@
 -- The clones of the slabs of an arena are a clone of the arena.
-use Rattle.std.proofs.Common.{◌≡◌, ℕ, zero, suc, List, [], ◌∷◌, Option, Some, None, slice_index_or, refl, ap}
+use Rattle.std.proofs.Common.{◌≡◌, ℕ, zero, suc, List, [], ◌∷◌, Option, Some, None, is_some, count_by, cond, slice_index_or, refl, ap, arith}
+use Rattle.std.proofs.lemmas.List.Sums.{sum_by-cons}
 use Rattle.std.specs.List.{AllZip}
 use Rattle.slab.specs.Slab.{Slab, get, IsSlotClone}
 use Rattle.art_nodes.specs.Leaf.{IsLeafClone}
@@ -20,6 +21,19 @@ slots-cloned R [] (y ∷ ys) h n = absurd h
 slots-cloned R (x ∷ xs) [] h n = absurd h
 slots-cloned R (x ∷ xs) (y ∷ ys) h zero = h.0
 slots-cloned R (x ∷ xs) (y ∷ ys) h (suc n) = slots-cloned R xs ys h.1 n
+
+-- a clone of a list of slots has as many values
+pub slots-counted : {T : Type 0} (R : T → T → Type 0) (xs ys : List (Option T)) → AllZip (IsSlotClone R) xs ys → count_by is_some ys ≡ count_by is_some xs
+slots-counted R [] [] h = refl
+slots-counted R [] (y ∷ ys) h = absurd h
+slots-counted R (x ∷ xs) [] h = absurd h
+slots-counted {T} R (None ∷ xs) (y ∷ ys) h =
+    let one : Option T → ℕ = λ o. cond (is_some o) 1 0 in
+    rw h.0 (omega (arith, slots-counted R xs ys h.1, sum_by-cons one None xs, sum_by-cons one None ys))
+slots-counted R (Some x ∷ xs) (None ∷ ys) h = absurd h.0
+slots-counted {T} R (Some x ∷ xs) (Some y ∷ ys) h =
+    let one : Option T → ℕ = λ o. cond (is_some o) 1 0 in
+    omega (arith, slots-counted R xs ys h.1, sum_by-cons one (Some x) xs, sum_by-cons one (Some y) ys)
 
 module _ {K V : Type 0} (KeyClone : K → K → Type 0) (ValueClone : V → V → Type 0) where
   leaf-cloned : (o c : Option (LeafNode K V)) → IsSlotClone (IsLeafClone KeyClone ValueClone) o c → IsHeldClone KeyClone ValueClone (as_leaf o) (as_leaf c)

@@ -1,6 +1,5 @@
 -- What is read of an inner node, and on a way down from it to a first or last leaf.
-use Rattle.std.proofs.Common.{◌≡◌, ◌≢◌, ℕ, suc, ◌+◌, ◌-◌, ◌^◌, ◌<◌, ◌≤◌, ◌||◌, min, Bool, true, false, is_some, MatchOption, refl, lt-ltb, le-ltb, List, [], ◌++◌, length, drop, IfErr, IfSome, None, Option, Some, IsSome, Ok, Err, sym, ap, subst, ◌∙◌, arith}
-use Rattle.std.specs.declared.result.Result.{Result}
+use Rattle.std.proofs.Common.{◌≡◌, ◌≢◌, ℕ, suc, ◌+◌, ◌-◌, ◌^◌, ◌<◌, ◌≤◌, ◌||◌, min, Bool, true, false, is_some, MatchOption, refl, lt-ltb, le-ltb, List, [], ◌++◌, length, drop, IfSome, None, Option, Some, IsSome, sym, ap, subst, ◌∙◌, arith}
 use Rattle.art_bytes.proofs.Common.{BeginsWith, begins_append}
 use Rattle.art_nodes.proofs.Common.{InnerNode, Name}
 use Rattle.art_nodes.specs.declared.kind.NodeType.TheVariants.{Leaf}

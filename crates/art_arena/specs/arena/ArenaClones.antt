@@ -1,5 +1,6 @@
 -- What a clone of an arena has under each name.
-use Rattle.std.specs.Prelude.{◌≡◌, length, Option, Some, None}
+use Rattle.std.specs.Prelude.{◌≡◌, Option, Some, None}
+use Rattle.slab.specs.Slab.{slab_len}
 use Rattle.art_nodes.specs.Leaf.{IsLeafClone}
 use Rattle.art_nodes.specs.Name.{Name}
 use Rattle.art_nodes.specs.declared.leaf.LeafNode.{LeafNode}
@@ -18,11 +19,11 @@ module _ {K V : Type 0} (KeyClone : K → K → Type 0) (ValueClone : V → V �
   abbrev pub IsArenaClone : Arena K V → Arena K V → Type 0
   IsArenaClone arena copy = (n : Name) → IsHeldClone (held_at arena n) (held_at copy n)
 
--- of each kind the copy has memory for as many nodes as the arena has slots, and for no more
+-- of each kind the copy has room for as many nodes as the arena holds, and for no more
 pub record HasNoSpare {K V : Type 0} (arena copy : Arena K V) : Type 0 where
-  pub leaves : copy.leaves.capacity ≡ length arena.leaves.slots
-  pub nodes4 : copy.nodes4.capacity ≡ length arena.nodes4.slots
-  pub nodes16 : copy.nodes16.capacity ≡ length arena.nodes16.slots
-  pub nodes32 : copy.nodes32.capacity ≡ length arena.nodes32.slots
-  pub nodes48 : copy.nodes48.capacity ≡ length arena.nodes48.slots
-  pub nodes256 : copy.nodes256.capacity ≡ length arena.nodes256.slots
+  pub leaves : copy.leaves.capacity ≡ slab_len arena.leaves
+  pub nodes4 : copy.nodes4.capacity ≡ slab_len arena.nodes4
+  pub nodes16 : copy.nodes16.capacity ≡ slab_len arena.nodes16
+  pub nodes32 : copy.nodes32.capacity ≡ slab_len arena.nodes32
+  pub nodes48 : copy.nodes48.capacity ≡ slab_len arena.nodes48
+  pub nodes256 : copy.nodes256.capacity ≡ slab_len arena.nodes256

@@ -194,7 +194,8 @@ impl Line {
         self.left != 0 && self.of_number == of_number
     }
 
-    /// Reads the next node of the path, if there is one, and returns it if it is a leaf.
+    /// Reads the next node of the path, if there is one, and returns it if it is a leaf. That is the node under the
+    /// name that the step before came to. The next name is its child under the key's next byte.
     #[inline(always)]
     pub(crate) fn step<'a, K, const PREFIX_LEN: usize>(
         &mut self,
@@ -202,6 +203,7 @@ impl Line {
     ) -> Option<&'a LeafNode<K, Vec<u8>>>
         ensures counted { self.new.read + count_of reader.old.reader ≡ self.old.read + count_of reader.new.reader }
         ensures one { self.new.read ≤ self.old.read + 1 }
+        ensures named { self.old.read < self.new.read → reader.new.last ≡ self.old.node }
         ensures along { IsStepAhead self.old.passing reader.old.arena.now self.old.key.items
             (self.old.node, self.old.depth) (self.new.node, self.new.depth) }
         ensures text { self.new.text.items ≡ self.old.text.items }

@@ -11,7 +11,8 @@ use art_nodes::{NodeType, OpaqueNodePtr};
 use std::marker::PhantomData;
 
 /// The one access to the nodes of a map for prefetching: it counts each node that it lends. It can't be
-/// let go: `end` alone ends it, and returns how many nodes were read.
+/// let go: `end` alone ends it, and returns how many nodes were read. It keeps the name that it visited last, so that
+/// contracts say whose node that was.
 ///
 /// The last parameter is never written: it tells the borrow check that the arena lives as long as it is lent.
 pub struct PathReader<'a, K, const PREFIX_LEN: usize, M: 'a = NodeArena<K, Vec<u8>, PREFIX_LEN>> {
@@ -19,6 +20,7 @@ pub struct PathReader<'a, K, const PREFIX_LEN: usize, M: 'a = NodeArena<K, Vec<u
     root: Option<OpaqueNodePtr>,
     len: usize,
     reader: ArenaReader<'a, K, Vec<u8>, PREFIX_LEN>,
+    last: OpaqueNodePtr,
     mark: PhantomData<M>,
     ghost same: { arena_of reader ≡ arena.now },
 }
@@ -41,6 +43,7 @@ impl<'a, K: AsBytes, const PREFIX_LEN: usize> PathReader<'a, K, PREFIX_LEN> {
             root,
             len: map.len(),
             reader: ArenaReader::new(arena),
+            last: OpaqueNodePtr::default(),
             mark: PhantomData,
         }
     }
@@ -61,6 +64,7 @@ impl<'a, K, const PREFIX_LEN: usize> PathReader<'a, K, PREFIX_LEN> {
         name: OpaqueNodePtr,
     ) -> Option<VisitedNode<'a, K, Vec<u8>, PREFIX_LEN>>
         ensures value { IfSome result (λ node. held_at self.old.arena.now name ≡ Some (held_of node)) }
+        ensures named { MatchOption result (self.new.last ≡ self.old.last) (λ _. self.new.last ≡ name) }
         ensures fits_in_memory { IfSome result (λ node. kind_of node ≢ NodeType.Leaf → PREFIX_LEN < 2 ^ 62) }
         ensures kept { (self.new.arena.now ≡ self.old.arena.now) × (self.new.root ≡ self.old.root) }
         ensures counts { MatchOption result (count_of self.new.reader ≡ count_of self.old.reader)
@@ -69,6 +73,7 @@ impl<'a, K, const PREFIX_LEN: usize> PathReader<'a, K, PREFIX_LEN> {
         if self.reader.count() == u64::MAX || !self.arena.holds(name) {
             return None;
         }
+        self.last = name;
         Some(self.reader.visit(name))
     }
 
@@ -87,6 +92,7 @@ impl<'a, K, const PREFIX_LEN: usize> PathReader<'a, K, PREFIX_LEN> {
             root: _,
             len: _,
             reader,
+            last: _,
             mark: _,
         } = self;
         reader.count()

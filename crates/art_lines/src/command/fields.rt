@@ -6,8 +6,9 @@ ghost use Rattle.art_lines.specs.Keys.{full_key as full_key_of};
 ghost use Rattle.art_lines.specs.Reading.{tenant_in, number_in, bytes_in};
 ghost use Rattle.art_lines.specs.InPlace.{IsRead};
 
+mod look_up;
+
 use crate::command::decimals::{parse_number, parse_tenant};
-use crate::command::digits::decode_digits;
 use arrayvec::ArrayVec;
 use art_bytes::FixedBytes;
 
@@ -260,15 +261,11 @@ fn decode_bytes<const N: usize>(field: &[u8], bytes: &mut ArrayVec<u8, N>, front
         bytes.truncate(front);
         return true;
     }
-    let len = field.len() / 2;
-    if len == 0 {
+    if field.is_empty() {
         return false;
     }
-    if field.len() % 2 != 0 {
-        return false;
-    }
-    set_length(bytes, front, front + len, field);
-    decode_digits(field, &mut bytes.as_mut_slice()[front..])
+    set_length(bytes, front, front + field.len() / 2, field);
+    hex::decode_to_slice(field, &mut bytes.as_mut_slice()[front..]).is_ok()
 }
 
 /// Makes bytes as many as these, and keeps those at the front. What the others are does not matter: some of the filler

@@ -120,6 +120,7 @@ impl<K: AsBytes, V, const PREFIX_LEN: usize> TreeMap<K, V, PREFIX_LEN> {
         ensures room { UsesRoom 2 self.old.nodes self.new.nodes }
         ensures stored_room { HasKey (key_of K.bytes) (K.bytes key) self.old.pairs
             → KeepsRoomOf self.old.nodes self.new.nodes }
+        ensures leaf_room { UsesLeafRoom (length self.new.pairs - length self.old.pairs) self.old.nodes self.new.nodes }
     {
         let (_leaf, old) = self.insert_leaf_at(place, key, value)?;
         Ok(old)
@@ -180,6 +181,8 @@ impl<K: AsBytes, V, const PREFIX_LEN: usize> TreeMap<K, V, PREFIX_LEN> {
         ensures room { UsesRoom 2 self.old.nodes self.new.nodes }
         ensures stored_room { HasKey (key_of K.bytes) (K.bytes key) self.old.pairs
             → KeepsRoomOf self.old.nodes self.new.nodes }
+        ensures leaf_room { UsesLeafRoom (length self.new.pairs - length self.old.pairs) self.old.nodes self.new.nodes }
+        ensures one_leaf { UsesLeafRoom 1 self.old.nodes self.new.nodes }
     {
         let _key_bytes = key.as_bytes();
         match insert_at(&mut self.arena, place, key, value) {
@@ -211,6 +214,7 @@ impl<K: AsBytes, V, const PREFIX_LEN: usize> TreeMap<K, V, PREFIX_LEN> {
         ensures handed_back { HandsPairBack key value result }
         ensures succeeds { HasRoom self.old.nodes 2 → IsOk result }
         ensures room { UsesRoom 2 self.old.nodes self.new.nodes }
+        ensures leaf_room { UsesLeafRoom 1 self.old.nodes self.new.nodes }
     {
         let _opened = &self.root;
         let (leaf, _old) = self.insert_leaf_at(place, key, value)?;
@@ -235,6 +239,7 @@ impl<K: AsBytes, V, const PREFIX_LEN: usize> TreeMap<K, V, PREFIX_LEN> {
         ensures stored_room { HasKey (key_of K.bytes) (K.bytes key) self.old.pairs
             → KeepsRoomOf self.old.nodes self.new.nodes }
         ensures leaf_room { UsesLeafRoom (length self.new.pairs - length self.old.pairs) self.old.nodes self.new.nodes }
+        ensures one_leaf { UsesLeafRoom 1 self.old.nodes self.new.nodes }
         ensures keys { AllByRecursion (λ p. K.is_key p.0) self.old.pairs }
         ensures key { K.is_key key }
     {
@@ -280,6 +285,7 @@ impl<K: AsBytes, V, const PREFIX_LEN: usize> TreeMap<K, V, PREFIX_LEN> {
         ensures room { UsesRoom 2 self.old.nodes self.new.nodes }
         ensures stored_room { HasKey (key_of K.bytes) (K.bytes key) self.old.pairs
             → KeepsRoomOf self.old.nodes self.new.nodes }
+        ensures leaf_room { UsesLeafRoom (length self.new.pairs - length self.old.pairs) self.old.nodes self.new.nodes }
     {
         match self.put(key, value) {
             Ok(old) => Ok(value_of(old)),
@@ -391,6 +397,7 @@ impl<K: NoPrefixesBytes, V, const PREFIX_LEN: usize> TreeMap<K, V, PREFIX_LEN> {
         ensures room { UsesRoom 2 self.old.nodes self.new.nodes }
         ensures stored_room { HasKey (key_of K.bytes) (K.bytes key) self.old.pairs
             → KeepsRoomOf self.old.nodes self.new.nodes }
+        ensures leaf_room { UsesLeafRoom (length self.new.pairs - length self.old.pairs) self.old.nodes self.new.nodes }
     {
         let old = self.replace_entry(key, value)?;
         Ok(value_of(old))

@@ -54,7 +54,8 @@ impl<K: CloneBytes, V: Clone, const PREFIX_LEN: usize> TreeMap<K, V, PREFIX_LEN>
 /// ```
 impl<K: CloneKey, V: Clone, const PREFIX_LEN: usize> Clone for TreeMap<K, V, PREFIX_LEN> {
     ghost is_clone = { λ old copy. AreClones K.is_clone V.is_clone old.pairs copy.pairs
-        × IsArenaClone K.is_clone V.is_clone old.nodes copy.nodes × (copy.root ≡ old.root) };
+        × IsArenaClone K.is_clone V.is_clone old.nodes copy.nodes × (copy.root ≡ old.root)
+        × HasNoSpare old.nodes copy.nodes };
 
     fn clone(&self) -> Result<Self, AllocError> {
         match TreeMap::clone(self) {

@@ -7,7 +7,7 @@ use thiserror::Error;
 #[derive(Debug, Drop, Error)]
 pub enum TryInsertError<K, V> {
     /// The key is a prefix of a stored key, or a stored key is a prefix of it.
-    #[error("the key is a front of a stored key, or a stored key is one of it")]
+    #[error("the key begins a stored key, or a stored key begins it")]
     Prefix {
         /// The key.
         key: K,
@@ -30,7 +30,7 @@ pub enum TryInsertError<K, V> {
 #[derive(Debug, Drop, Error)]
 pub enum TryKeyError<K> {
     /// The key is a prefix of a stored key, or a stored key is a prefix of it.
-    #[error("the key is a front of a stored key, or a stored key is one of it")]
+    #[error("the key begins a stored key, or a stored key begins it")]
     Prefix {
         /// The key.
         key: K,

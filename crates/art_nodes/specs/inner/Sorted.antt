@@ -16,9 +16,8 @@ pub record IsSideBySide (room : ℕ) (header : Header) (keys : List ℕ) (names 
 abbrev pub in_use : {X : Type 0} → Header → List X → List X
 in_use header row = take header.num_children row
 
--- rows of bytes and names over the whole room, of which those in use stand side by side
+-- a row of bytes over the whole room, of which those in use stand side by side with the names
 pub record InUse (room : ℕ) (header : Header) (keys : List ℕ) (names : List Name) : Type 0 where
   pub keys_fill : length keys ≡ room
-  pub names_fill : length names ≡ room
   pub within : header.num_children ≤ room
-  pub side : IsSideBySide room header (in_use header keys) (in_use header names)
+  pub side : IsSideBySide room header (in_use header keys) names

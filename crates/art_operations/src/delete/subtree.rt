@@ -4,7 +4,7 @@ ghost use Rattle.std.specs.Prelude.{◌≡◌, ◌≢◌, ◌+◌, ◌-◌, ◌*
 ghost use Rattle.std.specs.Prelude.{IfOk, IfSome, IsOk, MatchOption, OnErr, OnOk};
 ghost use Rattle.art_nodes.specs.Name.{Name};
 ghost use Rattle.art_nodes.specs.InnerNode as node;
-ghost use Rattle.art_nodes.specs.Kind.{CanShrink};
+ghost use Rattle.art_nodes.specs.Kind.{CanShrink, shrunk_kind};
 ghost use Rattle.art_arena.specs.arena.Arena.{HasRoom, KeepsNodes, KeepsRoom, KeepsRoomOf, SameNodes, UsesRoom};
 ghost use Rattle.art_arena.specs.arena.Shapes.{erase, key_of, leaves};
 ghost use Rattle.art_arena.specs.arena.Steps.{steps_of};
@@ -13,7 +13,8 @@ ghost use Rattle.art_operations.specs.Held.{HasInner};
 ghost use Rattle.art_operations.specs.LeafNames.{HasLeavesOf};
 ghost use Rattle.art_operations.specs.Openings.{ForLongest, OpeningReads, ReadsAtLeast, ReadsExactly};
 ghost use Rattle.art_operations.specs.Openings.{SpanReads, part_reads};
-ghost use Rattle.art_operations.specs.Subtrees.{CanLoseChild, HasRoomAbove, IsCutBeside, IsSubtreeAnswer};
+ghost use Rattle.art_operations.specs.Subtrees.{CanLoseChild, GainsRoomAbove, GainsRoomOfOnly, HasRoomAbove};
+ghost use Rattle.art_operations.specs.Subtrees.{IsCutBeside, IsSubtreeAnswer};
 ghost use Rattle.art_operations.specs.Subtrees.{IsSubtreePoint, ShrinksWithout};
 ghost use Rattle.art_operations.specs.declared.insert.point.InsertKind.TheVariants as kind;
 ghost use Rattle.art_operations.specs.inner.LeafParts.{IsLeafPart};
@@ -133,6 +134,7 @@ fn reserve_smaller<K, V, const PREFIX_LEN: usize>(
     ensures succeeds { HasRoom arena.old 1 → IsOk result }
     ensures kept_room { KeepsRoom arena.old arena.new }
     ensures room_of { KeepsRoomOf arena.old arena.new }
+    ensures gains { GainsRoomOfOnly arena.old arena.new (shrunk_kind parent.kind) }
     ensures kept { SameNodes arena.old arena.new }
 {
     let kind = parent.node_type();
@@ -147,8 +149,9 @@ fn reserve_smaller<K, V, const PREFIX_LEN: usize>(
 }
 
 impl SubtreeDeletePoint {
-    /// Allocates what the deletion of the part needs, which was found in the tree of this arena. No name changes, and
-    /// what room there was stays.
+    /// Allocates what the deletion of the part needs, which was found in the tree of this arena. No node is made, and
+    /// no name changes. What room there was of each kind stays. There may be more only for the next smaller kind of the
+    /// node above the part.
     ///
     /// Fails only if the removal turns the node above the part into one of the next smaller kind, and there is no
     /// memory for that one. A part that is the whole tree needs none.
@@ -166,6 +169,7 @@ impl SubtreeDeletePoint {
         ensures succeeds { HasRoom arena.old 1 → IsOk result }
         ensures kept_room { KeepsRoom arena.old arena.new }
         ensures room_of { KeepsRoomOf arena.old arena.new }
+        ensures gains { GainsRoomAbove arena.old arena.new (steps_of self.path) }
         ensures kept { SameNodes arena.old arena.new }
     {
         let Some(step) = last_step(self.path) else {
@@ -208,8 +212,9 @@ impl PreparedSubtreeDelete {
         }
     }
 
-    /// Returns the part as it was found. The tree is unchanged, and what was allocated stays with the arena, for nodes
-    /// to come. To delete the part later, prepare it again.
+    /// Returns the part as it was found. The tree is unchanged, and the arena has the room that it had before the
+    /// preparation. What `prepare` allocated beside that stays with it, for nodes to come. To delete the part later,
+    /// prepare it again.
     pub fn abandon(self) -> SubtreeDeletePoint
         ensures { result ≡ self.point }
     {

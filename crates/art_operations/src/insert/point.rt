@@ -88,7 +88,7 @@ impl Eq for KeyPrefix {
 /// A key can't be inserted, since it is a prefix of a stored key, or a stored key is a prefix of it. The stored keys of
 /// which that holds are those of one part of the tree.
 #[derive(Clone, Copy, Debug, Error)]
-#[error("the key is a front of a stored key, or a stored key is one of it")]
+#[error("the key begins a stored key, or a stored key begins it")]
 pub struct PrefixConflict {
     /// The root of the tree.
     pub root: OpaqueNodePtr,
@@ -100,7 +100,7 @@ pub struct PrefixConflict {
 
 /// A key can't be inserted, since it is a prefix of a stored key, or a stored key is a prefix of it.
 #[derive(Debug, Drop, Error)]
-#[error("the key is a front of a stored key, or a stored key is one of it")]
+#[error("the key begins a stored key, or a stored key begins it")]
 pub struct InsertPrefixError {
     /// The bytes of the new key.
     pub byte_repr: KeyPrefix,
@@ -110,7 +110,7 @@ pub struct InsertPrefixError {
 #[derive(Debug, Drop, Error)]
 pub enum InsertSearchError {
     /// It is a prefix of a stored key, or a stored key is a prefix of it.
-    #[error("the key is a front of a stored key, or a stored key is one of it")]
+    #[error("the key begins a stored key, or a stored key begins it")]
     Prefix(InsertPrefixError),
     /// So it is, and there was no memory for its bytes.
     #[error("no memory for the bytes of a key that can't be put in")]

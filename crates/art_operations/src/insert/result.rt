@@ -46,7 +46,7 @@ pub struct InsertRefused<K, V> {
 #[derive(Debug, Drop, Error)]
 pub enum PairRefused<K, V> {
     /// The key is a prefix of a stored key, or a stored key is a prefix of it.
-    #[error("the key is a front of a stored key, or a stored key is one of it")]
+    #[error("the key begins a stored key, or a stored key begins it")]
     Conflict {
         /// The key.
         key: K,

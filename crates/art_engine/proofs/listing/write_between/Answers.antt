@@ -1,4 +1,4 @@
-use Rattle.std.proofs.Common.{rules, ℕ, ◌+◌, ◌^◌, ◌<◌, List, length, map, ap, ap₂, sym, ◌∙◌, subst, arith, inr}
+use Rattle.std.proofs.Common.{rules, ℕ, ◌+◌, ◌^◌, ◌<◌, ◌≤◌, List, length, map, ap, ap₂, sym, ◌∙◌, subst, arith, inr}
 use Rattle.std.specs.Prelude.{filter, max}
 use Rattle.std.specs.List.{AllByRecursion}
 use Rattle.std.specs.declared.ops.Bound.TheVariants.{Included, Excluded}
@@ -10,7 +10,7 @@ use Rattle.art_engine.proofs.Terms.{longest, GrewBy, full_key_of, span_pairs, ow
 use Rattle.art_engine.proofs.Listings.{never_falls}
 use Rattle.art_engine.proofs.FullTests.{in_order_full}
 use Rattle.art_engine.proofs.ListedLines.{list_all}
-use Rattle.art_engine.proofs.RecordCounts.{own_pairs, own_left, left_listed, left_few, left_grew, span_tests, pairs_within}
+use Rattle.art_engine.proofs.RecordCounts.{own_pairs, own_left, left_listed, left_few, left_grew, left_most, span_tests, pairs_within}
 use Rattle.art_engine.proofs.SpanLemmas.{span_left}
 use Rattle.art_engine.proofs.listing.write_between.Goals as goal
 
@@ -50,3 +50,15 @@ returns-clause-visits g c = λ ps r.
     on_ok_weaker c.write_pairs.result (λ is. left_grew t _ _ (span_tests t low high c.full_key.ensures.tenant) ps r.are bound (bound + 4) _ _ _ r.few (omega arith) (never_falls c.args.records.now.root _ _ c.range-span.ensures.least)
     (c.range-span.ensures.few ps r.read (longest full_key_of (map record_of ps)) (bound + 4) (pairs_within ps r.are.stand) (omega arith) (omega arith))
     (subst (λ (l : List Pair). GrewBy (length l) c.range-span.new.self.count c.write_pairs.new.records.count) left is)) c.write_pairs.ensures.counts
+
+pub returns-clause-few : goal.returns-clause-few
+returns-clause-few g c = λ ps r.
+    let F = c.args.fields.now in let t = tenant_in_place F in let low = key_in_place F in let high = value_in_place F in
+    let left = span_left _ ps _ _ (c.range-span.ensures.value ps r.read)
+    ∙ ap₂ (λ a b. filter (λ (p : Pair). range_contains bytes_cmp (Included a) (Excluded b) p.0.items) ps) c.full_key.ensures.value c.full_bound.ensures in
+    let first = ap length c.full_key.ensures.value in
+    let second = ap length c.full_bound.ensures in
+    let bound = max (length low) (length high) in
+    left_most t _ _ (span_tests t low high c.full_key.ensures.tenant) ps r.are bound (bound + 4) _ _ _ (omega arith)
+    (c.range-span.ensures.few ps r.read (longest full_key_of (map record_of ps)) (bound + 4) (pairs_within ps r.are.stand) (omega arith) (omega arith))
+    (subst (λ (l : List Pair). c.write_pairs.new.records.count ≤ c.range-span.new.self.count + length l) left c.write_pairs.ensures.few)

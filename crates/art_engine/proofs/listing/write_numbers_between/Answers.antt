@@ -1,4 +1,4 @@
-use Rattle.std.proofs.Common.{rules, ℕ, ◌^◌, ◌<◌, List, length, map, ap, ap₂, sym, ◌∙◌, subst, arith, inr}
+use Rattle.std.proofs.Common.{rules, ℕ, ◌+◌, ◌^◌, ◌<◌, ◌≤◌, List, length, map, ap, ap₂, sym, ◌∙◌, subst, arith, inr}
 use Rattle.std.specs.Prelude.{filter}
 use Rattle.std.specs.List.{AllByRecursion}
 use Rattle.std.specs.declared.ops.Bound.TheVariants.{Included}
@@ -10,7 +10,7 @@ use Rattle.art_engine.proofs.Terms.{GrewBy, span_pairs, own_number, IsNumbered, 
 use Rattle.art_engine.proofs.Listings.{never_falls}
 use Rattle.art_engine.proofs.NumberKeys.{HaveBytes, numbers_in_order}
 use Rattle.art_engine.proofs.ListedLines.{numbers_all}
-use Rattle.art_engine.proofs.RecordCounts.{own_numbers, own_numbers_left, numbers_left_listed, numbers_left_few, numbers_left_grew, numbers_within}
+use Rattle.art_engine.proofs.RecordCounts.{own_numbers, own_numbers_left, numbers_left_listed, numbers_left_few, numbers_left_grew, numbers_left_most, numbers_within}
 use Rattle.art_engine.proofs.SpanLemmas.{span_left}
 use Rattle.art_engine.proofs.listing.write_numbers_between.Goals as goal
 
@@ -55,3 +55,16 @@ returns-clause-visits g c = λ ns r.
     on_ok_weaker c.write_pairs.result (λ is. numbers_left_grew t low high fits_low fits_high ns r.are _ _ _ r.few (never_falls c.args.numbers.now.root _ _ c.range-span.ensures.least)
     (c.range-span.ensures.few ns r.read 12 12 (numbers_within ns r.are.stand) (omega arith) (omega arith))
     (subst (λ (l : List NumberPair). GrewBy (length l) c.range-span.new.self.count c.write_pairs.new.records.count) left is)) c.write_pairs.ensures.counts
+
+pub returns-clause-few : goal.returns-clause-few
+returns-clause-few g c = λ ns r.
+    let F = c.args.fields.now in let t = tenant_in_place F in let low = number_in_place F in let high = bound_in_place F in
+    let fits_low : HaveBytes t low = (c.number_key-low.ensures.tenant, c.number_key-low.ensures.number) in
+    let fits_high : HaveBytes t high = (c.number_key-low.ensures.tenant, c.bound_key-high.ensures.bound) in
+    let left = span_left _ ns _ _ (c.range-span.ensures.value ns r.read)
+    ∙ ap₂ (λ a b. filter (λ (p : NumberPair). range_contains bytes_cmp (Included a) (Included b) p.0) ns) c.number_key-low.ensures.value c.bound_key-high.ensures.value in
+    let first = ap length c.number_key-low.ensures.value in
+    let second = ap length c.bound_key-high.ensures.value in
+    numbers_left_most t low high fits_low fits_high ns r.are _ _ _
+    (c.range-span.ensures.few ns r.read 12 12 (numbers_within ns r.are.stand) (omega arith) (omega arith))
+    (subst (λ (l : List NumberPair). c.write_pairs.new.records.count ≤ c.range-span.new.self.count + length l) left c.write_pairs.ensures.few)

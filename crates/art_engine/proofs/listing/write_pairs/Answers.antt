@@ -120,3 +120,27 @@ returns-in_err-next-clause-kept g c = c.next.ensures.kept c.args.records.now c.p
 
 pub returns-clause-kept : goal.returns-clause-kept
 returns-clause-kept g c = c.next.ensures.kept c.args.records.now c.pairs.invariant.same
+
+pub returns-in_err-next-clause-few : goal.returns-in_err-next-clause-few
+returns-in_err-next-clause-few g c =
+    let read = drop c.next.new.self.at (take c.next.new.self.len c.next.new.self.pairs) in
+    let parts = length_all deref_pair read (span_pairs c.next.new.records.nodes c.next.new.place) in
+    let step = ap length c.in-Some.ensures.gives in
+    let counted = c.pairs.invariant.counted in
+    let visits = c.in-Some.ensures.counts c.pairs.count c.args.records.now.count c.pairs.invariant.visits in
+    let high = visits.1 in
+    omega arith
+
+pub returns-clause-few : goal.returns-clause-few
+returns-clause-few g c =
+    let read = drop c.next.new.self.at (take c.next.new.self.len c.next.new.self.pairs) in
+    let rest = pending_all deref_pair read (span_pairs c.next.new.records.nodes c.next.new.place) in
+    let ended : rest ≡ [] = c.next.ensures.ended c.in_default.is in
+    let few = ap length (c.next.ensures.gives ∙ ap (λ o. pending (option_map deref_pair o) rest) c.in_default.is ∙ ended) in
+    let no = ap length ended in
+    let parts = length_all deref_pair read (span_pairs c.next.new.records.nodes c.next.new.place) in
+    let given = ap (λ o. length (pending (option_map deref_pair o) (pending_all deref_pair read []))) c.in_default.is in
+    let counted = c.pairs.invariant.counted in
+    let visits = c.next.ensures.counts c.pairs.count c.args.records.now.count c.pairs.invariant.visits in
+    let high = visits.1 in
+    omega arith

@@ -84,3 +84,12 @@ returns-in_err-finish_line-clause-cut g c = when_err c.from_residual.result (λ 
     let all = in_place text done line following rest c.args.piece.now (after_newline rest at _ refl found.0.high found.1) i.1 in
     cut_run-more start c.finish_line.new.index ((text ++ done) ++ line ++ 10 ∷ []) following (text ++ c.args.piece.now) before (g.W.Sink.taken c.finish_line.new.sink) all
     (c.in_err-finish_line.ensures.cut start (text ++ done) before none (i.2 start text before h)))
+
+pub returns-in_err-finish_line-clause-used_up : goal.returns-in_err-finish_line-clause-used_up
+returns-in_err-finish_line-clause-used_up g c = c.in_err-finish_line.ensures.used_up
+
+pub returns-in_err-finish_line-clause-counted : goal.returns-in_err-finish_line-clause-counted
+returns-in_err-finish_line-clause-counted g c =
+    let used = ap read_of c.in_err-finish_line.ensures.used_up in
+    let before = c.lines.invariant.counted in let now = c.in_err-finish_line.ensures.counted in
+    omega arith

@@ -1,8 +1,9 @@
-use Rattle.std.proofs.Common.{◌≡◌, ℕ, ◌<◌, ◌++◌, [], List, length, take, sym, ◌∙◌, ap, arith, append-nil, append_assoc, subst, true, false, Ok}
+use Rattle.std.proofs.Common.{rules, ◌≡◌, ℕ, ◌<◌, ◌≤◌, ◌++◌, [], List, length, take, sym, ◌∙◌, ap, arith, append-nil, append_assoc, subst, true, false, Ok}
 use Rattle.std.proofs.lemmas.Bool.{eqb-false}
 use Rattle.art_lines.proofs.Common.{lines_so_far}
-use Rattle.art_engine.proofs.Terms.{answer, AfterWriteFault, Carried, total}
-use Rattle.art_engine.proofs.LinesAhead.{told_more}
+use Rattle.art_lines.specs.Reading.{command_of}
+use Rattle.art_engine.specs.ReadAhead.{ahead_now}
+use Rattle.art_engine.proofs.Terms.{answer, most_ahead, AfterWriteFault, Carried, read_of, total}
 use Rattle.art_engine.proofs.Carrying.{carried_none, outcome_last}
 use Rattle.art_engine.proofs.CutRuns.{cut_run-last}
 use Rattle.art_engine.proofs.running.run_held.Goals as goal
@@ -21,36 +22,54 @@ reads-init g c = record {
   sink_open = c.requires.sink_open;
 }
 
+pub execute_current-requires : goal.execute_current-requires
+execute_current-requires g c =
+    let e = c.parse_now.ensures in let none = e.ahead in
+    let few : ahead_now c.parse_now.new.self ≤ most_ahead (command_of c.as_slice-line.result.now) = omega arith in
+    search (rules, e.read, few)
+
 pub returns-clause-outcome : goal.returns-clause-outcome
 returns-clause-outcome g c =
     let i = c.reads.invariant.carried in let text : List ℕ = i.0 in
-    let carried = i.2 in let e = c.in_ok-execute_parsed.ensures in let memory = c.in_ok-execute_parsed.field-0.memory in
+    let carried = i.2 in let d = c.in_ok-execute_current.ensures.done in let memory = d.0 in
     let held : List ℕ = c.reads.held.items in let line = c.as_slice-line.ensures.value in
     let some : 0 < length held = let h = eqb-false _ _ (sym c.if-is_empty.ensures) in omega arith in
-    let last = outcome_last c.args.index.now c.reads.index c.execute_parsed.new.self text held (g.W.Sink.taken c.args.sink.now) (g.W.Sink.taken c.reads.sink) c.as_slice-line.result.now carried some line memory
-    (record { lawful = e.lawful; left = e.left; visits = c.in_ok-execute_parsed.field-0.visits; within = e.visits; short = e.short; own_path = e.own_path; counted = e.counted; visits_ahead = 0; few = omega arith; counted_ahead = e.ahead }) in (
+    let last = outcome_last c.args.index.now c.reads.index c.execute_current.new.index text held (g.W.Sink.taken c.args.sink.now) (g.W.Sink.taken c.reads.sink) c.as_slice-line.result.now carried some line memory d.1 in (
       text,
       carried.written ++ answer memory c.reads.index.records c.as_slice-line.result.now,
-      given_end (g.S.Source.given c.args.source.now) text (g.S.Source.given c.reads.source) (g.S.Source.given c.read.new.self) c.in-Ok.n c.read.new.buf i.1 c.in-Ok.ensures.gives c.if-n-eq0.true,
-      e.output ∙ ap (λ t. t ++ answer memory c.reads.index.records c.as_slice-line.result.now) (c.send.ensures.keeps ∙ carried.output) ∙ append_assoc (g.W.Sink.taken c.args.sink.now) carried.written (answer memory c.reads.index.records c.as_slice-line.result.now),
+      given_end (g.S.Source.given c.args.source.now) text (g.S.Source.given c.reads.source) (g.S.Source.given c.read_piece.new.source) c.in-Ok.n c.read_piece.new.buf i.1 c.in-Ok.ensures.gives c.if-n-eq0.true,
+      d.2 ∙ ap (λ t. t ++ answer memory c.reads.index.records c.as_slice-line.result.now) (c.send.ensures.keeps ∙ carried.output) ∙ append_assoc (g.W.Sink.taken c.args.sink.now) carried.written (answer memory c.reads.index.records c.as_slice-line.result.now),
       last,
     )
 
 pub returns-clause-ahead : goal.returns-clause-ahead
 returns-clause-ahead g c =
-    let counted = c.reads.invariant.counted in let e = c.in_ok-execute_parsed.ensures in
-    let more = told_more c.reads.index.ahead 0 c.execute_parsed.new.self.ahead e.ahead in let prefetched = ap total e.prefetched in
+    let counted = c.reads.invariant.counted in let e = c.execute_current.ensures in let now = e.counted in
+    let none = c.parse_now.ensures.ahead in let prefetched = ap total e.prefetched in
+    let left = ap read_of (c.in_ok-execute_current.ensures.kept ∙ c.parse_now.ensures.kept ∙ c.reads.invariant.used_up) in
+    let due = ap read_of (c.parse_now.ensures.kept ∙ c.reads.invariant.used_up) in
     omega arith
+
+pub returns-in_err-execute_current-clause-ahead : goal.returns-in_err-execute_current-clause-ahead
+returns-in_err-execute_current-clause-ahead g c =
+    let counted = c.reads.invariant.counted in let e = c.execute_current.ensures in let now = e.counted in
+    let none = c.parse_now.ensures.ahead in let prefetched = ap total e.prefetched in
+    let left = ap read_of c.in_err-execute_current.ensures.used_up in
+    let due = ap read_of (c.parse_now.ensures.kept ∙ c.reads.invariant.used_up) in
+    omega arith
+
+pub returns-in_err-feed-clause-ahead : goal.returns-in_err-feed-clause-ahead
+returns-in_err-feed-clause-ahead g c = let before = c.reads.invariant.counted in let now = c.in_err-feed.ensures.counted in omega arith
 
 pub returns-in_err-feed-clause-after_write_fault :
     goal.returns-in_err-feed-clause-after_write_fault
 returns-in_err-feed-clause-after_write_fault g c = λ _.
     let i = c.reads.invariant.carried in let text : List ℕ = i.0 in let n : ℕ = c.in-Ok.n in
-    let more : List ℕ = take n c.read.new.buf in
+    let more : List ℕ = take n c.read_piece.new.buf in
     let sent = subst (Carried c.args.index.now c.reads.index text c.reads.held.items (g.W.Sink.taken c.args.sink.now)) (sym c.send.ensures.keeps) i.2 in
     let run = c.in_err-feed.ensures.cut c.args.index.now text (g.W.Sink.taken c.args.sink.now) sent in
     let some : 0 < n = let other = c.if-n-eq0.false in omega arith in
-    let goes_on : g.S.Source.has_ended c.read.new.self ≡ false = c.in-Ok.ensures.goes_on some ∙ c.reads.invariant.source_goes_on in (
+    let goes_on : g.S.Source.has_ended c.read_piece.new.source ≡ false = c.in-Ok.ensures.goes_on some ∙ c.reads.invariant.source_goes_on in (
       text ++ more,
       run.written,
       c.in-Ok.ensures.gives ∙ ap (λ t. t ++ more) i.1 ∙ append_assoc (g.S.Source.given c.args.source.now) text more,
@@ -58,19 +77,19 @@ returns-in_err-feed-clause-after_write_fault g c = λ _.
       subst (λ b. AfterWriteFault c.args.index.now (lines_so_far b (text ++ more)) run.written c.feed.new.index) (sym goes_on) run.fault,
     )
 
-pub returns-in_err-execute_parsed-clause-after_write_fault :
-    goal.returns-in_err-execute_parsed-clause-after_write_fault
-returns-in_err-execute_parsed-clause-after_write_fault g c = λ _.
+pub returns-in_err-execute_current-clause-after_write_fault :
+    goal.returns-in_err-execute_current-clause-after_write_fault
+returns-in_err-execute_current-clause-after_write_fault g c = λ _.
     let i = c.reads.invariant.carried in let text : List ℕ = i.0 in
     let held : List ℕ = c.reads.held.items in
     let some : 0 < length held = let h = eqb-false _ _ (sym c.if-is_empty.ensures) in omega arith in
     let sent = subst (Carried c.args.index.now c.reads.index text held (g.W.Sink.taken c.args.sink.now)) (sym c.send.ensures.keeps) i.2 in
-    let run = cut_run-last c.args.index.now c.reads.index c.execute_parsed.new.self text held (g.W.Sink.taken c.args.sink.now) (g.W.Sink.taken c.send.new.self) (g.W.Sink.taken c.execute_parsed.new.sink) c.as_slice-line.result.now
-    sent some c.as_slice-line.ensures.value c.in_err-execute_parsed.ensures.cut in
-    let ended : g.S.Source.has_ended c.read.new.self ≡ true = c.in-Ok.ensures.ends (ap (λ n. Ok n) c.if-n-eq0.true) in (
+    let run = cut_run-last c.args.index.now c.reads.index c.execute_current.new.index text held (g.W.Sink.taken c.args.sink.now) (g.W.Sink.taken c.send.new.self) (g.W.Sink.taken c.execute_current.new.sink) c.as_slice-line.result.now
+    sent some c.as_slice-line.ensures.value c.in_err-execute_current.ensures.cut in
+    let ended : g.S.Source.has_ended c.read_piece.new.source ≡ true = c.in-Ok.ensures.ends (ap (λ n. Ok n) c.if-n-eq0.true) in (
       text,
       run.written,
-      given_end (g.S.Source.given c.args.source.now) text (g.S.Source.given c.reads.source) (g.S.Source.given c.read.new.self) c.in-Ok.n c.read.new.buf i.1 c.in-Ok.ensures.gives c.if-n-eq0.true,
+      given_end (g.S.Source.given c.args.source.now) text (g.S.Source.given c.reads.source) (g.S.Source.given c.read_piece.new.source) c.in-Ok.n c.read_piece.new.buf i.1 c.in-Ok.ensures.gives c.if-n-eq0.true,
       run.output,
-      subst (λ b. AfterWriteFault c.args.index.now (lines_so_far b text) run.written c.execute_parsed.new.self) (sym ended) run.fault,
+      subst (λ b. AfterWriteFault c.args.index.now (lines_so_far b text) run.written c.execute_current.new.index) (sym ended) run.fault,
     )

@@ -1,20 +1,14 @@
-use Rattle.std.proofs.Common.{◌-◌, ◌%◌, length, sym, arith}
-use Rattle.hex.specs.Hex.{lower_digits}
-use Rattle.hex.proofs.HexLemmas.{length-encode_with}
-use Rattle.art_lines.proofs.HexText.{encode_lower-parts}
-use Rattle.art_lines.proofs.Gathering.{puts_then, puts_same}
+use Rattle.std.proofs.Common.{◌≡◌, ◌+◌, ◌-◌, ◌*◌, length, drop, arith}
+use Rattle.std.proofs.lemmas.List.{length-drop, length-take-le}
+use Rattle.hex.specs.Hex.{encode_lower}
+use Rattle.art_lines.proofs.Parsing.{on_ok}
+use Rattle.art_lines.proofs.Gathering.{digits_put}
 use Rattle.art_lines.proofs.room.put_digits.Goals as goal
-
-pub put_each-requires : goal.put_each-requires
-put_each-requires c =
-    let first = c.put_eights-next.ensures.next_is in
-    let long = length-encode_with lower_digits c.split_at.result.0.now in
-    let front = c.split_at.ensures.front_len in
-    let back = c.split_at.ensures.back_len in
-    omega arith
 
 pub returns : goal.returns
 returns c =
-    let value = c.args.value.now in
-    puts_same _ _ _ _ _ _ (sym (encode_lower-parts (length value - length value % 8) value _ _ c.split_at.ensures.front c.split_at.ensures.back))
-    (puts_then _ _ _ _ _ _ _ _ c.put_eights-next.ensures c.put_each.ensures)
+    let room = c.args.room.now in let value = c.args.value.now in let at = c.args.at in
+    let after = length-drop at room in
+    let fits = length-take-le (at + 2 * length value - at) (drop at room) (omega arith) in
+    let output : c.encode_to_slice.new.output ≡ encode_lower value = on_ok c.encode_to_slice.result (c.encode_to_slice.ensures.fits.1 (omega arith)) c.encode_to_slice.ensures.written in
+    digits_put room value c.encode_to_slice.new.output at (at + 2 * length value - at) output c.requires

@@ -51,11 +51,11 @@ returns-then-this-ge-PREFIX_LEN_LIMIT-clause-exact g c =
     subst (λ arena. HasNoSpare arena new) c.source.view_is
     (record {
       leaves = c.in_ok-put_clones.ensures.exact;
-      nodes4 = c.none_fits-then-this-ge-PREFIX_LEN_LIMIT-5.ensures.capacity large ∙ sym (c.none_fits.ensures.slots large);
-      nodes16 = c.none_fits-then-this-ge-PREFIX_LEN_LIMIT-6.ensures.capacity large ∙ sym (c.none_fits-then-this-ge-PREFIX_LEN_LIMIT.ensures.slots large);
-      nodes32 = c.none_fits-then-this-ge-PREFIX_LEN_LIMIT-7.ensures.capacity large ∙ sym (c.none_fits-then-this-ge-PREFIX_LEN_LIMIT-2.ensures.slots large);
-      nodes48 = c.none_fits-then-this-ge-PREFIX_LEN_LIMIT-8.ensures.capacity large ∙ sym (c.none_fits-then-this-ge-PREFIX_LEN_LIMIT-3.ensures.slots large);
-      nodes256 = c.none_fits-then-this-ge-PREFIX_LEN_LIMIT-9.ensures.capacity large ∙ sym (c.none_fits-then-this-ge-PREFIX_LEN_LIMIT-4.ensures.slots large);
+      nodes4 = c.none_fits-then-this-ge-PREFIX_LEN_LIMIT-5.ensures.capacity large ∙ sym (c.none_fits.ensures.len large);
+      nodes16 = c.none_fits-then-this-ge-PREFIX_LEN_LIMIT-6.ensures.capacity large ∙ sym (c.none_fits-then-this-ge-PREFIX_LEN_LIMIT.ensures.len large);
+      nodes32 = c.none_fits-then-this-ge-PREFIX_LEN_LIMIT-7.ensures.capacity large ∙ sym (c.none_fits-then-this-ge-PREFIX_LEN_LIMIT-2.ensures.len large);
+      nodes48 = c.none_fits-then-this-ge-PREFIX_LEN_LIMIT-8.ensures.capacity large ∙ sym (c.none_fits-then-this-ge-PREFIX_LEN_LIMIT-3.ensures.len large);
+      nodes256 = c.none_fits-then-this-ge-PREFIX_LEN_LIMIT-9.ensures.capacity large ∙ sym (c.none_fits-then-this-ge-PREFIX_LEN_LIMIT-4.ensures.len large);
     })
 
 pub returns-clause-exact : goal.returns-clause-exact

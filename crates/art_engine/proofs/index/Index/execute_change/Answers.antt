@@ -16,6 +16,7 @@ returns-clause-done g c =
 
 pub returns-in_err-write_changed-clause-cut : goal.returns-in_err-write_changed-clause-cut
 returns-in_err-write_changed-clause-cut g c =
-    let k = c.change-done.ensures.kept in
-    when_err _ (change_cut c.args._line.now _ _ c.args.self.now c.change-done.new.self c.change-done.result _ c.args.word c.args.fields.now c.requires.read refl
-    c.change-done.ensures.done k.1 c.in_err-write_changed.ensures.cut k.0)
+    let k = c.change-done.ensures.kept in let n = c.count.ensures in
+    when_err _ (change_cut c.args._line.now _ _ c.args.self.now c.count.new.self c.change-done.result _ c.args.word c.args.fields.now c.requires.read refl
+    (subst (IsChangeDone c.change-done.result (changes c.args.word c.args.fields.now) c.args.self.now.records) (sym n.kept.0) c.change-done.ensures.done) (n.kept.1 ∙ k.1)
+    c.in_err-write_changed.ensures.cut (n.counted ∙ ap (λ reads. reads ++ 0 ∷ []) k.0))

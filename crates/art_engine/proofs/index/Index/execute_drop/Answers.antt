@@ -14,6 +14,7 @@ returns-clause-done g c =
 
 pub returns-in_err-write_dropped-clause-cut : goal.returns-in_err-write_dropped-clause-cut
 returns-in_err-write_dropped-clause-cut g c =
-    let k = c.drop_tenant-dropped.ensures.kept in
-    when_err _ (drop_cut c.args._line.now _ _ c.args.self.now c.drop_tenant-dropped.new.self c.drop_tenant-dropped.result _ c.args.fields.now c.requires.read refl
-    c.drop_tenant-dropped.ensures.done k.1 c.in_err-write_dropped.ensures.cut k.0)
+    let k = c.drop_tenant-dropped.ensures.kept in let n = c.count.ensures in
+    when_err _ (drop_cut c.args._line.now _ _ c.args.self.now c.count.new.self c.drop_tenant-dropped.result _ c.args.fields.now c.requires.read refl
+    (subst (IsDropDone c.drop_tenant-dropped.result (tenant_in_place c.args.fields.now) c.args.self.now.records) (sym n.kept.0) c.drop_tenant-dropped.ensures.done) (n.kept.1 ∙ k.1)
+    c.visits.result c.visits.ensures c.in_err-write_dropped.ensures.cut (n.counted ∙ ap (λ reads. reads ++ c.visits.result ∷ []) k.0))

@@ -71,3 +71,9 @@ returns-in-Ok-clause-leaf_room g c =
 
 pub returns-in-Err-clause-leaf_room : goal.returns-in-Err-clause-leaf_room
 returns-in-Err-clause-leaf_room g c = rw (← c.self.view_is) (kept-used c.self.inside.arena c.insert_pair.new.arena _ c.in-Err.ensures.kept_room)
+
+pub returns-in-Ok-clause-one_leaf : goal.returns-in-Ok-clause-one_leaf
+returns-in-Ok-clause-one_leaf g c = rw (← c.self.view_is) (swap-uses c.self.inside.arena c.insert_pair.new.arena _ c.in-Ok.ensures.leaf_room)
+
+pub returns-in-Err-clause-one_leaf : goal.returns-in-Err-clause-one_leaf
+returns-in-Err-clause-one_leaf g c = rw (← c.self.view_is) (kept-used c.self.inside.arena c.insert_pair.new.arena 1 c.in-Err.ensures.kept_room)

@@ -9,13 +9,13 @@ pub place_below-low-requires-clause-bytes : goal.place_below-low-requires-clause
 place_below-low-requires-clause-bytes g c =
     let i = c.self.inside in
     let side = c.self.invariant.side in
-    rw c.num_children-used.ensures.value (place-all 0 (in_use i.header i.keys) (in_use i.header i.names) side.same_length side.ascending ∙ sym side.counts)
+    rw c.num_children-used.ensures.value (place-all 0 (in_use i.header i.keys) i.names.items side.same_length side.ascending ∙ sym side.counts)
 
 pub place_below-high-requires-clause-bytes : goal.place_below-high-requires-clause-bytes
 place_below-high-requires-clause-bytes g c =
     let i = c.self.inside in
     let side = c.self.invariant.side in
-    rw c.num_children-used.ensures.value (place-all 0 (in_use i.header i.keys) (in_use i.header i.names) side.same_length side.ascending ∙ sym side.counts)
+    rw c.num_children-used.ensures.value (place-all 0 (in_use i.header i.keys) i.names.items side.same_length side.ascending ∙ sym side.counts)
 
 pub sorted_part-requires-clause-within : goal.sorted_part-requires-clause-within
 sorted_part-requires-clause-within g c =
@@ -28,10 +28,10 @@ returns g c =
     let i = c.self.inside in
     let side = c.self.invariant.side in
     let keys = in_use i.header i.keys in
-    let names = in_use i.header i.names in
+    let names = i.names.items in
     let forward = valid-forward c.args.start c.args.end c.requires (rw c.start_of.ensures.value at c.start_of.ensures.fits) in
     let part = within-zip (start_index c.args.start) (end_index c.args.end 256) keys names side.same_length forward side.ascending in
     let low = c.place_below-low.ensures in
     let high = c.place_below-high.ensures in
     rw (← c.self.view_is, children_between-within 0 c.args.start c.args.end (zip keys names) side.ascending, ← part)
-    (rw (c.num_children-used.ensures.value, c.start_of.ensures.value, c.end_of.ensures.value) at (rw (low, high) at c.sorted_part.ensures))
+    (rw (c.num_children-used.ensures.value, c.as_slice.ensures.value, c.start_of.ensures.value, c.end_of.ensures.value) at (rw (low, high) at c.sorted_part.ensures))

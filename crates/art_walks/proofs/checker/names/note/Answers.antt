@@ -1,28 +1,22 @@
-use Rattle.std.proofs.Common.{◌≡◌, ◌||◌, not, ℕ, Bool, true, false, cond, List, [], ◌∷◌, refl, sym, ap, ap₂, ◌∙◌, inl, inr}
-use Rattle.std.proofs.lemmas.Bool.{eq-eqb}
-use Rattle.std.proofs.lemmas.Bool.Decides.{eqb_tells}
+use Rattle.std.proofs.Common.{◌≡◌, ◌||◌, ◌&&◌, not, ℕ, Bool, true, false, cond, nat_eq, List, [], ◌∷◌, refl, sym, ap, ap₂, ◌∙◌, inl, inr}
 use Rattle.std.specs.List.{list_any}
 use Rattle.art_walks.proofs.Terms.{has_name}
-use Rattle.art_arena.proofs.Common.{same_name, same_name_tells}
+use Rattle.art_arena.proofs.Common.{same_kind, same_name, same_name_tells}
 use Rattle.art_nodes.proofs.Common.{Name}
-use Rattle.art_nodes.specs.Name.{name_in, word_of}
 use Rattle.art_nodes.specs.declared.kind.NodeType.{NodeType}
-use Rattle.art_nodes.specs.lemmas.NameLaws.{name_in-word_of}
+use Rattle.art_walks.proofs.KindTests.{kinds_told}
 use Rattle.art_nodes.specs.contracts.names.OpaqueNodePtrPartialEq.TheImpl.{eq-value}
 use Rattle.art_walks.proofs.checker.names.note.Goals as goal
 
--- the equality of names, by their words, tells them apart
+turned : (a b : Bool) → (a && b) ≡ (b && a)
+turned true true = refl
+turned true false = refl
+turned false true = refl
+turned false false = refl
+
+-- the equality of names tells them apart: it looks at the slab keys first
 same : (k l : NodeType) (x y : ℕ) → eq-value.it (record { kind = k; slot = x }) (record { kind = l; slot = y }) ≡ same_name (record { kind = k; slot = x }) (record { kind = l; slot = y })
-same k l x y =
-    let a : Name = record { kind = k; slot = x } in
-    let b : Name = record { kind = l; slot = y } in
-    elim (same_name_tells a b) [
-      | inl one ↦ eq-eqb (word_of a) (word_of b) (ap word_of one.1) ∙ sym one.0
-      | inr two ↦ elim (eqb_tells (word_of a) (word_of b)) [
-        | inl words ↦ absurd (two.1 (sym (name_in-word_of k x) ∙ ap name_in words.1 ∙ name_in-word_of l y))
-        | inr words ↦ words.0 ∙ sym two.0
-      ]
-    ]
+same k l x y = ap (λ b. nat_eq x y && b) (kinds_told k l) ∙ turned (nat_eq x y) (same_kind k l)
 
 swapped : (a b : Name) → same_name a b ≡ same_name b a
 swapped a b = elim (same_name_tells a b) [

@@ -1,3 +1,0 @@
-pub mod CloneLemmas
-pub mod EntryLemmas
-pub mod LinkLemmas

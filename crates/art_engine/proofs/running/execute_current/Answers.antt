@@ -1,0 +1,46 @@
+use Rattle.std.proofs.Common.{◌≡◌, ℕ, ◌+◌, ◌≤◌, List, ◌++◌, ap, sym, ◌∙◌, subst, arith}
+use Rattle.std.proofs.lemmas.List.Sums.{sum_by-append}
+use Rattle.art_lines.specs.Reading.{command_of}
+use Rattle.art_engine.proofs.Terms.{most_ahead, read_of, total}
+use Rattle.art_engine.proofs.CutRuns.{told_unused}
+use Rattle.art_engine.proofs.LinesAhead.{told_more}
+use Rattle.art_engine.proofs.running.execute_current.Goals as goal
+
+pub returns-in-Ok-clause-done : goal.returns-in-Ok-clause-done
+returns-in-Ok-clause-done g c =
+    let e = c.in-Ok.ensures in (
+      c.in-Ok._handled.memory,
+      record {
+        lawful = e.lawful;
+        left = e.left;
+        visits = c.in-Ok._handled.visits;
+        within = e.visits;
+        short = e.short;
+        own_path = e.own_path;
+        counted = e.counted;
+        visits_ahead = c.parsed-parsed.result.ahead;
+        few = subst (λ n. n ≤ most_ahead (command_of c.args.line.now)) (sym c.parsed-parsed.ensures.ahead) c.requires.few;
+        counted_ahead = e.ahead;
+      },
+      e.output,
+    )
+
+pub returns-in-Ok-clause-counted : goal.returns-in-Ok-clause-counted
+returns-in-Ok-clause-counted g c =
+    let more = told_more c.args.index.now.ahead c.parsed-parsed.result.ahead c.execute_parsed.new.self.ahead c.in-Ok.ensures.ahead in
+    let is = c.parsed-parsed.ensures.ahead in
+    omega arith
+
+pub returns-in-Err-clause-counted : goal.returns-in-Err-clause-counted
+returns-in-Err-clause-counted g c =
+    let more = told_more c.args.index.now.ahead c.parsed-parsed.result.ahead c.execute_parsed.new.self.ahead c.in-Err.ensures.ahead in
+    let is = c.parsed-parsed.ensures.ahead in
+    let told = c.count_unused.ensures.told in let unused : List ℕ = told.0 in let all = told.2 in
+    let last = ap total told.1 ∙ sum_by-append (λ (n : ℕ). n) c.execute_parsed.new.self.ahead unused in
+    let none = ap read_of c.count_unused.ensures.used_up in
+    omega arith
+
+pub returns-in-Err-clause-cut : goal.returns-in-Err-clause-cut
+returns-in-Err-clause-cut g c =
+    let u = c.count_unused.ensures in
+    told_unused c.args.index.now c.execute_parsed.new.self c.count_unused.new.index c.args.line.now _ _ u.told.0 c.in-Err.ensures.cut u.kept.0 u.kept.1 u.told.1
