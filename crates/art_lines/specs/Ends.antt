@@ -27,6 +27,10 @@ reads_to_come s = s.reads_left
 abbrev pub calls_to_read : {R : Type 0} → FromReader R → ℕ
 calls_to_read s = length s.reader.calls.items
 
+-- how often the reader failed
+abbrev pub failed_reads : {R : Type 0} → FromReader R → ℕ
+failed_reads s = length s.reader.failures.items
+
 -- the writer, the bytes that it took, and whether a write failed
 abbrev pub writer_of : {W : Type 0} → ToWriter W → W
 writer_of s = s.writer.inner

@@ -1,6 +1,6 @@
 //! A reader or a writer of which each call is counted, for proofs alone. No other way to it is in the hands of what
 //! holds it: so a call that is made again can't be hidden.
-ghost use Rattle.std.specs.Prelude.{◌≡◌, [], ◌∷◌, ◌++◌};
+ghost use Rattle.std.specs.Prelude.{◌≡◌, [], ◌∷◌, ◌++◌, MatchResult};
 ghost use Rattle.std.specs.Io.{ReadsAtMost, WritesAtMost};
 ghost use Rattle.std.specs.Io.KnownBytes.{Keeps, ReadConsumes, WriteAppends};
 
@@ -9,10 +9,12 @@ use std::io;
 use std::io::{Read, Write};
 
 /// One that was called so often: a reader to read, a writer to write and to flush, and to write since it was flushed.
+/// Of the reads those that failed are counted, too.
 #[derive(Drop)]
 pub(crate) struct Counted<T> {
     inner: T,
     calls: History,
+    failures: History,
     flushes: History,
     unflushed: History,
 }
@@ -22,10 +24,12 @@ impl<T> Counted<T> {
     pub(crate) fn new(inner: T) -> Self
         ensures inner { result.inner ≡ inner }
         ensures none { (result.calls.items ≡ []) × (result.flushes.items ≡ []) × (result.unflushed.items ≡ []) }
+        ensures no_failure { result.failures.items ≡ [] }
     {
         Counted {
             inner,
             calls: History::new(),
+            failures: History::new(),
             flushes: History::new(),
             unflushed: History::new(),
         }
@@ -38,9 +42,17 @@ impl<R: Read> Counted<R> {
         ensures bound { ReadsAtMost result buf.new }
         ensures bytes { ReadConsumes (R.remaining self.old.inner) (R.remaining self.new.inner) result buf.new }
         ensures counts { self.new.calls.items ≡ self.old.calls.items ++ 1 ∷ [] }
+        ensures failures { MatchResult result (λ _. self.new.failures.items ≡ self.old.failures.items)
+            (λ _. self.new.failures.items ≡ self.old.failures.items ++ 1 ∷ []) }
     {
         self.calls = self.calls.then_count(&Count { number: 1 });
-        self.inner.read(buf)
+        match self.inner.read(buf) {
+            Ok(n) => Ok(n),
+            Err(error) => {
+                self.failures = self.failures.then_count(&Count { number: 1 });
+                Err(error)
+            }
+        }
     }
 }
 

@@ -3,7 +3,7 @@ ghost use Rattle.std.specs.Prelude.{◌≡◌, ℕ, suc, ◌^◌, ◌-◌, ◌+�
 ghost use Rattle.std.specs.Prelude.{IfOk, IsTrue, IsErr, OnErr, Ok, false};
 ghost use Rattle.std.specs.Io.KnownBytes.{Consumes, Keeps, IsAtEnd};
 ghost use Rattle.art_lines.specs.Ends.{reader_of, bytes_given, has_run_out, has_read_failed, reads_to_come};
-ghost use Rattle.art_lines.specs.Ends.{calls_to_read};
+ghost use Rattle.art_lines.specs.Ends.{calls_to_read, failed_reads};
 
 use crate::counted::Counted;
 use crate::stream::{ReadFailed, Source};
@@ -35,7 +35,7 @@ impl<R: Read> FromReader<R> {
         ensures ended { ⟦<FromReader<R> as Source>⟧.has_ended result ≡ false }
         ensures reads { ⟦<FromReader<R> as Source>⟧.reads_left result ≡ 2 ^ 64 - 1 }
         ensures over { reader_of result ≡ reader }
-        ensures calls { calls_to_read result ≡ 0 }
+        ensures calls { (calls_to_read result ≡ 0) × (failed_reads result ≡ 0) }
     {
         FromReader {
             reader: Counted::new(reader),
@@ -93,6 +93,11 @@ impl<R: Read> Source for FromReader<R> {
         // Where it fails first, though more reads may follow, the reader was called.
         ensures asked { OnErr result (has_read_failed self.old ≡ false → 0 < reads_to_come self.old
             → calls_to_read self.new ≡ suc (calls_to_read self.old)) }
+
+        // So has the reader then, and never where it gives bytes or none: a read of no byte is no failure.
+        ensures fails { OnErr result (has_read_failed self.old ≡ false → 0 < reads_to_come self.old
+            → failed_reads self.new ≡ suc (failed_reads self.old)) }
+        ensures fails_not { IfOk result (λ _. failed_reads self.new ≡ failed_reads self.old) }
     {
         if self.failed || self.reads_left == 0 {
             self.failed = true;
