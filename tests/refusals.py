@@ -13,9 +13,10 @@ proofs. Under tests/refuse.c, which says what a window is, it runs
   must be as if it stood once. Only lines that may be refused by the definition may ask for memory.
 - each script of tests/maps, and the first lines of six that are made at random, line by line likewise, by play_map;
   and of all scripts that are made at random the lines whose calls are rare, while the maps are small. After each
-  refused line both maps are looked at by the checker, and gone along from both ends. A call that builds may do without
-  what it is refused, and succeed. Tables tell how many requests each call and each line of the program made, how often
-  it was refused, and how often a call did without; they go to out/refusals.md.
+  refused line both maps are looked at by the checker, and gone along from both ends. A call may do without what it is
+  refused, and succeed: one that builds, say, or one whose slab asks for more than it needs. Tables tell how many
+  requests each call and each line of the program made, how often it was refused, and how often a call did without; they
+  go to out/refusals.md.
 """
 import collections
 import itertools
@@ -42,8 +43,8 @@ SEVERAL = {"retain", "extract_if", "extraction", "extend", "from_vec", "from_ite
 # succeed. One of them has to: it puts in no more pairs than there is room for.
 BUILDING = {"extend", "extend_from_refs", "from_vec", "from_iter", "and", "or", "xor", "minus"}
 WITH_ROOM = "extend with room"
-# Calls that do without what they are refused: those, one that gives memory back, one that does so at its end, and one
-# that inserts where there is no memory to merge.
+# Calls that must be seen to do without what they are refused: those, one that gives memory back, one that does so at its
+# end, and one that inserts where there is no memory to merge.
 SPARING = BUILDING | {"shrink", "compact", "append"}
 # Calls that are given a key, and calls that take out one pair.
 REMOVALS = {"remove", "remove_entry", "pop_first", "pop_last", "take", "entry_remove", "entry_remove_entry"}
@@ -260,7 +261,7 @@ def one_call(kind, lines, at, model, before):
     title = WITH_ROOM if has_room else call, "set" if kind == "set" else "map"
     twice = "".join(f"{it}\n" for it in [f"map 4 {kind}", *lines[: at + 1], *behind]).encode()
     free, refused = played(model.again(), behind), 0
-    whole = played(model.again(), [lines[at], *behind]) if call in SPARING else None
+    whole = played(model.again(), [lines[at], *behind])
     for label, out, *_ in each_refusal([player(maps.PLAYER)], line=at + 2, given=twice):
         assert out.startswith(before), f"{label}: it answers {out[-300:]}"
         rest = out[len(before) :]
