@@ -33,7 +33,7 @@ pub fn is_get(line: &[u8]) -> bool
     matches!(parse_line(line), Some(Command::Get { .. }))
 }
 
-/// Answers what stands at a tenant's number, through a reader of each map, which reads on in the same map.
+/// Writes what stands under a tenant's number, by a reader of each map. Each reader goes on in the map that it had.
 pub fn look_at_number<W: Sink, const PREFIX_LEN: usize>(
     bytes: &mut MapReader<'_, Vec<u8>, Vec<u8>, PREFIX_LEN>,
     numbers: &mut MapReader<'_, [u8; NUMBER_KEY], Vec<u8>, PREFIX_LEN>,
