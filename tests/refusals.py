@@ -255,7 +255,7 @@ def one_call(kind, lines, at, model, before):
     be as if the line stood once. Of a line that takes out or puts in several pairs, those before the refused one are
     gone, or stand there, and of a line that hands over a bag nothing is left in it. Where a line does without what it
     is refused, all must be as if it stood twice, and nothing was refused. If it was to build all, it has to: what it
-    inserts instead finds memory, unless all later requests are refused."""
+    inserts instead finds memory, unless all later requests are refused, or it asks for less and is refused with it."""
     call, behind = lines[at].split(" ")[0], look(kind, model) + lines[at:]
     has_room = call == "extend" and 0 < len(model.bag) <= model.room
     title = WITH_ROOM if has_room else call, "set" if kind == "set" else "map"
@@ -272,13 +272,20 @@ def one_call(kind, lines, at, model, before):
         if call in SEVERAL:
             answer = b"memory"
             assert any(is_cut(model, refuse, lines[at], behind, rest) for refuse in range(1, 999)), f"{label}: {rest}"
-            assert "+ " in label or not builds_all(call, model, kind), f"{label}: it doesn't insert what it can't build"
+            need_not = "+ " in label or not builds_all(call, model, kind)
+            inserts = need_not or "l" in label and run_alone(label, at, twice) == before + whole
+            assert inserts, f"{label}: it doesn't insert what it can't build"
         else:
             assert left == free, f"{label}: behind {answer} {left[:300]}, and not {free[:300]}"
         assert re.match(rb"memory\b|no key", answer), f"{label}: it answers {answer}"
         assert answer == b"no key" or not takes_none(lines[at], model, kind), f"{label}: it asks for memory"
         refused += answer.startswith(b"memory")
     add(told[title], refused)
+
+
+def run_alone(label, at, twice):
+    """What is written where the refused request of a run is refused alone, and what asks for less is granted."""
+    return run([player(maps.PLAYER)], f"{label.split()[0].partition('=')[2]}-", line=at + 2, given=twice)[1]
 
 
 def is_cut(model, refuse, line, behind, rest):
