@@ -1,4 +1,8 @@
 pub mod Lookups
+pub mod MarkedKeys
+pub mod MarkedLeaves
+pub mod MarkedWays
+pub mod MarkedSearch
 pub mod Meetings
 pub mod Nearest
 pub mod Segments

@@ -10,6 +10,7 @@ pub use Rattle.art_operations.specs.KeyedLists.{HasKey, IsBlocked, overlapping, 
 pub use Rattle.art_operations.specs.LeafCursors.{HasInserted, HasMoved, HasPutIn, HasRemoved, KeepsCells, KeepsInnerRoom, StandsAhead, StandsAtPlace, StandsBelow, StandsBetween, StandsInList}
 pub use Rattle.art_operations.specs.LeafNames.{HasKeyAt, HasLeavesOf, KeepsLeavesOf}
 pub use Rattle.art_operations.specs.Lookups.{landed_leaf, takes_key}
+pub use Rattle.art_operations.specs.Marked.{FindsMarked, longest_marked, marked_key, option_or}
 pub use Rattle.art_operations.specs.Meetings.{PartAt}
 pub use Rattle.art_operations.specs.NodeCounts.{node_count, nodes_counted}
 pub use Rattle.art_operations.specs.Openings.{ForLongest, OpeningReads, PlaceReads, ReadsAtLeast, ReadsExactly, SpanReads, beside_reads, bound_reads, end_reads, ends_reads, first_above, near_reads, part_reads, place_reads, range_reads}
@@ -41,6 +42,7 @@ pub use Rattle.art_operations.specs.inner.Cursors.{HasMovedOne, HasPassed, HasRe
 pub use Rattle.art_operations.specs.inner.Detached.{IsApart, IsChildPart, IsDetached, IsHeldAt, StandsFor}
 pub use Rattle.art_operations.specs.inner.Edits.{AllocatesBoth, IsLastOf, StandsAround, lone_leaf}
 pub use Rattle.art_operations.specs.inner.Freeing.{AreFirst, FreesRoot, HoldsBoth, HoldsOneLess, HoldsPart, IsBottom, IsChildIn, IsChildless, step_in}
+pub use Rattle.art_operations.specs.inner.MarkedEnds.{EndsAmong, EndsAt, IsDeepest, IsMarked, IsMarkedBy, IsMarkedChild, NoneMarked}
 pub use Rattle.art_operations.specs.inner.Meetings.{Meets}
 pub use Rattle.art_operations.specs.inner.Nearest.{Compare, IsNearest, bound_at, takes}
 pub use Rattle.art_operations.specs.inner.Rebuilding.{CanPass, CanPassAt, HasNodeRoom, HasPlaces, HasSpineRoom, IsFresh, RebuildsUpTo}

@@ -1,6 +1,7 @@
 pub mod Held
 pub mod Whichever
 pub mod Lookups
+pub mod Marked
 pub mod Openings
 pub mod Meetings
 pub mod Points

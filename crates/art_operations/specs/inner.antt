@@ -15,3 +15,4 @@ pub mod Rebuilding
 pub mod Reopening
 pub mod Closing
 pub mod Cursors
+pub mod MarkedEnds

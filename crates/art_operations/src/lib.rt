@@ -12,6 +12,7 @@ pub mod insert;
 pub mod laws;
 pub mod leaf_list;
 pub mod lookup;
+pub mod marked;
 pub mod meeting;
 pub mod minmax;
 pub mod pairs;
@@ -44,6 +45,7 @@ pub use lookup::{
     PrefixMatchBehavior, prefix_search_unchecked, prefix_search_with, search_leaf_with,
     search_unchecked, search_with,
 };
+pub use marked::marked_search_unchecked;
 pub use minmax::{maximum_unchecked, maximum_with, minimum_unchecked, minimum_with};
 pub use pairs::{
     find_place, find_place_over, insert_at, insert_over, insert_pair, take_end, take_pair,
