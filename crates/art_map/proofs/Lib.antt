@@ -7,6 +7,7 @@ pub mod LentIters
 pub mod Written
 pub mod LookedUp
 pub mod Maps
+pub mod MarkedPairs
 pub mod Places
 pub mod MapLeaves
 pub mod LeafNames

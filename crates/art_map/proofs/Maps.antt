@@ -180,7 +180,7 @@ module _ {K V : Type 0} (bytes : K → List ℕ) (is_key : K → Type 0) (P : �
       seen : pairs_from old (Some root) ≡ pairs_of (leaves s)
       seen = tree-pairs bytes P old root s tree
 
-      found : (result : Option ℕ) → result ≡ leaf_where bytes test (leaves s) → IsFound (key_test bytes test) (contents old (Some root)) result
+      pub found : (result : Option ℕ) → result ≡ leaf_where bytes test (leaves s) → IsFound (key_test bytes test) (contents old (Some root)) result
       found None e = rw seen (none-at bytes test (leaves s) (sym e))
       found (Some slot) e =
           let first = first-at bytes test (leaves s) slot (sym e) in

@@ -4,7 +4,7 @@ pub use Rattle.art_map.specs.Audit.{audit_of}
 pub use Rattle.art_map.specs.Builders.{GathersWith, HasGathered, HasGatheredInOrder, HasRoomLeft, KeepsRoomLeft, nodes_of}
 pub use Rattle.art_map.specs.Bulk.{ExtendsWith, HandsNextBack, IsFirstOfList, IsMadeOf}
 pub use Rattle.art_map.specs.Changes.{IsTryRefused}
-pub use Rattle.art_map.specs.Contents.{Contents, HasLeafAt, IsMap, IsUntouched, contents, entry_in, first_item, has_bytes, last_item, option_value, pairs_below, pairs_from, pairs_in, pairs_under}
+pub use Rattle.art_map.specs.Contents.{Contents, HasLeafAt, IsMap, IsUntouched, contents, entry_in, first_item, found_pair, has_bytes, last_item, marked_pair, option_value, pairs_below, pairs_from, pairs_in, pairs_under}
 pub use Rattle.art_map.specs.Entries.{IsEntryOf, IsSame, IsWritten, Vacant, entry_key, entry_pairs, entry_value, option_key, pairs_without, unwrapped, with_entry_value}
 pub use Rattle.art_map.specs.Extractions.{left_of, map_of}
 pub use Rattle.art_map.specs.Found.{HasPairAt, HasPairUnder, IsAt, IsFound, has_leaf, is_held, leaf_pair, pair_under, still_held, stored_slot}

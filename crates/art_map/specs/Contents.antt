@@ -1,5 +1,6 @@
 -- What a contract sees of a map: its pairs in order, and the nodes that hold them.
-use Rattle.std.specs.Prelude.{◌≡◌, ℕ, zero, suc, Bool, bytes_eq, List, [], ◌∷◌, ◌++◌, Option, Some, None, IsSome}
+use Rattle.std.specs.Prelude.{◌≡◌, ℕ, zero, suc, Bool, bytes_eq, List, [], ◌∷◌, ◌++◌, length}
+use Rattle.std.specs.Prelude.{Option, Some, None, IsSome}
 use Rattle.std.specs.List.{AllByRecursion}
 use Rattle.std.specs.Map.{lookup, lookup_entry}
 use Rattle.art_nodes.specs.Name.{Name}
@@ -7,6 +8,7 @@ use Rattle.art_nodes.specs.declared.leaf.LeafNode.{LeafNode}
 use Rattle.art_arena.specs.arena.Arena.{Arena, KeepsRoomOf, SameNodes, node_at, held_at, slots_of}
 use Rattle.art_arena.specs.arena.Cells.{Cell, pair, branches, leaf_name}
 use Rattle.art_arena.specs.tree.Tenants.{begins_with}
+use Rattle.art_operations.specs.Marked.{longest_marked}
 use Rattle.art_operations.specs.Pairs.{HasPairs}
 
 -- the pairs, ascending by the bytes of their keys; the nodes that hold them, and the name of the root
@@ -29,6 +31,11 @@ found_pair bytes query pairs = lookup_entry (has_bytes bytes query) pairs
 
 abbrev pub found_value : {K V : Type 0} → (K → List ℕ) → List ℕ → List (K × V) → Option V
 found_value bytes query pairs = lookup (has_bytes bytes query) pairs
+
+-- the pair whose key is the longest that is some bytes of the query, from its first, and the mark, if there is one:
+-- that of the whole query and the mark, or else of one byte less, and so on
+abbrev pub marked_pair : {K V : Type 0} → (K → List ℕ) → List ℕ → ℕ → List (K × V) → Option (K × V)
+marked_pair bytes query mark pairs = longest_marked (λ key. found_pair bytes key pairs) query mark (length query)
 
 -- the value of a pair, if there is one
 abbrev pub option_value : {K V : Type 0} → Option (K × V) → Option V

@@ -15,6 +15,12 @@ pub fn block_of<'a>(
     blocks.prefix_get(address)
 }
 
+/// A table of routes, each with a zero byte after it, so that one may begin another: what the longest route leads to
+/// that begins a path.
+pub fn route_of<'a>(routes: &'a TreeMap<SliceKey<'_>, u32, 16>, path: &str) -> Option<&'a u32> {
+    routes.marked_get(&StrKey(path), 0)
+}
+
 /// Gives a block to an owner, and takes from others what it overlaps: how many blocks that were.
 pub fn reassign<'a>(
     blocks: &mut TreeMap<SliceKey<'a>, u32, 16>,

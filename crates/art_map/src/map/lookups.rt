@@ -1,4 +1,5 @@
-//! Look-ups: of a key, of the key that is a prefix of a query, and of the first and the last pair.
+//! Look-ups: of a key, of the key that is a prefix of a query, with a mark or without, and of the first and the last
+//! pair.
 ghost use Rattle.std.specs.Prelude.{◌≡◌, Some, IfSome, IsSome, is_some, option_copied, option_map};
 ghost use Rattle.std.specs.Borrow.{sem};
 ghost use Rattle.std.specs.Option.{option_copied_mut};
@@ -11,13 +12,14 @@ use crate::map::entry::OccupiedEntry;
 use art_arena::LeafPtr;
 use art_bytes::AsBytes;
 use art_operations::{
-    maximum_unchecked, minimum_unchecked, prefix_search_unchecked, search_unchecked,
+    marked_search_unchecked, maximum_unchecked, minimum_unchecked, prefix_search_unchecked,
+    search_unchecked,
 };
 use std::ops::Index;
 
 impl<K: AsBytes, V, const PREFIX_LEN: usize> TreeMap<K, V, PREFIX_LEN> {
     ghost use Rattle.art_map.specs.Contents.{first_item, found_pair, found_value, has_bytes, HasLeafAt};
-    ghost use Rattle.art_map.specs.Contents.{is_front, last_item};
+    ghost use Rattle.art_map.specs.Contents.{is_front, last_item, marked_pair, option_value};
     ghost use Rattle.art_map.specs.Entries.{rests_if_none, IsPairOf};
     ghost use Rattle.art_map.specs.Found.{IsAt, IsFound, HasPairAt};
     ghost use Rattle.art_map.specs.Lends.{lends_get, lends_value_at, with_value_at};
@@ -36,6 +38,16 @@ impl<K: AsBytes, V, const PREFIX_LEN: usize> TreeMap<K, V, PREFIX_LEN> {
     {
         let root = self.root?;
         prefix_search_unchecked(&self.arena, root, key)
+    }
+
+    // The leaf of the pair whose key is the longest that is some of these bytes, from the first, and the mark.
+    fn marked_find(&self, query: &[u8], mark: u8) -> Option<LeafPtr>
+        ensures { IsAt (marked_pair K.bytes query.now mark self.now.pairs) self.now result }
+    {
+        match self.root {
+            Some(root) => marked_search_unchecked(&self.arena, root, query, mark),
+            None => None,
+        }
     }
 
     // The leaf of the first pair.
@@ -186,6 +198,46 @@ impl<K: AsBytes, V, const PREFIX_LEN: usize> TreeMap<K, V, PREFIX_LEN> {
         ensures { option_map deref_pair result ≡ lookup_entry (is_front K.bytes (Q.bytes key.now)) self.now.pairs }
     {
         let leaf = self.prefix_find(key.as_bytes())?;
+        Some(self.pair_at(leaf))
+    }
+
+    /// Returns the value of the pair whose key is the longest that is a prefix of the query's bytes, or all of them,
+    /// and the mark after it, if there is one.
+    ///
+    /// ```
+    /// let mut routes = TreeMap::new(rt.alloc());
+    /// routes.try_insert(SliceKey(b"/\0"), 1)?;
+    /// routes.try_insert(SliceKey(b"/api\0"), 2)?;
+    /// assert_eq!(rt; routes.marked_get(b"/api/v1", 0), Some(&2));
+    /// assert_eq!(rt; routes.marked_get(b"/about", 0), Some(&1));
+    /// assert_eq!(rt; routes.marked_get(b"api", 0), None);
+    /// ```
+    pub fn marked_get<Q: AsBytes>(&self, query: &Q, mark: u8) -> Option<&V>
+        ensures { option_copied result ≡ option_value (marked_pair K.bytes (Q.bytes query.now) mark self.now.pairs) }
+    {
+        match self.marked_get_key_value(query, mark) {
+            Some((_key, value)) => Some(value),
+            None => None,
+        }
+    }
+
+    /// Returns the pair whose key is the longest that is a prefix of the query's bytes, or all of them, and the mark
+    /// after it, if there is one. So it finds the longest text that begins the query where each key is a text and an
+    /// end mark, which lets texts be stored that begin each other. The query has no mark.
+    ///
+    /// The query is gone down once, or twice where prefixes aren't wholly stored: its time grows with the query's
+    /// length, however many keys begin it.
+    ///
+    /// ```
+    /// let mut map = TreeMap::new(rt.alloc());
+    /// map.try_insert(SliceKey(b"a\0"), 1)?;
+    /// map.try_insert(SliceKey(b"ab\0"), 2)?;
+    /// assert_eq!(rt; map.marked_get_key_value(b"abc", 0), Some((&SliceKey(b"ab\0"), &2)));
+    /// ```
+    pub fn marked_get_key_value<Q: AsBytes>(&self, query: &Q, mark: u8) -> Option<(&K, &V)>
+        ensures { option_map deref_pair result ≡ marked_pair K.bytes (Q.bytes query.now) mark self.now.pairs }
+    {
+        let leaf = self.marked_find(query.as_bytes(), mark)?;
         Some(self.pair_at(leaf))
     }
 
