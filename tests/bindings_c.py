@@ -128,10 +128,10 @@ def compiled(source, to, of, *flags, language="c"):
     return ran.returncode == 0
 
 
-def passes(name, source, of, room, *flags, language="c"):
+def passes(name, source, of, room, *flags, language="c", **env):
     """A program of tests/ ends with status 0."""
     if compiled(f"{TOP}/tests/{source}.c", f"{room}/{source}", of, *flags, language=language):
-        ran = run([f"{room}/{source}"])
+        ran = run([f"{room}/{source}"], env={**os.environ, **env})
         told(name, ran.returncode == 0, f"status {ran.returncode}: {ran.stderr[:2000]}")
 
 
@@ -216,6 +216,8 @@ def main():
         passes("NULL with a length of 0", "bindings_null", of, room, "-fsanitize=address,undefined")
         passes("the header in C++", "bindings_names", of, room, language="c++")
         passes("eight threads on a frozen map", "bindings_threads", of, room, "-fsanitize=thread", "-pthread")
+        passes("the last of two readers frees a map", "bindings_last", of, room, "-fsanitize=thread", "-pthread",
+               TSAN_OPTIONS=f"suppressions={TOP}/bindings/c/tsan.supp")
         names(of, room, "--quick" in given)
         refused(of, room)
     lib = model.loaded(f"{of}/libartmap.so")

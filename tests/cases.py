@@ -33,7 +33,8 @@ FAILURES = (AssertionError, OSError, ValueError, LookupError, StopIteration, sub
 # How much is printed of why a case failed.
 SHOWN = 4000
 # What the library for C is made of, beside the crates (tools/library.py).
-LIBRARY_OF = ("bindings/c/artmap.h", "bindings/c/artmap.c", "tools/library.py", "tools/quick.py")
+LIBRARY_OF = ("bindings/c/artmap.h", "bindings/c/artmap.c", "tools/library.py", "tools/quick.py",
+              "tools/module.py")
 
 
 class Given:

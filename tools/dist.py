@@ -2,7 +2,8 @@
 """What others install, in out/dist: an archive for C, a crate for Rust, a wheel for Python, and their sums.
 
     tools/dist.py               proves the library and the program first, where that is not done: about an hour from nothing
-    tools/dist.py --unproved    builds without proofs where nothing is proved here, and says so in each of them
+    tools/dist.py --unproved    builds without proofs where nothing is proved here, in some four minutes from nothing, and
+                                says so in each of them
 `./dist` calls it so. It makes artmap-VERSION-x86_64-linux.tar.gz, artmap-VERSION.crate, artmap-VERSION-..whl and
 SHA256SUMS, and prints them. The same text, commit and toolchain give the same bytes. docs/INSTALL.md tells how each is
 used. Status 1, with the reason on standard error: they can't be made here.
@@ -107,6 +108,8 @@ def wheel(staged, proved):
 def main():
     if sys.argv[1:] not in ([], ["--unproved"]):
         sys.exit(__doc__)
+    how, long = ("without proofs", "some four minutes") if sys.argv[1:] else ("proved", "about an hour")
+    print(f"dist: making them, {how}; from nothing that takes {long}", file=sys.stderr, flush=True)
     try:
         if not sys.argv[1:]:
             install.prove()

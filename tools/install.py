@@ -138,6 +138,7 @@ def stage(root):
         copy(f"{TOP}/{it}", f"{root}/{DOCS}/{it}")
     for it in EXAMPLES:
         copy(f"{TOP}/bindings/c/{it}", f"{root}/{DOCS}/examples/{it}")
+    copy(f"{TOP}/bindings/c/tsan.supp", f"{root}/share/artmap/tsan.supp")
     write(f"{root}/{DOCS}/PROVED", about(is_proved))
     return is_proved
 
