@@ -3,8 +3,8 @@
 
     tests/bindings_python.py [--of FOLDER] [WORD]   FOLDER: where libartmap.a and artmap.h stand; else it is out
 Played are its examples, scripts at random beside a model, those of tests/maps, CPython's own tests of dicts and sets
-(bindings_python_cpython.py), what may touch a map at any moment (bindings_python_hold.py), code that runs in the midst
-of each call (..._hostile.py), also under the address sanitizer and in other versions of Python that are here, and
+(bindings_python_cpython.py), what may touch a map at any moment (..._hold.py, ..._threads.py), code that runs in the
+midst of each call (..._hostile.py), also under the address sanitizer and in other versions of Python that are here, and
 memory (..._memory.py). Wrong models must be told. With a word, only the parts that have it in their names. It prints a
 line for each case, and the last is 'N passed, M failed'. It takes two minutes of processor time.
 """
@@ -41,7 +41,7 @@ def end_without_headers():
 
 
 def installed(of, room):
-    """Installs the package into a folder by pip, or by its backend alone where there is no pip, and imports it there."""
+    """Installs the package into a folder by pip, or by its backend alone if there is no pip, and imports it there."""
     os.environ["ARTMAP_LIBRARY"] = of
     has_pip = subprocess.run([sys.executable, "-m", "pip", "--version"], capture_output=True,
                              check=False).returncode == 0
@@ -251,7 +251,8 @@ def scripts():
             told(f"script {seed} of {kind.__name__}", not why, why)
     for name, wrong in vars(Wrong).items():
         if isinstance(wrong, type):
-            is_told = any(one_script(seed, kind, wrong(kind)) for seed in range(SCRIPTS) for kind in (bytes, Ended, str))
+            kinds = (bytes, Ended, str)
+            is_told = any(one_script(seed, kind, wrong(kind)) for seed in range(SCRIPTS) for kind in kinds)
             told(f"a model that is wrong, {name}, is told", is_told, "no script tells it")
 
 
@@ -307,20 +308,21 @@ def elsewhere(room, script, *words, where="", python=sys.executable, **env):
 
 def sanitized(room):
     """The hostile code, where the module is built with the address sanitizer."""
-    found = subprocess.run(["cc", "-print-file-name=libasan.so"], capture_output=True, text=True, check=False).stdout.strip()
+    found = subprocess.run(["cc", "-print-file-name=libasan.so"], capture_output=True, text=True, check=False)
+    found = found.stdout.strip()
     if not os.path.isabs(found):
         print("cc has no libasan.so, so there is no run under the address sanitizer: skipped")
         return
     to, flags = f"{room}/sanitized", "-g -fsanitize=address"
-    built = subprocess.run([sys.executable, "-B", f"{PYTHON}/backend.py", to], capture_output=True, text=True, check=False,
-                           env={**os.environ, "CFLAGS": flags, "LDFLAGS": flags})
+    built = subprocess.run([sys.executable, "-B", f"{PYTHON}/backend.py", to], capture_output=True, text=True,
+                           check=False, env={**os.environ, "CFLAGS": flags, "LDFLAGS": flags})
     if told("the package is built with the address sanitizer", built.returncode == 0, built.stderr):
         elsewhere(to, "bindings_python_hostile.py", where=", under the address sanitizer", LD_PRELOAD=found,
                   PYTHONMALLOC="malloc", ASAN_OPTIONS="detect_leaks=0")
 
 
 def other_versions(room):
-    """The hostile code and interpreters of their own, in other versions of Python: on the PATH, or as pyenv has them."""
+    """The hostile code, and interpreters of their own, in other versions of Python: on the PATH, or pyenv's."""
     folders = [*os.get_exec_path(), *sorted(glob.glob(os.path.expanduser("~/.pyenv/versions/*/bin")))]
     for minor in range(9, 20) if not sysconfig.get_config_var("Py_GIL_DISABLED") else ():
         is_that = f"import sys; sys.exit(sys.version_info[1] != {minor} or 'free-threading' in sys.version)"
@@ -340,12 +342,15 @@ def main():
         installed(cases.library(given), room)
         from bindings_python_cases import cases as of_calls
         from bindings_python_maps import of_maps
+        from bindings_python_order import in_order
 
         parts = {
             "examples": lambda: examples(room), "wheel": lambda: wheel(room), "stubs": lambda: stubs(room),
-            "cases": lambda: of_calls(told), "scripts": scripts, "maps": lambda: of_maps(told), "refused": lambda: refused(room),
+            "cases": lambda: of_calls(told), "order": lambda: in_order(told), "scripts": scripts,
+            "maps": lambda: of_maps(told), "refused": lambda: refused(room),
             "cpython": lambda: elsewhere(room, "bindings_python_cpython.py"),
             "hold": lambda: elsewhere(room, "bindings_python_hold.py", PYTHONMALLOC="debug"),
+            "threads": lambda: elsewhere(room, "bindings_python_threads.py", PYTHONMALLOC="debug"),
             "hostile": lambda: elsewhere(room, "bindings_python_hostile.py", PYTHONMALLOC="debug"),
             "sanitized": lambda: sanitized(room), "other versions": lambda: other_versions(room),
             "memory": lambda: elsewhere(room, "bindings_python_memory.py"),

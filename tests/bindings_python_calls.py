@@ -70,9 +70,8 @@ CALLS = {
 }
 # (These ask malloc for memory in any case, so that the runs refuse something.)
 TAKE_MEMORY = {"Art(pairs)", "Art of a map", "put a new pair", "put a long key", "put a buffer", "setdefault", "last",
-               "items",
-               "irange to a long key", "load one", "compact", "copy", "merge", "texts", "bytes that begin others", "numbers", "a set",
-               "popitem"}  # fmt: skip
+               "items", "irange to a long key", "load one", "compact", "copy", "merge", "texts",
+               "bytes that begin others", "numbers", "a set", "popitem"}  # fmt: skip
 
 
 def outcome(call, *words):

@@ -140,7 +140,8 @@ CANNOT = {
     "it has texts and numbers as keys of one map or set": """
         OfSets.constructor_identity OfSets.remove_keyerror_set OfSets.union
         DictTest.copy_fuzz DictTest.fromkeys DictTest.object_set_item_single_instance_non_str_key DictSetTest.copy
-        DictSetTest.dict_items DictSetTest.dict_keys DictSetTest.dict_repr DictSetTest.dict_values DictSetTest.pickle""",
+        DictSetTest.dict_items DictSetTest.dict_keys DictSetTest.dict_repr DictSetTest.dict_values
+        DictSetTest.pickle""",
     "it asks for the order of insertion": "DictTest.dict_copy_order DictTest.splittable_update",
     "it asks for RuntimeError where a map changes during a walk, which goes on here": """
         DictTest.mutating_iteration DictTest.mutating_iteration_delete

@@ -136,7 +136,8 @@ def sanitized(env):
         return
     env = {**env, "CARGO_TARGET_DIR": f"{env['CARGO_TARGET_DIR']}/asan", "ARTMAP_CALLS": str(SANITIZED_CALLS),
            "RUSTFLAGS": "-Zsanitizer=address", "ASAN_OPTIONS": "detect_leaks=1"}
-    words = ["cargo", f"+{nightly}", "test", "--offline", "--locked", "--target", "x86_64-unknown-linux-gnu", *SANITIZED]
+    target = "x86_64-unknown-linux-gnu"
+    words = ["cargo", f"+{nightly}", "test", "--offline", "--locked", "--target", target, *SANITIZED]
     ran = run(words, env)
     found = re.findall(r"(?m)^test (.+?) \.\.\. (\w+)", ran.stdout)
     told(f"under the address sanitizer, {len(found)} tests", ran.returncode == 0 and len(found) > 40,
@@ -183,7 +184,7 @@ def refused(env, made, room):
 
 
 def alone(env, room):
-    """With no registry in sight, a crate that depends on this one is built; here the feature serde tells why it isn't."""
+    """With no registry in sight, a crate that depends on this one is built; here serde tells why it isn't."""
     env = {**env, "CARGO_HOME": f"{room}/home"}
     ran = run(["cargo", "build", "--offline", "--locked", "--features", "serde"], env)
     is_told = ran.returncode and "is for crates that depend on artmap" in ran.stderr
@@ -219,8 +220,9 @@ def with_serde(env, room):
     ran = run(["cargo", "run", "-q", *source, user], env)
     is_right = (ran.returncode, ran.stdout) == (0, read(f"{CRATE}/with_serde/main.out"))
     told("with_serde: its program", is_right, ran.stdout + ran.stderr)
-    for name, words in (("the crate's clippy", ["clippy", *source, mine, "--features", "serde", "--", "-D", "warnings"]),
-                        ("the crate's pages", ["doc", *source, mine, "--features", "serde", "--no-deps"]),
+    has_serde = ["--features", "serde"]
+    for name, words in (("the crate's clippy", ["clippy", *source, mine, *has_serde, "--", "-D", "warnings"]),
+                        ("the crate's pages", ["doc", *source, mine, *has_serde, "--no-deps"]),
                         ("clippy", ["clippy", *source, user, "--all-targets", "--", "-D", "warnings"]),
                         ("cargo fmt", ["fmt", "--check", "--manifest-path", user])):
         ran = run(["cargo", *words], env)

@@ -15,11 +15,11 @@
  *   PyBytes_FromStringAndSize, make objects of the very types bytes, int and str, which refer to no other object: the
  *   PyLong_FromLongLong,       collector doesn't count them, so it doesn't run
  *   PyUnicode_FromWideChar
- *   PyUnicode_DecodeUTF8       too; where bytes are no UTF-8 it asks a handler, and key_object gives it none of these: it
- *                              decodes lone surrogates by itself
+ *   PyUnicode_DecodeUTF8       too; where bytes are no UTF-8 it asks a handler, and key_object gives it none of these:
+ *                              it decodes lone surrogates by itself
  *   PyTuple_SetItem            puts into an empty place of a tuple that nobody else has yet
- *   PyErr_NoMemory             may make an exception, and so run the collector: it is the last call of a part 2 that has
- *                              failed, which uses no word after it; so is it where one of those above returns NULL
+ *   PyErr_NoMemory             may make an exception, and so run the collector: it is the last call of a part 2 that
+ *                              has failed, which uses no word after it; so is it where one of those above returns NULL
  *
  * Where objects are compared, hashed, shown, converted or called it is in parts 1 and 3; so are PyTuple_New and
  * tp_alloc, by which the collector may run. A walk holds copies of keys, and words: it uses them in one part 2 for each
@@ -44,8 +44,8 @@
 #define METH_FASTCALL 0x0080
 #endif
 
-/* References are counted by calls of Python: None, small numbers and the types of its own belong to all interpreters, each
- * with a lock of its own from 3.12 on, and its headers of 3.11 and before would count these without any. */
+/* References are counted by calls of Python: None, small numbers and the types of its own belong to all interpreters,
+ * each with a lock of its own from 3.12 on, and its headers of 3.11 and before would count these without any. */
 #ifndef Py_GIL_DISABLED
 #undef Py_INCREF
 #undef Py_DECREF

@@ -175,7 +175,8 @@ static PyObject *islice(PyObject *self, PyObject *const *args, Py_ssize_t count,
 #define BY_NAMES(call) (PyCFunction)(void (*)(void)) call, METH_FASTCALL | METH_KEYWORDS
 PyMethodDef place_methods[] = {
     {"bisect_left", bisect_left, METH_O,
-     DOC("bisect_left($self, key, /)", "How many keys are below a key, which need not be stored. It walks along them.")},
+     DOC("bisect_left($self, key, /)",
+         "How many keys are below a key, which need not be stored. It walks along them.")},
     {"bisect_right", bisect_right, METH_O,
      DOC("bisect_right($self, key, /)",
          "How many keys are not above a key, which need not be stored. It walks along them.")},

@@ -19,7 +19,7 @@ def _put(map_, keys):
 
 
 def _with_keys(it):
-    """What tells membership: the iterable itself where it does, else a set of it, which refuses what no set can have."""
+    """What tells membership: the iterable itself if it does, else a set of it, which refuses what no set can have."""
     return it if isinstance(it, (Set, Art, dict)) else frozenset(it)
 
 

@@ -243,8 +243,8 @@ PyMethodDef sorted_methods[] = {
     {"find", art_find, METH_O, DOC("find($self, query, /)", "The same as longest_prefix.")},
     {"prefixes", art_prefixes, METH_O,
      DOC("prefixes($self, query, /)",
-         "The pairs whose keys begin a query, or equal it, in a list: the shortest first. (Of keys of bytes that begin\n"
-         "no other one it has at most one.)\n\n"
+         "The pairs whose keys begin a query, or equal it, in a list: the shortest first. (Of keys of bytes that\n"
+         "begin no other one it has at most one.)\n\n"
          ">>> routes = Art({b'/': 'home', b'/api': 'calls', b'/api/v1': 'old'}, key=Ended)\n"
          ">>> routes.prefixes(b'/api/v2')\n"
          "[(b'/', 'home'), (b'/api', 'calls')]\n")},
@@ -293,8 +293,9 @@ PyMethodDef sorted_methods[] = {
          "1002\n")},
     {"compact", art_compact, METH_NOARGS,
      DOC("compact($self, /)",
-         "Puts the nodes of the map in the order of its keys, so that a walk over all is faster, and gives memory back\n"
-         "that it does not need. Meanwhile it needs memory for a second tree; MemoryError leaves all as it was.\n\n"
+         "Puts the nodes of the map in the order of its keys, so that a walk over all is faster, and gives memory\n"
+         "back that it does not need. Meanwhile it needs memory for a second tree; MemoryError leaves all as it\n"
+         "was.\n\n"
          ">>> pets = Art({b'cat': 2, b'ape': 1})\n"
          ">>> pets.compact()\n"
          ">>> pets\n"
