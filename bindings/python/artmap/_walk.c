@@ -51,6 +51,8 @@ PyObject *walk_new(Art *map, Kind kind, const artmap_span *span) {
     it->room_len = FEW_BYTES, it->places = FEW, it->wanted = FEW;
     it->is_all = span->from == ARTMAP_FROM_END && span->to == ARTMAP_TO_END;
     if (it->is_all && store_len(map) > FEW) it->wanted = MANY;
+    /* (of one from a key to the end of the map often the first pair alone is wanted) */
+    if (span->from != ARTMAP_FROM_END && span->to == ARTMAP_TO_END) it->wanted = 1;
     if (span->from != ARTMAP_FROM_END) {
         if (!(it->from = copied(span->from_key, span->from_len))) return Py_DECREF(it), NULL;
         it->span.from_key = it->from, it->from_places = span->from_len + 1;
@@ -106,7 +108,8 @@ static bool grow(Walk *it, size_t places, size_t bytes) {
 static bool fetch(Walk *it) {
     bool is_changed = it->count && it->seen != it->map->changes;
     if (!step_on(it)) return false;
-    it->wanted = is_changed ? 1 : it->told && it->wanted < MANY ? 4 * it->wanted : it->wanted;
+    if (is_changed) it->wanted = 1;
+    else if (it->told) it->wanted = it->wanted < FEW ? FEW : 4 * it->wanted;
     if (it->wanted > MANY) it->wanted = MANY;
     if (it->wanted > it->places) grow(it, it->wanted, it->wanted == MANY ? MANY_BYTES : it->wanted * 32);
     size_t places = it->wanted < it->places ? it->wanted : it->places;

@@ -9,8 +9,9 @@ use crate::view::Reads;
 use std::ops::Bound;
 
 /// How many words are asked for first, how many next, how many times more each time from then on, and how many at most. A
-/// range of which few pairs are wanted waits for each word that it asks for in vain.
-const FIRST: usize = 10;
+/// range of which few pairs are wanted waits for each word that it asks for in vain. So one from a key to the end of the
+/// map, of which often the first pair alone is wanted, asks for one word before.
+const FEW: usize = 10;
 const NEXT: usize = 32;
 const TIMES: usize = 2;
 const MOST: usize = 1024;
@@ -28,6 +29,14 @@ pub(crate) trait Limits {
     const ARE_COUNTED: bool = false;
     fn from(&self, way: Way) -> From<'_>;
     fn to(&self, way: Way) -> To<'_>;
+
+    /// How many words are asked for first.
+    fn first(&self, way: Way) -> usize {
+        match (self.from(way), self.to(way)) {
+            (From::Key(_) | From::After(_), To::End) => 1,
+            _ => FEW,
+        }
+    }
 }
 
 /// All keys. How many are left is counted.
@@ -109,7 +118,7 @@ impl Limits for Under {
 /// Words that were told, of which some have been given.
 #[derive(Clone)]
 struct Batch {
-    few: [u64; FIRST],
+    few: [u64; FEW],
     many: Vec<u64>,
     /// How many there are, and how many were given.
     count: usize,
@@ -119,7 +128,7 @@ struct Batch {
 
 impl Batch {
     const fn new() -> Batch {
-        Batch { few: [0; FIRST], many: Vec::new(), count: 0, given: 0, has_more: true }
+        Batch { few: [0; FEW], many: Vec::new(), count: 0, given: 0, has_more: true }
     }
 
     /// The next word that was told.
@@ -135,8 +144,11 @@ impl Batch {
     }
 
     /// The places for the next words: more than before, if there is memory for them.
-    fn places(&mut self) -> &mut [u64] {
+    fn places(&mut self, first: usize) -> &mut [u64] {
         if self.count == 0 {
+            return &mut self.few[..first];
+        }
+        if self.count < FEW {
             return &mut self.few;
         }
         let had = self.many.len();
@@ -254,16 +266,16 @@ impl<L: Limits> Walk<L> {
         is_sure: bool,
     ) -> Result<(), AllocError> {
         let near = if way == Way::Up { &mut self.front } else { &mut self.back };
-        let (batch, to) = (&mut near.batch, self.limits.to(way));
+        let (batch, to, first) = (&mut near.batch, self.limits.to(way), self.limits.first(way));
         let mut given = 0;
         let (count, has_more) = match near.last {
-            None => words.call(|words| words.walk(way, self.limits.from(way), to, batch.places())),
+            None => words.call(|words| words.walk(way, self.limits.from(way), to, batch.places(first))),
             Some(last) => {
                 let key = key_of(index_of(last));
                 if let Some(front) = key.without_end() {
                     let is_last = |words: &Words| words.get_ended(front) == Some(last);
                     assert!(!is_sure || words.call(is_last), "{CHANGED}");
-                    let places = batch.places();
+                    let places = batch.places(first);
                     let told = words.call(|words| words.walk(way, From::After(front), to, places));
                     // (after the bytes without their end comes that key itself)
                     given = usize::from(told.0 > 0 && places[0] == last);
@@ -273,7 +285,7 @@ impl<L: Limits> Walk<L> {
                     let bytes = key.to_bytes()?;
                     let bytes = bytes.as_ref();
                     assert!(!is_sure || words.call(|words| words.get(bytes) == Some(last)), "{CHANGED}");
-                    words.call(|words| words.walk(way, From::After(bytes), to, batch.places()))
+                    words.call(|words| words.walk(way, From::After(bytes), to, batch.places(first)))
                 }
             }
         };

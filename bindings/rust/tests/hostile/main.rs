@@ -52,16 +52,17 @@ fn apart<'a>(lent: impl IntoIterator<Item = &'a mut Val>, of: &str) {
     }
 }
 
-/// As [`apart`], of a walk from both ends by turns.
-fn from_both_ends<'a, I: DoubleEndedIterator<Item = &'a mut Val>>(mut walk: I, of: &str) {
+/// As [`apart`], of a walk from both ends by turns. Tells whether it came to its end, without a panic.
+fn from_both_ends<'a, I: DoubleEndedIterator<Item = &'a mut Val>>(mut walk: I, of: &str) -> bool {
     let mut lent = Vec::new();
-    silent(|| {
+    let is_ended = silent(|| {
         while let Some(it) = walk.next() {
             lent.push(it);
             lent.extend(walk.next_back());
         }
     });
     apart(lent, of);
+    is_ended
 }
 
 /// Plays a row with each of its steps as the one that is hostile. Tells how many there were.

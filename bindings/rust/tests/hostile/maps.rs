@@ -4,6 +4,7 @@ use crate::{Built, Row, apart, from_both_ends, silent};
 use artmap::{ArtMap, Entry, PrefixEntry};
 use std::hash::{DefaultHasher, Hash};
 use std::ops::Bound;
+use std::panic::resume_unwind;
 
 pub type Map = ArtMap<Evil, Val>;
 
@@ -99,6 +100,13 @@ fn inner(map: &mut Map, w: &W, call: impl FnOnce(artmap::InnerEntry<'_, Evil, Va
     }
 }
 
+/// Has the panic of a walk go on, if it had one.
+fn went(is_ended: bool) {
+    if !is_ended {
+        resume_unwind(Box::new("as the walk"));
+    }
+}
+
 /// Whether a pair goes or stays, by a closure that may panic.
 fn said(w: &W, key: &Evil) -> bool {
     w.step();
@@ -145,7 +153,7 @@ pub const ROWS: &[Row<Map>] = &[
     ("try_prefix_get_mut", |map, w| seen(map.try_prefix_get_mut(&W2(w)))),
     ("try_prefix_get_key_value_mut", |map, w| seen(map.try_prefix_get_key_value_mut(&W2(w)))),
     ("try_range", |map, w| seen(map.try_range(key(3, w)..key(9, w)))),
-    ("try_range_mut", |map, w| { if let Ok(it) = map.try_range_mut(key(3, w)..) { apart(it.map(|it| it.1).take(9), "try_range_mut"); } }),
+    ("try_range_mut", |map, w| { if let Ok(it) = map.try_range_mut(key(3, w)..key(90, w)) { apart(it.map(|it| it.1).take(9), "try_range_mut"); } }),
     ("try_prefix", |map, w| seen(map.try_prefix(&W2(w)))),
     ("try_prefix_mut", |map, w| { if let Ok(it) = map.try_prefix_mut(&W2(w)) { apart(it.map(|it| it.1).take(9), "try_prefix_mut"); } }),
     ("first_key_value", |map, _| seen((map.first_key_value(), map.last_key_value()))),
@@ -158,11 +166,11 @@ pub const ROWS: &[Row<Map>] = &[
     ("range, backward", |map, w| map.range((Bound::Excluded(key(3, w)), Bound::Included(key(24, w)))).rev().for_each(drop)),
     ("prefix", |map, w| map.prefix(&W2(w)).for_each(drop)),
     ("iter_mut", |map, _| apart(map.iter_mut().map(|it| it.1), "iter_mut")),
-    ("iter_mut, held", |map, _| from_both_ends(map.iter_mut().map(|it| it.1), "iter_mut")),
-    ("values_mut", |map, _| from_both_ends(map.values_mut(), "values_mut")),
+    ("iter_mut, held", |map, _| went(from_both_ends(map.iter_mut().map(|it| it.1), "iter_mut"))),
+    ("values_mut", |map, _| went(from_both_ends(map.values_mut(), "values_mut"))),
     ("values_mut, backward", |map, _| apart(map.values_mut().rev(), "values_mut")),
-    ("range_mut", |map, w| from_both_ends(map.range_mut(key(3, w)..).map(|it| it.1), "range_mut")),
-    ("prefix_mut", |map, w| from_both_ends(map.prefix_mut(&W2(w)).map(|it| it.1), "prefix_mut")),
+    ("range_mut", |map, w| went(from_both_ends(map.range_mut(key(3, w)..).map(|it| it.1), "range_mut"))),
+    ("prefix_mut", |map, w| went(from_both_ends(map.prefix_mut(&W2(w)).map(|it| it.1), "prefix_mut"))),
     ("walks, shown", |map, w| seen(format!("{:?} {:?} {:?} {:?}", map.iter(), map.keys(), map.values(), map.range(key(3, w)..)))),
     ("into_iter", |map, _| std::mem::take(map).into_iter().for_each(drop)),
     ("into_iter, half", |map, _| std::mem::take(map).into_iter().take(5).for_each(drop)),
