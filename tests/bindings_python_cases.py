@@ -1,5 +1,6 @@
 """Written cases of the maps of artmap: words of all kinds, errors, texts, nested bytes, numbers, bulk and copies."""
 import copy
+import ipaddress
 import pickle
 import random
 import sys
@@ -169,6 +170,20 @@ def nested(told):
     told("prefixes of texts", named.prefixes("é\0\ud800x") == [*named.items()] and named.prefixes("x") == [("", 0)])
 
 
+def blocks(told):
+    """Blocks of addresses, with a byte for each bit of them."""
+    def bits(block):
+        net = ipaddress.ip_network(block)
+        return bytes(int(net.network_address) >> (31 - at) & 1 for at in range(net.prefixlen))
+
+    names = ["10.0.0.0/8", "10.32.0.0/11", "10.40.0.0/13", "10.40.0.0/16", "0.0.0.0/0"]
+    it = Art({bits(block): block for block in names}, key=Ended)
+    found = [it.longest_prefix(bits(f"{address}/32"))[1] for address in ("10.41.1.1", "10.40.9.9", "10.1.1.1", "9.9.9.9")]
+    told("the block of an address", found == ["10.40.0.0/13", "10.40.0.0/16", "10.0.0.0/8", "0.0.0.0/0"], repr(found))
+    told("and all of its blocks", [block for _, block in it.prefixes(bits("10.41.1.1/32"))] ==
+         ["0.0.0.0/0", "10.0.0.0/8", "10.32.0.0/11", "10.40.0.0/13"])
+
+
 def numbers(told):
     ends = [-(1 << 63), -1, 0, 1, (1 << 63) - 1]
     it = Art(((number, str(number)) for number in reversed(ends)), key=int)
@@ -294,5 +309,5 @@ def copies(told):
 
 
 def cases(told):
-    for part in (words_of_all_kinds, errors, texts, nested, numbers, bulk, copies):
+    for part in (words_of_all_kinds, errors, texts, nested, blocks, numbers, bulk, copies):
         part(told)

@@ -129,6 +129,7 @@ def walks_go_on(told):
         "reversed": lambda: reversed(it), "range": lambda: it.range(20, 250), "irange": lambda: it.irange(None, 99),
         "islice": lambda: it.islice(3, 200), "down": lambda: it.islice(3, 200, reverse=True), "a set": lambda: iter(of),
         "a set's irange": lambda: of.irange(5, 250, reverse=True), "none": lambda: it.irange(5, 4),
+        "from a key": lambda: it.irange(20), "down from a key": lambda: it.irange(None, 250, reverse=True),
     }  # fmt: skip
     for name, make in makes.items():
         for steps in (0, 1, 11, 12, 13, 60, 500):
