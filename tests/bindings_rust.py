@@ -18,7 +18,7 @@ from cases import TOP, read
 
 CRATE = f"{TOP}/bindings/rust"
 EXAMPLES = ("films", "paths", "sizes")
-CALLS = 33  # of examples/refused.rs
+CALLS = 34  # of examples/refused.rs
 TAKE_NO_MEMORY = {1, 5, 9, 18, 21}  # (a stored key's value is set in its place)
 NEVER_FAIL = {19, 20, 31}  # (a walk, a look-up in what is frozen, giving memory back: they go on in what they have)
 SANITIZED = ("--lib", "--test", "differential", "--test", "panics", "--test", "map", "--test", "keys",

@@ -222,6 +222,11 @@ fn call(map: &mut Map, which: usize, given: &mut Given) -> Result<usize, AllocEr
             Ok(given.sparse.values().map(Vec::len).sum())
         }
         32 => made_way(given),
+        33 => {
+            // (no key but that of this text begins it)
+            let text = given.long.last_key_value().map_or("", |it| it.0.as_str());
+            given.long.try_prefix_get(text).map(|it| usize::from(it.is_some()))
+        }
         _ => exit(3),
     }
 }

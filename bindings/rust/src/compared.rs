@@ -63,7 +63,7 @@
 //! | `new`, `clear`, `len`, `is_empty`, `get`, `get_key_value`, `get_mut`, `contains_key` | the same |
 //! | `with_prefix_len` and the parameter `PREFIX_LEN` | absent: the library has one of 16 bytes, which no answer depends on |
 //! | `new_in`, `allocator`, `into_raw`, `from_raw` and their kin | absent: nodes are the proved library's |
-//! | `prefix_get`, `prefix_get_key_value`, `prefix_get_mut` | the same, and with `try_` before the name |
+//! | `prefix_get`, `prefix_get_key_value`, `prefix_get_mut` | the same, and with `try_` before the name; of texts the longest |
 //! | `fuzzy`, `fuzzy_mut` | absent: no proved call has them |
 //! | `first_key_value`, `last_key_value`, `pop_first`, `pop_last` | the same |
 //! | `insert` | the same, but a key that is stored stays, as in std |
@@ -75,14 +75,14 @@
 //! | `prefix_entry`, `PrefixEntry`, `InnerOccupiedEntry` | the same; a leaf is `Occupied`, and `Inner` is beside it; [`try_prefix_entry`](crate::ArtMap::try_prefix_entry) |
 //! | `Clone`, `Debug`, `Default`, `Eq`, `Ord`, `Hash`, `Index`, `Extend`, `FromIterator`, `From` of arrays | the same |
 //! | `Send` and `Sync` | `Send`; for readers a [`FrozenMap`](crate::FrozenMap) |
-//! | - | [`remove_prefix`](crate::ArtMap::remove_prefix), [`iter_bytes`](crate::ArtMap::iter_bytes), [`freeze`](crate::ArtMap::freeze), [`compact`](crate::ArtMap::compact) |
+//! | - | [`prefixes`](crate::ArtMap::prefixes), [`remove_prefix`](crate::ArtMap::remove_prefix), [`iter_bytes`](crate::ArtMap::iter_bytes), [`freeze`](crate::ArtMap::freeze), [`compact`](crate::ArtMap::compact) |
 //!
 //! # blart's `TreeSet`
 //!
 //! | There | Here |
 //! |---|---|
 //! | its look-ups, insertions, removals, walks, merges and operators | as those of `BTreeSet` above |
-//! | - | `prefix`, `prefix_get`, `remove_prefix`, `compact`, these with `try_`, and `freeze` |
+//! | - | `prefix`, `prefix_get`, `prefixes`, `remove_prefix`, `compact`, these with `try_`, and `freeze` |
 //!
 //! # The rest of blart
 //!

@@ -111,6 +111,14 @@ pub trait Key {
     fn without_end(&self) -> Option<&[u8]> {
         None
     }
+
+    /// Whether a zero ends the bytes of each key, and no other of them is one. This crate's own.
+    #[doc(hidden)]
+    #[must_use]
+    #[inline]
+    fn has_end(_: Sealed) -> bool {
+        false
+    }
 }
 
 /// A type of which no key begins another one. Such keys never conflict, so [`insert`](crate::ArtMap::insert) stores each;
@@ -157,13 +165,18 @@ pub trait KeyPrefix<K: ?Sized> {
 
 /// Bytes as they are, which may begin one another.
 macro_rules! bytes_as_they_are {
-    ($([$($of:tt)*] $of_type:ty, $self:ident, $bytes:expr;)*) => {$(
+    ($([$($of:tt)*] $of_type:ty, $self:ident, $bytes:expr, $has_end:expr;)*) => {$(
         impl<$($of)*> Key for $of_type {
             type Bytes<'a> = &'a [u8] where Self: 'a;
 
             #[inline]
             fn to_bytes(&$self) -> Result<&[u8], AllocError> {
                 Ok($bytes)
+            }
+
+            #[inline]
+            fn has_end(_: Sealed) -> bool {
+                $has_end
             }
         }
 
@@ -178,13 +191,13 @@ macro_rules! bytes_as_they_are {
 }
 
 bytes_as_they_are! {
-    [] [u8], self, self;
-    [] Vec<u8>, self, self;
-    [const N: usize] [u8; N], self, self;
-    [] OsStr, self, self.as_encoded_bytes();
-    [] OsString, self, self.as_encoded_bytes();
-    [] CStr, self, self.to_bytes_with_nul();
-    [] CString, self, self.as_bytes_with_nul();
+    [] [u8], self, self, false;
+    [] Vec<u8>, self, self, false;
+    [const N: usize] [u8; N], self, self, false;
+    [] OsStr, self, self.as_encoded_bytes(), false;
+    [] OsString, self, self.as_encoded_bytes(), false;
+    [] CStr, self, self.to_bytes_with_nul(), true;
+    [] CString, self, self.as_bytes_with_nul(), true;
 }
 
 impl<const N: usize> NoPrefixes for [u8; N] {}

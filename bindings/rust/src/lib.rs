@@ -63,9 +63,10 @@ pub use map::{
     AppendError, ArtMap, Entry, ExtractIf, InnerEntry, OccupiedEntry, PrefixEntry, TryExtractIf, VacantEntry,
 };
 pub use owned::{IntoIter, IntoKeys, IntoValues};
+pub use prefixes::Prefixes;
 pub use room::Room as KeyBytes;
 pub use set::{ArtSet, Difference, FrozenSet, Intersection, SymmetricDifference, Union};
-pub use set::{SetExtractIf, SetIntoIter, SetIter, SetPrefix, SetRange, SetTryExtractIf};
+pub use set::{SetExtractIf, SetIntoIter, SetIter, SetPrefix, SetPrefixes, SetRange, SetTryExtractIf};
 
 mod error;
 #[allow(unsafe_code, reason = "all of it stands here")]
@@ -78,6 +79,7 @@ mod map;
 mod owned;
 mod parted;
 mod pool;
+mod prefixes;
 mod room;
 #[cfg(feature = "serde")]
 mod serde;

@@ -3,6 +3,7 @@ mod change;
 mod frozen;
 mod iter;
 mod merge;
+mod prefixes;
 mod traits;
 
 pub use frozen::FrozenSet;
@@ -11,6 +12,7 @@ pub use iter::{
     TryExtractIf as SetTryExtractIf,
 };
 pub use merge::{Difference, Intersection, SymmetricDifference, Union};
+pub use prefixes::Prefixes as SetPrefixes;
 
 use crate::error::AllocError;
 use crate::map::ArtMap;
@@ -148,7 +150,7 @@ impl<K: Key> ArtSet<K> {
         Some(self.map.get_key_value(key)?.0)
     }
 
-    /// The stored key that begins a query, or equals it.
+    /// The longest stored key that begins a query, or equals it.
     ///
     /// ```
     /// let blocks = artmap::ArtSet::from([[10u8, 1], [192, 168]]);

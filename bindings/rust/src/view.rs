@@ -4,6 +4,7 @@ use crate::ffi::Words;
 use crate::iter::{Iter, Prefix, Range};
 use crate::key::sealed::Sealed;
 use crate::pool::Pool;
+use crate::prefixes::longest;
 use crate::room::Room;
 use crate::slab::Slab;
 use crate::walk::{Between, Way};
@@ -152,7 +153,8 @@ impl<'a, K: Key, V> View<'a, K, V> {
         query: &P,
     ) -> Result<Option<(&'a K, &'a V)>, AllocError> {
         let query = query.to_prefix()?;
-        Ok(self.pair(self.words.call(|words| words.find(query.as_ref()))))
+        let found = longest(&self.words, query.as_ref(), |index| self.slab.pair(index).0)?;
+        Ok(self.pair(found.map(|it| it.1)))
     }
 
     pub(crate) fn prefix_get<P: KeyPrefix<K> + ?Sized>(self, query: &P) -> Option<(&'a K, &'a V)> {

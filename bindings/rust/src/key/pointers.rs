@@ -26,6 +26,11 @@ macro_rules! pointers {
             fn without_end(&self) -> Option<&[u8]> {
                 T::without_end(self)
             }
+
+            #[inline]
+            fn has_end(by: Sealed) -> bool {
+                T::has_end(by)
+            }
         }
 
         impl<T: NoPrefixes + ?Sized> NoPrefixes for $of {}
@@ -65,6 +70,11 @@ impl<B: Key + ToOwned + ?Sized> Key for Cow<'_, B> {
     #[inline]
     fn without_end(&self) -> Option<&[u8]> {
         B::without_end(self)
+    }
+
+    #[inline]
+    fn has_end(by: Sealed) -> bool {
+        B::has_end(by)
     }
 }
 

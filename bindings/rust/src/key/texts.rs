@@ -89,6 +89,11 @@ impl Key for str {
     fn without_end(&self) -> Option<&[u8]> {
         without_end(self.as_bytes())
     }
+
+    #[inline]
+    fn has_end(_: Sealed) -> bool {
+        true
+    }
 }
 
 impl Key for String {
@@ -107,6 +112,11 @@ impl Key for String {
     #[inline]
     fn without_end(&self) -> Option<&[u8]> {
         without_end(self.as_bytes())
+    }
+
+    #[inline]
+    fn has_end(_: Sealed) -> bool {
+        true
     }
 }
 
@@ -186,6 +196,11 @@ impl<T: AsRef<[u8]>> Key for Ended<T> {
     #[inline]
     fn with_bytes<R>(&self, _: Sealed, call: impl FnOnce(&[u8]) -> R) -> Result<R, AllocError> {
         with_end(self.0.as_ref(), call)
+    }
+
+    #[inline]
+    fn has_end(_: Sealed) -> bool {
+        true
     }
 }
 

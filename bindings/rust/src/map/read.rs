@@ -68,9 +68,13 @@ impl<K: Key, V> ArtMap<K, V> {
         Some(self.slab.pair_mut(index_of(word)).1)
     }
 
-    /// The value of the one key that begins the query, or equals it: of prefixes as keys, the one that the query is under.
+    /// The value of the longest key that begins the query, or equals it: of prefixes as keys, the one that the query is
+    /// under. Of texts, of which many may begin it, it looks again wherever a lesser one parts from the query.
     ///
     /// ```
+    /// let paths = artmap::ArtMap::from([("/", 1), ("/api", 2)]);
+    /// assert_eq!((paths.prefix_get("/api/v1"), paths.prefix_get("/ap")), (Some(&2), Some(&1)));
+    ///
     /// let mut routes = artmap::ArtMap::new();
     /// routes.try_insert(vec![10, 1], "office").unwrap();
     /// routes.try_insert(vec![10, 2, 7], "lab").unwrap();
@@ -81,7 +85,7 @@ impl<K: Key, V> ArtMap<K, V> {
         Some(self.view().prefix_get(query)?.1)
     }
 
-    /// The pair whose key begins the query, or equals it.
+    /// The pair with the longest key that begins the query, or equals it.
     ///
     /// ```
     /// let mut routes = artmap::ArtMap::new();
@@ -92,7 +96,7 @@ impl<K: Key, V> ArtMap<K, V> {
         self.view().prefix_get(query)
     }
 
-    /// The value of the key that begins the query, or equals it, to be written.
+    /// The value of the longest key that begins the query, or equals it, to be written.
     ///
     /// ```
     /// let mut hits = artmap::ArtMap::new();
@@ -104,7 +108,7 @@ impl<K: Key, V> ArtMap<K, V> {
         Some(self.prefix_get_key_value_mut(query)?.1)
     }
 
-    /// The pair whose key begins the query, or equals it, with its value to be written.
+    /// The pair with the longest key that begins the query, or equals it, with its value to be written.
     ///
     /// ```
     /// let mut hits = artmap::ArtMap::new();
@@ -114,8 +118,7 @@ impl<K: Key, V> ArtMap<K, V> {
     /// assert_eq!(hits[&vec![10, 1]], 2);
     /// ```
     pub fn prefix_get_key_value_mut<P: KeyPrefix<K> + ?Sized>(&mut self, query: &P) -> Option<(&K, &mut V)> {
-        let word = self.words.find(or_end(query.to_prefix()).as_ref())?;
-        Some(self.slab.pair_mut(index_of(word)))
+        or_end(self.try_prefix_get_key_value_mut(query))
     }
 
     /// The pair with the least key.

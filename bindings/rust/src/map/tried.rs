@@ -3,6 +3,7 @@ use crate::error::AllocError;
 use crate::iter::{Prefix, Range};
 use crate::iter_mut::{PrefixMut, RangeMut};
 use crate::map::ArtMap;
+use crate::prefixes::longest;
 use crate::view::{MAP, between, index_of, prefix_room, word_of_key};
 use crate::{Key, KeyPrefix};
 use std::borrow::Borrow;
@@ -82,7 +83,7 @@ impl<K: Key, V> ArtMap<K, V> {
     ///
     /// # Errors
     ///
-    /// Where there is no memory for the bytes of the query.
+    /// Where there is no memory for the bytes of the query, or of a key that it is compared with.
     pub fn try_prefix_get<P: KeyPrefix<K> + ?Sized>(&self, query: &P) -> Result<Option<&V>, AllocError> {
         Ok(self.view().try_prefix_get(query)?.map(|pair| pair.1))
     }
@@ -96,7 +97,7 @@ impl<K: Key, V> ArtMap<K, V> {
     ///
     /// # Errors
     ///
-    /// Where there is no memory for the bytes of the query.
+    /// Where there is no memory for the bytes of the query, or of a key that it is compared with.
     pub fn try_prefix_get_key_value<P: KeyPrefix<K> + ?Sized>(
         &self,
         query: &P,
@@ -113,7 +114,7 @@ impl<K: Key, V> ArtMap<K, V> {
     ///
     /// # Errors
     ///
-    /// Where there is no memory for the bytes of the query.
+    /// Where there is no memory for the bytes of the query, or of a key that it is compared with.
     pub fn try_prefix_get_mut<P: KeyPrefix<K> + ?Sized>(&mut self, query: &P) -> Result<Option<&mut V>, AllocError> {
         Ok(self.try_prefix_get_key_value_mut(query)?.map(|pair| pair.1))
     }
@@ -127,14 +128,14 @@ impl<K: Key, V> ArtMap<K, V> {
     ///
     /// # Errors
     ///
-    /// Where there is no memory for the bytes of the query.
+    /// Where there is no memory for the bytes of the query, or of a key that it is compared with.
     #[allow(clippy::type_complexity, reason = "it is that of the call without `try_`, or an error")]
     pub fn try_prefix_get_key_value_mut<P: KeyPrefix<K> + ?Sized>(
         &mut self,
         query: &P,
     ) -> Result<Option<(&K, &mut V)>, AllocError> {
-        let word = self.words.find(query.to_prefix()?.as_ref());
-        Ok(word.map(|word| self.slab.pair_mut(index_of(word))))
+        let found = longest(&self.words, query.to_prefix()?.as_ref(), |index| self.slab.pair(index).0)?;
+        Ok(found.map(|(_, word)| self.slab.pair_mut(index_of(word))))
     }
 
     /// As [`range`](Self::range).

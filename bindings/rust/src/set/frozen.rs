@@ -23,7 +23,7 @@ use std::ops::RangeBounds;
 /// assert!(thread::spawn(move || mine.contains("a")).join().unwrap());
 /// assert!(frozen.thaw().unwrap().insert("c"));
 /// ```
-pub struct FrozenSet<K>(FrozenMap<K, ()>);
+pub struct FrozenSet<K>(pub(super) FrozenMap<K, ()>);
 
 impl<K: Key> ArtSet<K> {
     /// Makes it a set that nobody changes, for readers in many threads.

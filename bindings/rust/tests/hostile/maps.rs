@@ -143,6 +143,7 @@ pub const ROWS: &[Row<Map>] = &[
     ("prefix_get", |map, w| seen(map.prefix_get(&W2(w)))),
     ("prefix_get_key_value", |map, w| seen(map.prefix_get_key_value(&W2(w)))),
     ("prefix_get_mut", |map, w| seen(map.prefix_get_mut(&W2(w)))),
+    ("prefixes", |map, w| seen(map.prefixes(&W2(w)).count())),
     ("prefix_get_key_value_mut", |map, w| seen(map.prefix_get_key_value_mut(&W2(w)))),
     ("try_get", |map, w| seen(map.try_get(&key(8, w)))),
     ("try_get_key_value", |map, w| seen(map.try_get_key_value(&key(8, w)))),

@@ -89,6 +89,7 @@ pub const ROWS: &[Row<Set>] = &[
     ("shrink_to_fit", |set, _| set.shrink_to_fit()),
     ("try_compact", |set, _| seen(set.try_compact())),
     ("contains", |set, w| seen((set.contains(&key(8, w)), set.get(&key(8, w)), set.prefix_get(&W2(w))))),
+    ("prefixes", |set, w| seen(set.prefixes(&W2(w)).count())),
     ("try_contains", |set, w| seen((set.try_contains(&key(8, w)), set.try_get(&key(8, w)), set.try_prefix_get(&W2(w))))),
     ("first, last", |set, _| seen((set.first(), set.last()))),
     ("iter", |set, _| seen((set.iter().last(), set.iter().rev().count(), format!("{:?}", set.iter())))),
