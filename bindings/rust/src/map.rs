@@ -22,6 +22,7 @@ use crate::key::sealed::Sealed;
 use crate::parted::Apart;
 use crate::slab::Slab;
 use crate::view::{Reader, View, index_of};
+use crate::walk::Way;
 
 /// An ordered map, whose keys are seen as bytes. It goes where a [`BTreeMap`](std::collections::BTreeMap) goes.
 ///
@@ -230,6 +231,11 @@ impl<K: Key, V> ArtMap<K, V> {
         drop(apart);
         self.settle();
         Ok(pair)
+    }
+
+    /// The index of the pair with the least key, or the greatest.
+    pub(crate) fn end(&self, way: Way) -> Option<usize> {
+        self.slab.end_in_order(way).or_else(|| self.words.end(way).map(index_of))
     }
 
     /// Gives the memory of the tree and of the slots back where there is no pair, unless there were few.

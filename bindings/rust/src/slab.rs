@@ -1,5 +1,6 @@
 //! Where the pairs lie: in slots, whose indexes are the words of the proved map.
 use crate::error::AllocError;
+use crate::walk::Way;
 
 /// No slot is free.
 const NONE: usize = usize::MAX;
@@ -83,8 +84,14 @@ impl<K, V> Slab<K, V> {
         index
     }
 
-    /// Takes a pair out.
+    /// Takes a pair out. Slots in order stay so where it is the last one.
     pub(crate) fn take(&mut self, index: usize) -> (K, V) {
+        if self.is_in_order && index + 1 == self.slots.len() {
+            if let Some(Slot::Full(key, value)) = self.slots.pop() {
+                self.len -= 1;
+                return (key, value);
+            }
+        }
         let Some(slot) = self.slots.get_mut(index) else { no_pair(index) };
         match std::mem::replace(slot, Slot::Free(self.free)) {
             Slot::Full(key, value) => {
@@ -167,6 +174,12 @@ impl<K, V> Slab<K, V> {
 
     pub(crate) fn is_in_order(&self) -> bool {
         self.is_in_order
+    }
+
+    /// The index of the first pair, or of the last, where there is one and the slots are in order.
+    pub(crate) fn end_in_order(&self, way: Way) -> Option<usize> {
+        let last = self.slots.len().checked_sub(1)?;
+        self.is_in_order.then_some(if way == Way::Up { 0 } else { last })
     }
 
     /// All slots, where their keys ascend and none is free.
@@ -290,6 +303,22 @@ mod tests {
         assert!(map.slab.in_order().is_none());
         map.lay_out();
         assert!(map.slab.in_order().is_some() && map.values().eq(&['z', 'a', 'c']));
+    }
+
+    #[test]
+    fn the_last_pair_leaves_the_others_in_order() {
+        let mut map = crate::ArtMap::from([(1, 'a'), (2, 'b'), (3, 'c'), (5, 'e')]);
+        assert_eq!(
+            (map.pop_last(), map.remove(&3), map.last_key_value()),
+            (Some((5, 'e')), Some('c'), Some((&2, &'b')))
+        );
+        assert!(map.slab.in_order().is_some_and(|all| all.len() == 2));
+        map.extend([(4, 'd'), (6, 'f')]);
+        assert!(map.slab.in_order().is_some() && map.iter().eq([(&1, &'a'), (&2, &'b'), (&4, &'d'), (&6, &'f')]));
+        assert_eq!((map.pop_first(), map.first_key_value()), (Some((1, 'a')), Some((&2, &'b'))));
+        assert!(map.slab.in_order().is_none() && map.slab.end_in_order(Way::Up).is_none());
+        assert_eq!((map.pop_last(), map.pop_first(), map.pop_last()), (Some((6, 'f')), Some((2, 'b')), Some((4, 'd'))));
+        assert_eq!((map.pop_last(), map.pop_first(), map.len()), (None, None, 0));
     }
     #[test]
     fn a_map_that_is_empty_again_gives_its_memory_back() {

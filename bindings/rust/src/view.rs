@@ -162,7 +162,8 @@ impl<'a, K: Key, V> View<'a, K, V> {
     }
 
     pub(crate) fn end(self, way: Way) -> Option<(&'a K, &'a V)> {
-        self.pair(self.words.call(|words| words.end(way)))
+        let index = self.slab.end_in_order(way).or_else(|| self.words.call(|words| words.end(way)).map(index_of))?;
+        Some(self.slab.pair(index))
     }
 
     pub(crate) fn iter(self) -> Iter<'a, K, V> {

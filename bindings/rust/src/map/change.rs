@@ -213,7 +213,7 @@ impl<K: Key, V> ArtMap<K, V> {
     }
 
     fn end_entry(&mut self, way: Way) -> Option<OccupiedEntry<'_, K, V>> {
-        let index = index_of(self.words.end(way)?);
+        let index = self.end(way)?;
         Some(OccupiedEntry { map: self, index })
     }
 
@@ -329,10 +329,7 @@ impl<K: Key, V> ArtMap<K, V> {
     }
 
     fn pop(&mut self, way: Way) -> Result<Option<(K, V)>, AllocError> {
-        match self.words.end(way) {
-            Some(word) => self.take_at(index_of(word)).map(Some),
-            None => Ok(None),
-        }
+        self.end(way).map(|index| self.take_at(index)).transpose()
     }
 
     /// Takes out all pairs whose keys begin with a prefix, and tells how many.
