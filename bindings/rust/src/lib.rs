@@ -1,7 +1,7 @@
 //! [`ArtMap`] and [`ArtSet`]: an ordered map and set of keys that are seen as bytes, in an adaptive radix tree that is proved.
 //!
 //! They go where std's [`BTreeMap`](std::collections::BTreeMap) and [`BTreeSet`](std::collections::BTreeSet) go, and have what
-//! a radix tree adds: all keys with a prefix, the key that begins a query, many keys taken out by their prefix.
+//! a radix tree adds: all keys with a prefix, those that begin a query, many keys taken out by their prefix.
 //! [`compared`] has each call of theirs, and of the crate blart, beside the one here.
 //!
 //! ```
