@@ -163,8 +163,8 @@ typedef struct Found {
     size_t len;
     PyObject *value;
 } Found;
-int store_find(Art *map, Key *query, Found *found);
-int store_prefixes(Art *map, Key *query, Found **found, size_t *count);
+bool store_find(Art *map, const Key *query, Found *found);
+int store_prefixes(Art *map, const Key *query, Found **found, size_t *count);
 artmap_code store_take_prefix(Art *map, const Key *prefix, PyObject ***gone, size_t *count);
 bool store_clone(Art *from, Art *to);
 bool store_compact(Art *map);

@@ -200,41 +200,24 @@ int store_take_end(Art *map, bool is_last, PyObject **key, PyObject **value) {
     return PyErr_NoMemory(), -1;
 }
 
-/* The longest stored key that begins a query, but for its end mark, for which the query has room. The greatest key that
- * is not above the query either begins it, or has in common with it whatever does. Returns as store_first does. */
-static int find_ended(Store *store, uint8_t *query, size_t len, size_t *key_len, uint64_t *word) {
-    uint8_t few[FEW], *room = few;
-    artmap_words_pair pair;
-    int found;
-    for (size_t same = 0;; len = same) {
-        uint8_t had = query[len];
-        query[len] = 0;
-        artmap_span down = {true, ARTMAP_FROM_KEY, ARTMAP_TO_END, query, len + 1, NULL, 0};
-        found = first_key(store, &down, &room, few, &pair);
-        query[len] = had;
-        if (found <= 0) break;
-        for (same = 0; same < len && same < pair.key_len - 1 && room[same] == query[same];) same++;
-        if (same == pair.key_len - 1) break;
-    }
-    *key_len = pair.key_len - 1, *word = pair.word;
-    if (room != few) PyMem_Free(room);
-    return found;
-}
-
-/* The pair with the longest key that begins the first `len` bytes of a query, or equals them. Returns as store_first
- * does. */
-static int find(Art *map, Key *query, size_t len, Found *found) {
+/* Whether there is a pair whose key begins the first `len` bytes of a query, or equals them, but for its end mark; the one
+ * with the longest key. */
+static bool find(Art *map, const Key *query, size_t len, Found *found) {
+    artmap_words *tree = &map->store.tree;
     uint64_t word;
-    int is_found;
-    if (query->codec != map->codec) return 0;
-    if (query->codec != OF_BYTES) is_found = find_ended(&map->store, (uint8_t *)query->bytes, len, &found->len, &word);
-    else is_found = artmap_words_find(&map->store.tree, query->bytes, len, &found->len, &word) == ARTMAP_DONE;
-    if (is_found > 0) found->value = kept(map->store.slots[word]);
-    return is_found;
+    if (query->codec != map->codec) return false;
+    if (query->codec == OF_BYTES) {
+        if (artmap_words_find(tree, query->bytes, len, &found->len, &word) != ARTMAP_DONE) return false;
+    } else {
+        if (artmap_words_find_marked(tree, query->bytes, len, 0, &found->len, &word) != ARTMAP_DONE) return false;
+        found->len--;
+    }
+    found->value = kept(map->store.slots[word]);
+    return true;
 }
 
-int store_find(Art *map, Key *query, Found *found) {
-    int is_found;
+bool store_find(Art *map, const Key *query, Found *found) {
+    bool is_found;
     ALONE(map)
     is_found = find(map, query, query->len, found);
     END_ALONE
@@ -251,18 +234,17 @@ static bool has_place(Found **found, size_t count) {
 
 /* All pairs whose keys begin a query, or equal it, the longest first, in a block: 0, or -1 for want of memory, and then
  * there may be some, too. They are the caller's. */
-int store_prefixes(Art *map, Key *query, Found **found, size_t *count) {
-    int is_found = 1;
+int store_prefixes(Art *map, const Key *query, Found **found, size_t *count) {
+    bool has_memory = true;
     *found = NULL, *count = 0;
     ALONE(map)
-    for (size_t len = query->len; is_found > 0;) {
-        is_found = has_place(found, *count) ? find(map, query, len, *found + *count) : -1;
-        if (is_found <= 0) break;
+    for (size_t len = query->len; (has_memory = has_place(found, *count));) {
+        if (!find(map, query, len, *found + *count)) break;
         len = (*found)[(*count)++].len;
         if (!len-- || query->codec == OF_BYTES) break;
     }
     END_ALONE
-    return is_found < 0 ? -1 : 0;
+    return has_memory ? 0 : -1;
 }
 
 /* The words of all keys with a prefix, in `few`, which has SOME places, or in a block. NULL: no memory. */

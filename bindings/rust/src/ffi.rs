@@ -81,6 +81,8 @@ unsafe extern "C" {
     fn artmap_words_remove(map: *mut Handle, key: *const u8, key_len: usize, word: *mut u64) -> u32;
     fn artmap_words_remove_prefix(map: *mut Handle, prefix: *const u8, prefix_len: usize, count: *mut usize) -> u32;
     fn artmap_words_find(map: *mut Handle, query: *const u8, query_len: usize, key_len: *mut usize, word: *mut u64) -> u32;
+    fn artmap_words_find_marked(map: *mut Handle, query: *const u8, query_len: usize, mark: u8, key_len: *mut usize,
+        word: *mut u64) -> u32;
     fn artmap_words_first_word(map: *mut Handle, word: *mut u64) -> u32;
     fn artmap_words_last_word(map: *mut Handle, word: *mut u64) -> u32;
     fn artmap_words_first_word_with_prefix(map: *mut Handle, prefix: *const u8, prefix_len: usize, word: *mut u64) -> u32;
@@ -210,6 +212,19 @@ impl Words {
     /// The word of the key that begins the query, or equals it.
     pub(crate) fn find(&self, query: &[u8]) -> Option<u64> {
         self.find_len(query).map(|found| found.1)
+    }
+
+    /// The length, with the end mark, and the word of the longest key that is some bytes of the query, from its first, and
+    /// that mark.
+    pub(crate) fn find_marked(&self, query: &[u8]) -> Option<(usize, u64)> {
+        let (mut len, mut word) = (0, 0);
+        let at = self.handle.get();
+        // SAFETY: rules 1 to 4; both are locals. Clause of `artmap_words_find_marked`: IsLenWordRead.
+        match unsafe { artmap_words_find_marked(at, query.as_ptr(), query.len(), 0, &raw mut len, &raw mut word) } {
+            DONE => Some((len, word)),
+            NOT_FOUND | NO_MAP => None,
+            code => not_told(code),
+        }
     }
 
     /// The length and the word of the key that begins the query, or equals it.

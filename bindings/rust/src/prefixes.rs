@@ -1,58 +1,20 @@
 //! The keys that begin a query.
 use crate::error::{AllocError, or_end};
-use crate::ffi::{From, To};
 use crate::key::sealed::Sealed;
 use crate::map::ArtMap;
 use crate::room::Room;
 use crate::view::{Reads, View, index_of};
-use crate::walk::Way;
 use crate::{FrozenMap, Key, KeyPrefix};
 use std::fmt;
 use std::iter::FusedIterator;
 
-/// How many bytes a key has in common with a query, and whether these are all that it has but for its end mark.
-fn common<K: Key>(key: &K, query: &[u8]) -> Result<(usize, bool), AllocError> {
-    let of = |front: &[u8]| {
-        let same = front.iter().zip(query).take_while(|(one, other)| one == other).count();
-        (same, same == front.len())
-    };
-    match key.without_end() {
-        Some(front) => Ok(of(front)),
-        None => key.with_bytes(Sealed, |bytes| of(bytes.split_last().map_or(bytes, |it| it.1))),
-    }
-}
-
 /// The word of the longest key that begins a query, or equals it, but for its end mark if it has one; and how many bytes
-/// of the query it has. `key_of` lends the key of an index.
-///
-/// Of keys with an end mark the greatest one that is not above the query either begins it, or has in common with it
-/// whatever does: so the search goes on with so much of the query.
-pub(crate) fn longest<'k, K: Key + 'k>(
-    words: &impl Reads,
-    query: &[u8],
-    key_of: impl Fn(usize) -> &'k K,
-) -> Result<Option<(usize, u64)>, AllocError> {
-    if !K::has_end(Sealed) {
-        return Ok(words.call(|words| words.find_len(query)));
+/// of the query it has.
+pub(crate) fn longest<K: Key>(words: &impl Reads, query: &[u8]) -> Option<(usize, u64)> {
+    if K::has_end(Sealed) {
+        return words.call(|words| words.find_marked(query)).map(|(len, word)| (len - 1, word));
     }
-    let (mut ended, mut len, mut word) = (Room::of(query)?, query.len(), [0]);
-    ended.push(&[0])?;
-    loop {
-        ended.end_at(len);
-        let (count, _) = words.call(|words| words.walk(Way::Down, From::Key(ended.bytes()), To::End, &mut word));
-        if count == 0 {
-            return Ok(None);
-        }
-        let (same, is_begun) = common(key_of(index_of(word[0])), &query[..len])?;
-        if is_begun {
-            return Ok(Some((same, word[0])));
-        }
-        // (only a key that tells other bytes than it had is that long)
-        if same == len {
-            return Ok(None);
-        }
-        len = same;
-    }
+    words.call(|words| words.find_len(query))
 }
 
 /// The pairs whose keys begin a query, or equal it, the longest first. [`ArtMap::prefixes`] makes it.
@@ -81,7 +43,7 @@ impl<'a, K: Key, V> Iterator for Prefixes<'a, K, V> {
 
     fn next(&mut self) -> Option<(&'a K, &'a V)> {
         let (slab, query) = (self.view.slab, &self.query.bytes()[..self.left?]);
-        let found = or_end(longest(&self.view.words, query, |index| slab.pair(index).0));
+        let found = longest::<K>(&self.view.words, query);
         self.left = found.and_then(|(len, _)| if K::has_end(Sealed) { len.checked_sub(1) } else { None });
         found.map(|(_, word)| slab.pair(index_of(word)))
     }

@@ -60,17 +60,6 @@ impl Room {
         Ok(())
     }
 
-    /// Leaves so many bytes, fewer than it has, and a zero after them.
-    pub(crate) fn end_at(&mut self, len: usize) {
-        if self.large.is_empty() {
-            self.small[len] = 0;
-            self.len = len + 1;
-        } else {
-            self.large.truncate(len + 1);
-            self.large[len] = 0;
-        }
-    }
-
     #[cfg(test)]
     pub(crate) fn len(&self) -> usize {
         self.bytes().len()

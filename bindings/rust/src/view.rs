@@ -153,7 +153,7 @@ impl<'a, K: Key, V> View<'a, K, V> {
         query: &P,
     ) -> Result<Option<(&'a K, &'a V)>, AllocError> {
         let query = query.to_prefix()?;
-        let found = longest(&self.words, query.as_ref(), |index| self.slab.pair(index).0)?;
+        let found = longest::<K>(&self.words, query.as_ref());
         Ok(self.pair(found.map(|it| it.1)))
     }
 

@@ -83,7 +83,7 @@ impl<K: Key, V> ArtMap<K, V> {
     ///
     /// # Errors
     ///
-    /// Where there is no memory for the bytes of the query, or of a key that it is compared with.
+    /// Where there is no memory for the bytes of the query.
     pub fn try_prefix_get<P: KeyPrefix<K> + ?Sized>(&self, query: &P) -> Result<Option<&V>, AllocError> {
         Ok(self.view().try_prefix_get(query)?.map(|pair| pair.1))
     }
@@ -97,7 +97,7 @@ impl<K: Key, V> ArtMap<K, V> {
     ///
     /// # Errors
     ///
-    /// Where there is no memory for the bytes of the query, or of a key that it is compared with.
+    /// Where there is no memory for the bytes of the query.
     pub fn try_prefix_get_key_value<P: KeyPrefix<K> + ?Sized>(
         &self,
         query: &P,
@@ -114,7 +114,7 @@ impl<K: Key, V> ArtMap<K, V> {
     ///
     /// # Errors
     ///
-    /// Where there is no memory for the bytes of the query, or of a key that it is compared with.
+    /// Where there is no memory for the bytes of the query.
     pub fn try_prefix_get_mut<P: KeyPrefix<K> + ?Sized>(&mut self, query: &P) -> Result<Option<&mut V>, AllocError> {
         Ok(self.try_prefix_get_key_value_mut(query)?.map(|pair| pair.1))
     }
@@ -128,13 +128,13 @@ impl<K: Key, V> ArtMap<K, V> {
     ///
     /// # Errors
     ///
-    /// Where there is no memory for the bytes of the query, or of a key that it is compared with.
+    /// Where there is no memory for the bytes of the query.
     #[allow(clippy::type_complexity, reason = "it is that of the call without `try_`, or an error")]
     pub fn try_prefix_get_key_value_mut<P: KeyPrefix<K> + ?Sized>(
         &mut self,
         query: &P,
     ) -> Result<Option<(&K, &mut V)>, AllocError> {
-        let found = longest(&self.words, query.to_prefix()?.as_ref(), |index| self.slab.pair(index).0)?;
+        let found = longest::<K>(&self.words, query.to_prefix()?.as_ref());
         Ok(found.map(|(_, word)| self.slab.pair_mut(index_of(word))))
     }
 
