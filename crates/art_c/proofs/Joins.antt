@@ -1,5 +1,5 @@
 -- The pairs of a map that have moved into another so far.
-use Rattle.std.proofs.Common.{◌≡◌, ◌==◌, ℕ, Bool, true, length, List, [], ◌∷◌, ◌++◌, Some, refl, sym, ap, subst, ◌∙◌, append_assoc, arith, eqb-true}
+use Rattle.std.proofs.Common.{◌≡◌, ◌==◌, ℕ, Bool, true, false, length, List, [], ◌∷◌, ◌++◌, Some, refl, sym, ap, subst, ◌∙◌, append_assoc, arith, eqb-true}
 use Rattle.std.proofs.lemmas.List.{append-nil}
 use Rattle.art_arena.proofs.Common.{key_of, AscendsByKey}
 use Rattle.art_map.proofs.Common.{first_item, with_pairs_put}
@@ -55,3 +55,18 @@ module _ {V : Type 0} where
     where
       some-key : (p q : List ℕ × V) → Some p ≡ Some q → p.0 ≡ q.0
       some-key p q e = cc
+
+  -- it ends there, and both maps are what they were
+  pub moved-ends : (all old left now rest new : Pairs V) (code : Code) → MovedSoFar all old left now → MoveEnds left now code
+      → rest ≡ left → new ≡ now → ArePairsMoved all old code rest new
+  moved-ends all old left now rest new code (moved, are, put) ends same_left same = (
+    moved,
+    are ∙ ap (λ ps. moved ++ ps) (sym same_left),
+    same ∙ put,
+    subst (λ ps. MoveEnds ps new code) (sym same_left) (subst (λ ps. MoveEnds left ps code) (sym same) ends),
+  )
+
+  -- a map that is told not to be empty has a pair
+  pub some-pair : (ps : Pairs V) (b : Bool) → b ≡ (length ps == 0) → b ≡ false → ps ≡ [] → ⊥
+  some-pair [] b e h none = let f : true ≡ false = sym e ∙ h in absurd (cc)
+  some-pair (p ∷ ps) b e h none = absurd (cc)

@@ -8,6 +8,7 @@ pub mod Layouts
 pub mod Loads
 pub mod Lookups
 pub mod Made
+pub mod NodeRoom
 pub mod Placed
 pub mod Prefixes
 pub mod Values

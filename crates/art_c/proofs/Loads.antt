@@ -1,7 +1,10 @@
 -- A load, as far as it has come.
-use Rattle.std.proofs.Common.{◌≡◌, ℕ, ◌+◌, Bool, true, List, [], ◌∷◌, ◌++◌, length, Option, Some, refl, sym, ap, ap₂, ◌∙◌, subst, append_assoc, arith}
+use Rattle.std.proofs.Common.{◌≡◌, ℕ, ◌+◌, ◌≤◌, Bool, true, false, List, [], ◌∷◌, ◌++◌, length, Option, Some, None, refl, sym, ap, ap₂, ◌∙◌, subst, append_assoc, arith}
 use Rattle.std.proofs.lemmas.List.{length-append}
-use Rattle.std.specs.Prelude.{IsTrue, if◌then◌else◌, is_ok, OnErr, OnOk, Result, Ok, Err}
+use Rattle.std.specs.Prelude.{IsTrue, if◌then◌else◌, is_ok, IfErr, OnErr, OnOk, Result, Ok, Err}
+use Rattle.art_operations.specs.Insertions.{IsForConflict, IsPairRefused}
+use Rattle.art_operations.specs.declared.insert.result.PairRefused.{PairRefused}
+use Rattle.art_operations.specs.declared.insert.result.PairRefused.TheVariants as refused_by
 use Rattle.art_operations.proofs.Common.{with_pair_put}
 use Rattle.art_map.proofs.Common.{with_pairs_put}
 use Rattle.art_map.proofs.Puts.{put-more}
@@ -9,6 +12,7 @@ use Rattle.art_c.specs.Calls.{IsPutRefused, whole}
 use Rattle.art_c.specs.Handles.{Pairs}
 use Rattle.art_c.specs.Layouts.{end_to_end, items_of_pairs}
 use Rattle.art_c.specs.Loads.{is_above, IsLoaded, IsRefused, last_key, LoadEnds, Rises}
+use Rattle.art_c.specs.Placed.{IsLong}
 use Rattle.art_c.specs.declared.code.Code.{Code}
 use Rattle.art_c.specs.declared.code.Code.TheVariants.{Done, Replaced, NotFound, Conflict, NoRoom, NoMemory, NoMap, NotAbove, CutOff, More, Frozen, Shared}
 use Rattle.art_c.proofs.Layouts.{bytes-more, items-more}
@@ -52,6 +56,34 @@ module _ {V E : Type 0} (k key : List ℕ) (v value : V) (Had Has : Pairs V → 
   put_told (Err _) is same same_value told ok err pairs had =
       subst (λ b. Has (if b then with_pair_put whole key value pairs else pairs)) (sym told) (err pairs had)
 
+-- bytes of no more than thirty are not long
+pub short-key : (bytes : List ℕ) (n : ℕ) → length bytes ≡ n → n ≤ 30 → IsLong bytes → ⊥
+short-key bytes n same few many = omega (arith, same, few, many)
+
+-- what room a put leaves, and why it is refused
+module _ {K V : Type 0} (r : Result (Unit {0}) (PairRefused K V)) (is : Bool) (told : is ≡ is_ok r) where
+  pub put_room : (Was Has : ℕ → Type 0) → ((n : ℕ) → Was (n + 2) → Has n) → OnErr r ((n : ℕ) → 1 ≤ n → Was n → Has n)
+      → (n : ℕ) → 1 ≤ n → Was (if is then n + 2 else n) → Has n
+  put_room Was Has room kept n one has = step r (subst (λ b. Was (if b then n + 2 else n)) told has) kept
+    where
+      step : (r : Result (Unit {0}) (PairRefused K V)) → Was (if is_ok r then n + 2 else n)
+          → OnErr r ((n : ℕ) → 1 ≤ n → Was n → Has n) → Has n
+      step (Ok _) has kept = room n has
+      step (Err e) has kept = kept n one has
+
+  pub put_blocked : (k : K) (v : V) (Had : List (K × V) → Type 0) (Blocked : List (K × V) → Type 0) (Room : Type 0)
+      → IfErr r (λ e. (pairs : List (K × V)) → Had pairs → IsPairRefused k v (Blocked pairs) e)
+      → IfErr r (λ e. Room → IsForConflict e)
+      → is ≡ false → (pairs : List (K × V)) → Had pairs → Room → Blocked pairs
+  put_blocked k v Had Blocked Room refused free out pairs had room = step r refused free (sym told ∙ out)
+    where
+      step : (r : Result (Unit {0}) (PairRefused K V))
+          → IfErr r (λ e. (pairs : List (K × V)) → Had pairs → IsPairRefused k v (Blocked pairs) e)
+          → IfErr r (λ e. Room → IsForConflict e) → is_ok r ≡ false → Blocked pairs
+      step (Ok _) refused free out = absurd (cc)
+      step (Err (refused_by.Conflict x y)) refused free out = (refused pairs had).2
+      step (Err (refused_by.Memory x y)) refused free out = absurd (free room)
+
 module _ {V I : Type 0} (text : V → List ℕ) (item : List ℕ → V → I) (bytes : List ℕ) (items : List I) (old : Pairs V) where
   -- so many pairs were taken, and this is what is left of the buffer
   pub record Taken (rest : List ℕ) (left : List I) (at : ℕ) (before : Option (List ℕ)) (now : Pairs V) : Type 0 where
@@ -62,6 +94,10 @@ module _ {V I : Type 0} (text : V → List ℕ) (item : List ℕ → V → I) (b
     pub rises : Rises taken
     pub key : before ≡ last_key taken
     pub put : now ≡ with_pairs_put whole taken old
+
+  -- none is taken yet
+  pub none-loaded : Taken bytes items 0 None old
+  none-loaded = record { taken = []; bytes_are = refl; items_are = refl; count = refl; rises = tt; key = refl; put = refl }
 
   -- one more is taken
   pub one-more : {rest : List ℕ} {left : List I} {at : ℕ} {before : Option (List ℕ)} {now : Pairs V} (t : Taken rest left at before now)

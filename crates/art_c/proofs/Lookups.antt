@@ -2,11 +2,17 @@
 use Rattle.std.proofs.Common.{◌≡◌, ℕ, Bool, true, false, cond, not, List, [], ◌∷◌, ◌++◌, Option, Some, None, bytes_eq, refl, sym, ap, subst, ◌∙◌, inl, inr}
 use Rattle.std.specs.Map.{lookup, set_value}
 use Rattle.std.proofs.lemmas.Slice.Eq.{bytes_eq-Decides}
+use Rattle.std.specs.Prelude.{IfErr, OnErr, Result, Ok, Err}
+use Rattle.art_arena.specs.arena.Arena.{HasRoom}
 use Rattle.art_arena.proofs.Common.{AscendsByKey, key_of, IsIn}
 use Rattle.art_map.proofs.Common.{has_bytes}
 use Rattle.art_operations.proofs.Common.{HasKey, IsBlocked, put_replaced, with_pair_put, without_key}
 use Rattle.art_c.specs.Calls.{GoesIn, stored_value, whole}
-use Rattle.art_c.specs.Handles.{Pairs}
+use Rattle.art_c.specs.Handles.{Map, Pairs}
+use Rattle.art_c.specs.NodeRoom.{NeedsMemory}
+use Rattle.art_c.specs.Placed.{IsLong}
+use Rattle.art_c.specs.declared.code.Code.{Code}
+use Rattle.art_c.specs.declared.code.Code.TheVariants.{NoMemory}
 
 module _ {V : Type 0} (key : List ℕ) where
   -- a key that is found is stored
@@ -90,3 +96,9 @@ pub put_stored : {V : Type 0} (key : List ℕ) (v value : V) (old new : Pairs V)
 put_stored key v value old new was same free is set ordered =
     let put : new ≡ with_pair_put whole key v old = set ∙ set-is-put key v was old (sym is) (subst (AscendsByKey (key_of whole)) set ordered) in
     (free, sym is, put ∙ ap (λ w. with_pair_put whole key w old) same)
+
+-- a pair whose key is new did not go in for want of memory
+pub needs_memory : {V : Type 0} (key text : List ℕ) (old : Map V) (r : Result (Option V) Code) → stored_value key old.pairs ≡ None
+    → OnErr r (HasRoom old.nodes 2 → IsLong key) → IfErr r (λ code. code ≡ NoMemory → NeedsMemory key text old)
+needs_memory key text old (Ok was) none long = tt
+needs_memory key text old (Err code) none long = λ _. inr (none, long)

@@ -1,24 +1,23 @@
 -- What the calls answer, in the words of the map. Keys are byte strings, so a key is its own bytes.
-use Rattle.std.specs.Prelude.{◌≡◌, ◌⊎◌, ℕ, Bool, List, [], length, Option, Some, None, is_some}
+use Rattle.std.specs.Prelude.{◌≡◌, ◌⊎◌, ℕ, Bool, List, [], Option, Some, None, is_some}
 use Rattle.std.specs.Map.{lookup, lookup_entry}
 use Rattle.std.specs.declared.ops.Bound.TheVariants.{Excluded, Unbounded}
 use Rattle.art_arena.specs.arena.Shapes.{key_of}
-use Rattle.art_arena.specs.tree.Shrinks.{Shrinks}
-use Rattle.art_arena.specs.tree.Tenants.{with_front, without_front}
-use Rattle.art_operations.specs.KeyedLists.{HasKey, IsBlocked, without_key}
+use Rattle.art_arena.specs.tree.Tenants.{with_front}
+use Rattle.art_operations.specs.KeyedLists.{IsBlocked}
 use Rattle.art_operations.specs.Pairs.{with_pair_put}
 use Rattle.art_map.specs.Audit.{audit_of}
 use Rattle.art_map.specs.Contents.{has_bytes, is_front, first_item, last_item}
-use Rattle.art_map.specs.PrefixBlocks.{ShrinksAtCut}
 use Rattle.art_map.specs.Ranges.{pairs_between}
 use Rattle.art_c.specs.Codes.{code_number}
-use Rattle.art_c.specs.Handles.{MapState, own, Pairs}
+use Rattle.art_c.specs.Handles.{IsOwn, MapState, Pairs, View}
 use Rattle.art_c.specs.Copies.{Rooms, KeyRoom, pair_code, pair_out, value_code, value_out, length_out}
 use Rattle.art_c.specs.Copies.{found_code, word_out, pairs_word_out, len_word_out, word_code, word_pair_out}
 use Rattle.art_walks.specs.declared.stats.WellFormedTreeStats.{WellFormedTreeStats}
 use Rattle.art_c.specs.declared.nodes.NodeCounts.{NodeCounts}
 use Rattle.art_c.specs.declared.code.Code.{Code}
-use Rattle.art_c.specs.declared.code.Code.TheVariants.{Done, Replaced, NotFound, Conflict, NoMemory}
+use Rattle.art_c.specs.declared.code.Code.TheVariants.{Done, Conflict, NoMemory}
+use Rattle.art_c.specs.declared.handle.store.Store.{Store}
 use Rattle.art_c.specs.declared.calls.reads.Wanted.{Wanted}
 use Rattle.art_c.specs.declared.calls.reads.Wanted.TheVariants.{First, Last, FirstWithPrefix, LastWithPrefix}
 use Rattle.art_c.specs.declared.calls.reads.Wanted.TheVariants.{FrontOf, Above, Below}
@@ -33,9 +32,10 @@ Nothing = Unit {0}
 
 module _ {V : Type 0} where
   -- an empty map is made, or there is no memory and the handle has what it had
-  abbrev pub IsNew : Option (MapState V) → ℕ → Option (MapState V) → Type 0
-  IsNew old result new =
-      ((result ≡ code_number Done) × (new ≡ Some (own []))) ⊎ ((result ≡ code_number NoMemory) × (new ≡ old))
+  abbrev pub IsNew : View V → Option Store → ℕ → Option Store → Type 0
+  IsNew view old result new =
+      ((result ≡ code_number Done) × (s : MapState V) × (view new ≡ Some s) × IsOwn [] s)
+      ⊎ ((result ≡ code_number NoMemory) × (new ≡ old))
 
   -- the value of a key
   abbrev pub stored_value : List ℕ → Pairs V → Option V
@@ -55,15 +55,6 @@ module _ {V : Type 0} where
   IsPutRefused key old Conflict new = IsBlocked (key_of whole) key old × (new ≡ old)
   IsPutRefused key old NoMemory new = (IsBlocked (key_of whole) key old → ⊥) × (new ≡ old)
   IsPutRefused key old _ new = ⊥
-
-  -- The pairs whose keys begin with the prefix are gone, and their number is told. Want of memory is told only where
-  -- their loss makes a node smaller. Nothing is changed then.
-  abbrev pub IsPrefixRemoved : List ℕ → Pairs V → ℕ → Code → Pairs V → ℕ → Type 0
-  IsPrefixRemoved front old x Done new y =
-      (new ≡ without_front (key_of whole) front old) × (y ≡ length (with_front (key_of whole) front old))
-  IsPrefixRemoved front old x NoMemory new y =
-      ShrinksAtCut whole front old × (new ≡ old) × (y ≡ x)
-  IsPrefixRemoved front old x _ new y = ⊥
 
   -- the pair whose key is a front of a query, or equals it
   abbrev pub pair_of_front : List ℕ → Pairs V → Option (List ℕ × V)
@@ -109,35 +100,6 @@ abbrev pub IsAudited : {V : Type 0} → Pairs V → NodeCounts → Code → Node
 IsAudited pairs x Done y = y ≡ as_node_counts (audit_of (key_of whole) pairs)
 IsAudited pairs x NoMemory y = y ≡ x
 IsAudited pairs x _ y = ⊥
-
--- The pair is put in at the place of its key, where no pair had the key and none blocks it, or in the place of the one
--- with its key, whose word is told. Where a stored key blocks it, or there is no memory, nothing is changed.
-abbrev pub IsWordPut : List ℕ → ℕ → Pairs ℕ → ℕ → Code → Pairs ℕ → ℕ → Type 0
-IsWordPut key word old x Done new y = GoesIn key word old None new × (y ≡ x)
-IsWordPut key word old x Replaced new y = GoesIn key word old (Some y) new
-IsWordPut key word old x code new y = IsPutRefused key old code new × (y ≡ x)
-
--- the same of bytes, of which no old value is told
-abbrev pub IsBytesPut : List ℕ → List ℕ → Pairs (List ℕ) → Nothing → Code → Pairs (List ℕ) → Nothing → Type 0
-IsBytesPut key value old _ Done new _ = GoesIn key value old None new
-IsBytesPut key value old _ Replaced new _ = (was : List ℕ) × GoesIn key value old (Some was) new
-IsBytesPut key value old _ code new _ = IsPutRefused key old code new
-
--- The pair with the key is gone, and its word is told, or there was none. Want of memory is told only where its loss
--- makes a node smaller. Nothing is changed then.
-abbrev pub IsWordRemoved : List ℕ → Pairs ℕ → ℕ → Code → Pairs ℕ → ℕ → Type 0
-IsWordRemoved key old x Done new y = (stored_value key old ≡ Some y) × (new ≡ without_key (key_of whole) key old)
-IsWordRemoved key old x NotFound new y = (stored_value key old ≡ None) × (new ≡ old) × (y ≡ x)
-IsWordRemoved key old x NoMemory new y =
-    HasKey (key_of whole) key old × Shrinks (key_of whole) old key × (new ≡ old) × (y ≡ x)
-IsWordRemoved key old x _ new y = ⊥
-
-abbrev pub IsRemoved : List ℕ → Pairs (List ℕ) → Nothing → Code → Pairs (List ℕ) → Nothing → Type 0
-IsRemoved key old _ Done new _ = HasKey (key_of whole) key old × (new ≡ without_key (key_of whole) key old)
-IsRemoved key old _ NotFound new _ = (HasKey (key_of whole) key old → ⊥) × (new ≡ old)
-IsRemoved key old _ NoMemory new _ =
-    HasKey (key_of whole) key old × Shrinks (key_of whole) old key × (new ≡ old)
-IsRemoved key old _ _ new _ = ⊥
 
 -- the word of a key is told, if there is one
 abbrev pub IsWordRead : List ℕ → Pairs ℕ → ℕ → Code → ℕ → Type 0

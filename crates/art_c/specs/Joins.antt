@@ -4,9 +4,10 @@ use Rattle.art_map.specs.Asked.{with_pairs_put}
 use Rattle.art_operations.specs.Pairs.{with_pair_put}
 use Rattle.art_c.specs.Answers.{Changes, OnMade}
 use Rattle.art_c.specs.Calls.{IsPutRefused, whole}
-use Rattle.art_c.specs.Handles.{MapState, Pairs}
+use Rattle.art_c.specs.Handles.{Map, Pairs, View}
 use Rattle.art_c.specs.declared.code.Code.{Code}
 use Rattle.art_c.specs.declared.code.Code.TheVariants.{Done}
+use Rattle.art_c.specs.declared.handle.store.Store.{Store}
 
 module _ {V : Type 0} where
   -- the first pair of another map moved, to the place of its key
@@ -25,6 +26,12 @@ module _ {V : Type 0} where
   ArePairsMoved other old code left new =
       (moved : Pairs V) × (other ≡ moved ++ left) × (new ≡ with_pairs_put whole moved old) × MoveEnds left new code
 
+  -- The same of two maps. An empty one takes all, with the nodes that hold them.
+  abbrev pub IsJoined : Map V → Map V → Code → Map V → Map V → Type 0
+  IsJoined other old code left new =
+      ArePairsMoved other.pairs old.pairs code left.pairs new.pairs
+      × (old.pairs ≡ [] → (code ≡ Done) × (left.pairs ≡ []) × (new ≡ other))
+
   -- the same of the map in another handle: it has to have one that is not frozen, and else nothing is done
-  abbrev pub IsAppended : Pairs V → Option (MapState V) → Code → Pairs V → Option (MapState V) → Type 0
-  IsAppended old x code new y = OnMade (Changes ArePairsMoved) x old code y new
+  abbrev pub IsAppended : View V → Map V → Option Store → Code → Map V → Option Store → Type 0
+  IsAppended view old x code new y = OnMade view (Changes IsJoined) x old code y new

@@ -8,8 +8,10 @@ pub mod Held
 pub mod Joins
 pub mod Layouts
 pub mod Loads
+pub mod NodeRoom
 pub mod Placed
 pub mod Prefixes
+pub mod Puts
 pub mod Spans
 pub mod Walks
 pub mod Wholes

@@ -1,12 +1,14 @@
 -- What becomes of a map into which the pairs of a buffer are put.
-use Rattle.std.specs.Prelude.{◌≡◌, ◌⊎◌, ℕ, ◌+◌, ◌<◌, Bool, true, false, IsTrue}
+use Rattle.std.specs.Prelude.{◌≡◌, ◌⊎◌, ℕ, suc, ◌+◌, ◌*◌, ◌<◌, ◌≤◌, Bool, true, false, IsTrue}
 use Rattle.std.specs.Prelude.{List, [], ◌∷◌, ◌++◌, length, Option, Some, None}
+use Rattle.std.specs.List.{AllByRecursion}
+use Rattle.art_arena.specs.arena.Arena.{HasRoom}
 use Rattle.art_arena.specs.arena.Shapes.{key_of}
 use Rattle.art_bytes.specs.Keys.{is_below}
 use Rattle.art_map.specs.Asked.{with_pairs_put}
 use Rattle.art_operations.specs.KeyedLists.{IsBlocked}
 use Rattle.art_c.specs.Calls.{whole}
-use Rattle.art_c.specs.Handles.{Pairs}
+use Rattle.art_c.specs.Handles.{Map, Pairs}
 use Rattle.art_c.specs.Layouts.{end_to_end, items_of_pairs}
 use Rattle.art_c.specs.declared.code.Code.{Code}
 use Rattle.art_c.specs.declared.code.Code.TheVariants.{Done, Conflict, NoMemory, NotAbove, CutOff}
@@ -15,6 +17,10 @@ use Rattle.art_c.specs.declared.code.Code.TheVariants.{Done, Conflict, NoMemory,
 abbrev pub is_above : Option (List ℕ) → List ℕ → Bool
 is_above None key = true
 is_above (Some before) key = is_below before key
+
+-- none of the keys and values of a buffer is long
+abbrev pub AreShort : {I : Type 0} → (I → ℕ) → (I → ℕ) → List I → Type 0
+AreShort key_len text_len items = AllByRecursion (λ it. (key_len it ≤ 30) × (text_len it ≤ 30)) items
 
 module _ {V : Type 0} where
   -- the key of the last pair, if there is one
@@ -58,3 +64,11 @@ module _ {V : Type 0} where
         (taken : Pairs V) × (more : List ℕ) × (left : List I)
         × (bytes ≡ end_to_end text taken ++ more) × (items ≡ items_of_pairs item taken ++ left) × (count ≡ length taken)
         × Rises taken × (new ≡ with_pairs_put whole taken old) × LoadEnds (last_key taken) more left new code
+
+    -- The same of a map. Of its room that of two nodes a pair may be used. No memory is lacking where there was as much
+    -- for the next pair, too, and nothing in the buffer is long.
+    abbrev pub IsLoadedIn : List ℕ → List I → Map V → ℕ → Code → Map V → ℕ → Type 0
+    IsLoadedIn bytes items old x code new count =
+        IsLoaded bytes items old.pairs x code new.pairs count
+        × ((n : ℕ) → 1 ≤ n → HasRoom old.nodes (n + 2 * count) → HasRoom new.nodes n)
+        × (code ≡ NoMemory → HasRoom old.nodes (2 * suc count) → AreShort key_len text_len items → ⊥)

@@ -1,8 +1,12 @@
 -- Where the bytes of a byte string stand.
-use Rattle.std.specs.Prelude.{ℕ, ◌≤◌, List, take}
+use Rattle.std.specs.Prelude.{ℕ, ◌<◌, ◌≤◌, List, length, take}
 use Rattle.art_bytes.specs.Keys.{AreBytes}
 use Rattle.art_c.specs.declared.bytes.Placed.{Placed}
 use Rattle.art_c.specs.declared.bytes.Placed.TheVariants.{Short, Long}
+
+-- these do not stand in place, but take a block of their own
+abbrev pub IsLong : List ℕ → Type 0
+IsLong bytes = 30 < length bytes
 
 -- the bytes, in place or in a block of their own
 abbrev pub placed_bytes : Placed → List ℕ

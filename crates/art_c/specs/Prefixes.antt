@@ -1,12 +1,13 @@
 -- What becomes of a map from which pairs with a prefix are taken, some at a time.
-use Rattle.std.specs.Prelude.{◌≡◌, ◌⊎◌, ℕ, ◌≤◌, Bool, true, false, List, [], ◌∷◌, ◌++◌, length}
+use Rattle.std.specs.Prelude.{◌≡◌, ◌⊎◌, ℕ, suc, ◌≤◌, Bool, true, false, List, [], ◌∷◌, ◌++◌, length}
+use Rattle.art_arena.specs.arena.Arena.{Arena, HasRoom, UsesRoom}
 use Rattle.art_arena.specs.arena.Shapes.{key_of}
 use Rattle.art_arena.specs.tree.Shrinks.{Shrinks}
 use Rattle.art_arena.specs.tree.Tenants.{begins_with, with_front}
 use Rattle.art_operations.specs.KeyedLists.{without_key}
 use Rattle.art_c.specs.Calls.{whole}
 use Rattle.art_c.specs.Copies.{written}
-use Rattle.art_c.specs.Handles.{Pairs}
+use Rattle.art_c.specs.Handles.{Map, Pairs}
 use Rattle.art_c.specs.Spans.{while_so}
 use Rattle.art_c.specs.Walks.{words_of_pairs, words_code}
 use Rattle.art_c.specs.declared.code.Code.{Code}
@@ -36,11 +37,17 @@ AreTakenOut with old x r new y =
     × (new ≡ without_keys taken old) × (y ≡ written (words_of_pairs taken) x) × (r.0 ≡ length taken)
     × TakeEnds (length taken) (length x) left new r.1
 
+-- of the room for nodes, that of so many may be used; where no memory is found, there was none for one more
+abbrev pub TakingLeavesRoom : ℕ → Code → Arena (List ℕ) ℕ → Arena (List ℕ) ℕ → Type 0
+TakingLeavesRoom taken code old new = UsesRoom taken old new × (code ≡ NoMemory → HasRoom old (suc taken) → ⊥)
+
 -- the same of those that come first and have the prefix
 abbrev pub AreFirstTaken : List ℕ → Pairs ℕ → Pairs ℕ → List ℕ → ℕ × Code → Pairs ℕ → List ℕ → Type 0
 AreFirstTaken prefix left old x r new y = AreTakenOut (while_so (λ p. begins_with prefix p.0) left) old x r new y
 
 -- The first of the pairs with the prefix are gone, as many as there are places for their words, and all others stay.
-abbrev pub IsPrefixTaken : List ℕ → Pairs ℕ → List ℕ × ℕ → Code → Pairs ℕ → List ℕ × ℕ → Type 0
+-- Room for as many nodes may be used; want of memory is told only where there was no room for one more.
+abbrev pub IsPrefixTaken : List ℕ → Map ℕ → List ℕ × ℕ → Code → Map ℕ → List ℕ × ℕ → Type 0
 IsPrefixTaken prefix old x code new y =
-    AreTakenOut (with_front (key_of whole) prefix old) old x.0 (y.1, code) new y.0
+    AreTakenOut (with_front (key_of whole) prefix old.pairs) old.pairs x.0 (y.1, code) new.pairs y.0
+    × TakingLeavesRoom y.1 code old.nodes new.nodes

@@ -1,10 +1,10 @@
 -- What is done with a map as a whole.
-use Rattle.std.specs.Prelude.{◌≡◌, ◌⊎◌, ℕ, List, [], Option, Some, None}
+use Rattle.std.specs.Prelude.{◌≡◌, ◌≢◌, ◌⊎◌, ℕ, List, [], Option, Some, None}
 use Rattle.std.specs.declared.ops.Bound.TheVariants.{Included, Excluded, Unbounded}
-use Rattle.art_arena.specs.arena.Arena.{HasRoom, IsTrimmed}
+use Rattle.art_arena.specs.arena.Arena.{HasNoRoom, HasRoom, IsTrimmed}
 use Rattle.art_map.specs.Ranges.{pairs_between}
 use Rattle.art_c.specs.Calls.{whole, Nothing}
-use Rattle.art_c.specs.Handles.{MapState, own, shut, Pairs, state_pairs}
+use Rattle.art_c.specs.Handles.{IsOwn, IsShut, Map, MapState, own, shut, Pairs, View}
 use Rattle.art_c.specs.declared.code.Code.{Code}
 use Rattle.art_c.specs.declared.handle.kept.Kept.{Kept}
 use Rattle.art_c.specs.declared.handle.kept.Kept.TheVariants.{Own, Frozen}
@@ -38,54 +38,60 @@ IsTrimmedStore (Some (Bytes kept)) = IsTrimmedIn kept
 IsTrimmedStore None = ⊥
 
 module _ {V : Type 0} where
-  -- a handle gets this map, in the place of what it had, or there is no memory and it has what it had
-  abbrev pub IsGiven : MapState V → Option (MapState V) → Code → Option (MapState V) → Type 0
-  IsGiven s x code y = ((code ≡ Done) × (y ≡ Some s)) ⊎ ((code ≡ NoMemory) × (y ≡ x))
+  -- a handle gets such a map, in the place of what it had, or there is no memory and it has what it had
+  abbrev pub IsGiven : View V → (MapState V → Type 0) → Option Store → Code → Option Store → Type 0
+  IsGiven view Is x code y =
+      ((code ≡ Done) × (s : MapState V) × (view y ≡ Some s) × Is s) ⊎ ((code ≡ NoMemory) × (y ≡ x))
 
   -- why another handle does not get a map
   abbrev pub IsSharedOf : MapState V → Code → Type 0
-  IsSharedOf (own pairs) code = code ≡ NotFound
-  IsSharedOf (shut pairs) code = code ≡ NoMemory
+  IsSharedOf (own m) code = code ≡ NotFound
+  IsSharedOf (shut m) code = code ≡ NoMemory
 
   -- another handle gets a copy of the pairs
-  abbrev pub GetsCopy : Pairs V → Option (MapState V) → Code → Option (MapState V) → Type 0
-  GetsCopy pairs x code y = IsGiven (own pairs) x code y
+  abbrev pub GetsCopy : View V → Pairs V → Option Store → Code → Option Store → Type 0
+  GetsCopy view pairs x code y = IsGiven view (IsOwn pairs) x code y
 
   -- the pairs from a key on move to another handle, or there is no memory and both have what they had
-  abbrev pub IsSplitOff : List ℕ → Pairs V → Option (MapState V) → Code → Pairs V → Option (MapState V) → Type 0
-  IsSplitOff key old x Done new y =
-      (new ≡ pairs_between whole Unbounded (Excluded key) old)
-      × (y ≡ Some (own (pairs_between whole (Included key) Unbounded old)))
-  IsSplitOff key old x NoMemory new y = (new ≡ old) × (y ≡ x)
-  IsSplitOff key old x code new y = ⊥
+  abbrev pub IsSplitOff : View V → List ℕ → Map V → Option Store → Code → Map V → Option Store → Type 0
+  IsSplitOff view key old x Done new y =
+      (new.pairs ≡ pairs_between whole Unbounded (Excluded key) old.pairs)
+      × (s : MapState V) × (view y ≡ Some s) × IsOwn (pairs_between whole (Included key) Unbounded old.pairs) s
+  IsSplitOff view key old x NoMemory new y = (new.pairs ≡ old.pairs) × (y ≡ x)
+  IsSplitOff view key old x code new y = ⊥
 
   -- all pairs stay, and the call may find no memory
-  abbrev pub IsReserved : Pairs V → Nothing → Code → Pairs V → Nothing → Type 0
-  IsReserved old _ code new _ = ((code ≡ Done) ⊎ (code ≡ NoMemory)) × (new ≡ old)
+  abbrev pub IsReserved : Map V → Nothing → Code → Map V → Nothing → Type 0
+  IsReserved old _ code new _ = ((code ≡ Done) ⊎ (code ≡ NoMemory)) × (new.pairs ≡ old.pairs)
 
-  abbrev pub IsShrunk : Pairs V → Nothing → Code → Pairs V → Nothing → Type 0
-  IsShrunk old _ code new _ = (code ≡ Done) × (new ≡ old)
+  abbrev pub IsShrunk : Map V → Nothing → Code → Map V → Nothing → Type 0
+  IsShrunk old _ code new _ = (code ≡ Done) × (new.pairs ≡ old.pairs)
 
-  abbrev pub IsCompacted : Pairs V → Nothing → Code → Pairs V → Nothing → Type 0
-  IsCompacted old _ code new _ = ((code ≡ Done) ⊎ (code ≡ NoMemory)) × (new ≡ old)
+  -- the same, and where it finds none, there are pairs, and the map is as it was
+  abbrev pub IsCompacted : Map V → Nothing → Code → Map V → Nothing → Type 0
+  IsCompacted old _ code new _ =
+      ((code ≡ Done) ⊎ ((code ≡ NoMemory) × (old.pairs ≢ []) × (new ≡ old))) × (new.pairs ≡ old.pairs)
 
-  -- all pairs are gone
-  abbrev pub IsCleared : Pairs V → Nothing → Code → Pairs V → Nothing → Type 0
-  IsCleared old _ code new _ = (code ≡ Done) × (new ≡ [])
+  -- all pairs are gone, and all memory for nodes
+  abbrev pub IsCleared : Map V → Nothing → Code → Map V → Nothing → Type 0
+  IsCleared old _ code new _ = (code ≡ Done) × (new.pairs ≡ []) × HasNoRoom new.nodes
 
-  -- the map is frozen, or there is no memory and it is as it was
+  -- The map is frozen: one that was frozen is what it was. Or it was not, and there is no memory, and its pairs are
+  -- those that it had.
   abbrev pub IsFrozen : MapState V → Nothing → Code → MapState V → Nothing → Type 0
-  IsFrozen s _ Done t _ = t ≡ shut (state_pairs s)
-  IsFrozen s _ NoMemory t _ = t ≡ s
-  IsFrozen s _ code t _ = ⊥
+  IsFrozen (own m) _ Done t _ = IsShut m.pairs t
+  IsFrozen (own m) _ NoMemory t _ = IsOwn m.pairs t
+  IsFrozen (own m) _ code t _ = ⊥
+  IsFrozen (shut m) _ code t _ = (code ≡ Done) × (t ≡ shut m)
 
-  -- the map can be changed, or another handle has it and it stays frozen
+  -- The map can be changed: one that could is what it was. Or another handle has it and it stays frozen.
   abbrev pub IsThawed : MapState V → Nothing → Code → MapState V → Nothing → Type 0
-  IsThawed s _ Done t _ = t ≡ own (state_pairs s)
-  IsThawed (shut pairs) _ Shared t _ = t ≡ shut pairs
-  IsThawed s _ code t _ = ⊥
+  IsThawed (own m) _ code t _ = (code ≡ Done) × (t ≡ own m)
+  IsThawed (shut m) _ Done t _ = t ≡ own m
+  IsThawed (shut m) _ Shared t _ = t ≡ shut m
+  IsThawed (shut m) _ code t _ = ⊥
 
   -- another handle gets a frozen map, too
-  abbrev pub IsShared : MapState V → Option (MapState V) → Code → MapState V → Option (MapState V) → Type 0
-  IsShared (own pairs) x code t y = (code ≡ NotFound) × (t ≡ own pairs) × (y ≡ x)
-  IsShared (shut pairs) x code t y = IsGiven (shut pairs) x code y × (t ≡ shut pairs)
+  abbrev pub IsShared : View V → MapState V → Option Store → Code → MapState V → Option Store → Type 0
+  IsShared view (own m) x code t y = (code ≡ NotFound) × (t ≡ own m) × (y ≡ x)
+  IsShared view (shut m) x code t y = IsGiven view (λ s. s ≡ shut m) x code y × (t ≡ shut m)

@@ -1,7 +1,7 @@
 //! Byte strings, which are the keys of each map and the values of some, and how they are copied in.
-ghost use Rattle.std.specs.Prelude.{◌≡◌, ℕ, List, IfOk};
+ghost use Rattle.std.specs.Prelude.{◌≡◌, ℕ, List, IfOk, OnErr};
 ghost use Rattle.art_bytes.specs.Keys.{AreBytes};
-ghost use Rattle.art_c.specs.Placed.{placed_bytes, ArePlaced};
+ghost use Rattle.art_c.specs.Placed.{placed_bytes, ArePlaced, IsLong};
 
 use art_bytes::{AsBytes, CloneBytes};
 use std::alloc::{AllocError, Global};
@@ -36,7 +36,8 @@ impl Model for Bytes {
 impl Bytes {
     /// A copy of these bytes. Up to thirty of them take no memory.
     pub(crate) fn copied(alloc: Global, bytes: &[u8]) -> Result<Bytes, AllocError>
-        ensures { IfOk result (λ made. made ≡ bytes.now) }
+        ensures copy { IfOk result (λ made. made ≡ bytes.now) }
+        ensures long { OnErr result (IsLong bytes.now) }
     {
         if bytes.len() <= SHORT {
             let mut room = [0; 30];

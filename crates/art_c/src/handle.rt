@@ -11,9 +11,9 @@ use held::Held;
 pub(crate) use kept::{Kept, Map, Owned};
 pub(crate) use store::Store;
 
-/// The handle of a map. It lies in the caller's memory, and owns a map where one is made.
+/// The handle of a map. It lies in the caller's memory, and owns a map where one is made. It can't be dropped, so no
+/// map is lost with it: where another takes its place, it is taken out and freed first.
 #[repr(C)]
-#[derive(Drop)]
 pub struct Handle {
     held: Held,
     is_made: bool,
@@ -28,11 +28,11 @@ macro_rules! reading {
                 Store::$kind(kept) => {
                     let $map = kept.map();
                     let code = $done;
-                    *$handle = Handle::of(store);
+                    $handle.set(store);
                     code.number()
                 }
                 Store::$other(_) => {
-                    *$handle = Handle::of(store);
+                    $handle.set(store);
                     Code::NoMap.number()
                 }
             },
@@ -49,15 +49,15 @@ macro_rules! changing {
                 Store::$kind(Kept::Own(owned)) => {
                     let $map = &mut owned.map;
                     let code = $done;
-                    *$handle = Handle::of(store);
+                    $handle.set(store);
                     code.number()
                 }
                 Store::$kind(Kept::Frozen(_)) => {
-                    *$handle = Handle::of(store);
+                    $handle.set(store);
                     Code::Frozen.number()
                 }
                 Store::$other(_) => {
-                    *$handle = Handle::of(store);
+                    $handle.set(store);
                     Code::NoMap.number()
                 }
             },
@@ -73,11 +73,11 @@ macro_rules! keeping {
             Some(mut store) => match &mut *store {
                 Store::$kind($kept) => {
                     let code = $done;
-                    *$handle = Handle::of(store);
+                    $handle.set(store);
                     code.number()
                 }
                 Store::$other(_) => {
-                    *$handle = Handle::of(store);
+                    $handle.set(store);
                     Code::NoMap.number()
                 }
             },

@@ -1,8 +1,9 @@
 //! What stands at a key, a word or a byte string, and how it stands in a buffer beside its key.
-ghost use Rattle.std.specs.Prelude.{◌≡◌, ◌+◌, ◌<◌, ℕ, List, length, IfOk, MatchOption};
+ghost use Rattle.std.specs.Prelude.{◌≡◌, ◌+◌, ◌<◌, ℕ, List, length, IfOk, IfSome, MatchOption, OnErr};
 ghost use Rattle.art_c.specs.Layouts.{bytes_key_len, bytes_pair, bytes_text_len, no_text, word_key_len, word_text_len};
 ghost use Rattle.art_c.specs.Layouts.{words_pair};
 ghost use Rattle.art_c.specs.Loads.{BeginsWithPair};
+ghost use Rattle.art_c.specs.Placed.{IsLong};
 
 use crate::bytes::Bytes;
 use art_bytes::AsBytes;
@@ -52,12 +53,15 @@ pub trait Value: Drop + Sized {
     /// The pair that the bytes begin with, which is told so: its key, the bytes of its value, and those after it; or
     /// nothing where the bytes end before it does.
     fn parts<'a>(item: Self::Item, bytes: &'a [u8]) -> Option<(&'a [u8], &'a [u8], &'a [u8])>
-        ensures { MatchOption result (length bytes.now < key_len_of item + text_len_of item)
-            (λ p. BeginsWithPair text_of item_of item bytes.now p.0.now (value_of item p.1.now) p.2.now) };
+        ensures parts { MatchOption result (length bytes.now < key_len_of item + text_len_of item)
+            (λ p. BeginsWithPair text_of item_of item bytes.now p.0.now (value_of item p.1.now) p.2.now) }
+        ensures lengths { IfSome result (λ p.
+            (length p.0.now ≡ key_len_of item) × (length p.1.now ≡ text_len_of item)) };
 
-    /// Makes the value of a pair. It fails only if out of memory.
+    /// Makes the value of a pair. It fails only if out of memory, and never where its bytes stand in place.
     fn made(alloc: Global, item: Self::Item, text: &[u8]) -> Result<Self, AllocError>
-        ensures { IfOk result (λ made. made ≡ value_of item text.now) };
+        ensures value { IfOk result (λ made. made ≡ value_of item text.now) }
+        ensures long { OnErr result (IsLong text.now) };
 }
 
 impl Value for u64 {

@@ -6,7 +6,7 @@ ghost use Rattle.art_c.specs.Answers.{Answers, OnlyReads};
 ghost use Rattle.art_c.specs.Calls.{first_with_prefix, IsPairRead, last_with_prefix, pair_above};
 ghost use Rattle.art_c.specs.Calls.{pair_below, pair_of_front};
 ghost use Rattle.art_c.specs.Copies.{rooms};
-ghost use Rattle.art_c.specs.Handles.{byte_map_of};
+ghost use Rattle.art_c.specs.Handles.{byte_map_in, store_of};
 
 use crate::calls::reads::{Wanted, pair_of};
 use crate::code::Code;
@@ -25,9 +25,9 @@ pub extern "C" fn bytes_find(
     value_room: &mut [u8],
     value_len: &mut usize,
 ) -> u32
-    ensures { Answers (OnlyReads (IsPairRead (pair_of_front query.now)))
-        (byte_map_of handle.old) (rooms key_room.old key_len.old value_room.old value_len.old)
-        result (byte_map_of handle.new) (rooms key_room.new key_len.new value_room.new value_len.new) }
+    ensures { Answers byte_map_in (OnlyReads (IsPairRead (pair_of_front query.now)))
+        (store_of handle.old) (rooms key_room.old key_len.old value_room.old value_len.old)
+        result (store_of handle.new) (rooms key_room.new key_len.new value_room.new value_len.new) }
 {
     reading!(alloc, handle, Bytes not Words, |map| {
         give_pair(pair_of(map, Wanted::FrontOf(query)), key_room, key_len, value_room, value_len)
@@ -44,9 +44,9 @@ pub extern "C" fn bytes_first(
     value_room: &mut [u8],
     value_len: &mut usize,
 ) -> u32
-    ensures { Answers (OnlyReads (IsPairRead first_item))
-        (byte_map_of handle.old) (rooms key_room.old key_len.old value_room.old value_len.old)
-        result (byte_map_of handle.new) (rooms key_room.new key_len.new value_room.new value_len.new) }
+    ensures { Answers byte_map_in (OnlyReads (IsPairRead first_item))
+        (store_of handle.old) (rooms key_room.old key_len.old value_room.old value_len.old)
+        result (store_of handle.new) (rooms key_room.new key_len.new value_room.new value_len.new) }
 {
     reading!(alloc, handle, Bytes not Words, |map| {
         give_pair(pair_of(map, Wanted::First), key_room, key_len, value_room, value_len)
@@ -63,9 +63,9 @@ pub extern "C" fn bytes_last(
     value_room: &mut [u8],
     value_len: &mut usize,
 ) -> u32
-    ensures { Answers (OnlyReads (IsPairRead last_item))
-        (byte_map_of handle.old) (rooms key_room.old key_len.old value_room.old value_len.old)
-        result (byte_map_of handle.new) (rooms key_room.new key_len.new value_room.new value_len.new) }
+    ensures { Answers byte_map_in (OnlyReads (IsPairRead last_item))
+        (store_of handle.old) (rooms key_room.old key_len.old value_room.old value_len.old)
+        result (store_of handle.new) (rooms key_room.new key_len.new value_room.new value_len.new) }
 {
     reading!(alloc, handle, Bytes not Words, |map| {
         give_pair(pair_of(map, Wanted::Last), key_room, key_len, value_room, value_len)
@@ -83,9 +83,9 @@ pub extern "C" fn bytes_first_with_prefix(
     value_room: &mut [u8],
     value_len: &mut usize,
 ) -> u32
-    ensures { Answers (OnlyReads (IsPairRead (first_with_prefix prefix.now)))
-        (byte_map_of handle.old) (rooms key_room.old key_len.old value_room.old value_len.old)
-        result (byte_map_of handle.new) (rooms key_room.new key_len.new value_room.new value_len.new) }
+    ensures { Answers byte_map_in (OnlyReads (IsPairRead (first_with_prefix prefix.now)))
+        (store_of handle.old) (rooms key_room.old key_len.old value_room.old value_len.old)
+        result (store_of handle.new) (rooms key_room.new key_len.new value_room.new value_len.new) }
 {
     reading!(alloc, handle, Bytes not Words, |map| {
         give_pair(pair_of(map, Wanted::FirstWithPrefix(prefix)), key_room, key_len, value_room, value_len)
@@ -103,9 +103,9 @@ pub extern "C" fn bytes_last_with_prefix(
     value_room: &mut [u8],
     value_len: &mut usize,
 ) -> u32
-    ensures { Answers (OnlyReads (IsPairRead (last_with_prefix prefix.now)))
-        (byte_map_of handle.old) (rooms key_room.old key_len.old value_room.old value_len.old)
-        result (byte_map_of handle.new) (rooms key_room.new key_len.new value_room.new value_len.new) }
+    ensures { Answers byte_map_in (OnlyReads (IsPairRead (last_with_prefix prefix.now)))
+        (store_of handle.old) (rooms key_room.old key_len.old value_room.old value_len.old)
+        result (store_of handle.new) (rooms key_room.new key_len.new value_room.new value_len.new) }
 {
     reading!(alloc, handle, Bytes not Words, |map| {
         give_pair(pair_of(map, Wanted::LastWithPrefix(prefix)), key_room, key_len, value_room, value_len)
@@ -123,9 +123,9 @@ pub extern "C" fn bytes_next(
     value_room: &mut [u8],
     value_len: &mut usize,
 ) -> u32
-    ensures { Answers (OnlyReads (IsPairRead (pair_above key.now)))
-        (byte_map_of handle.old) (rooms key_room.old key_len.old value_room.old value_len.old)
-        result (byte_map_of handle.new) (rooms key_room.new key_len.new value_room.new value_len.new) }
+    ensures { Answers byte_map_in (OnlyReads (IsPairRead (pair_above key.now)))
+        (store_of handle.old) (rooms key_room.old key_len.old value_room.old value_len.old)
+        result (store_of handle.new) (rooms key_room.new key_len.new value_room.new value_len.new) }
 {
     reading!(alloc, handle, Bytes not Words, |map| {
         give_pair(pair_of(map, Wanted::Above(key)), key_room, key_len, value_room, value_len)
@@ -143,9 +143,9 @@ pub extern "C" fn bytes_previous(
     value_room: &mut [u8],
     value_len: &mut usize,
 ) -> u32
-    ensures { Answers (OnlyReads (IsPairRead (pair_below key.now)))
-        (byte_map_of handle.old) (rooms key_room.old key_len.old value_room.old value_len.old)
-        result (byte_map_of handle.new) (rooms key_room.new key_len.new value_room.new value_len.new) }
+    ensures { Answers byte_map_in (OnlyReads (IsPairRead (pair_below key.now)))
+        (store_of handle.old) (rooms key_room.old key_len.old value_room.old value_len.old)
+        result (store_of handle.new) (rooms key_room.new key_len.new value_room.new value_len.new) }
 {
     reading!(alloc, handle, Bytes not Words, |map| {
         give_pair(pair_of(map, Wanted::Below(key)), key_room, key_len, value_room, value_len)

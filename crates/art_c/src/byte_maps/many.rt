@@ -3,9 +3,9 @@
 
 ghost use Rattle.art_c.specs.Answers.{Answers, Changes, OnlyReads};
 ghost use Rattle.art_c.specs.Calls.{whole};
-ghost use Rattle.art_c.specs.Handles.{byte_map_of};
+ghost use Rattle.art_c.specs.Handles.{byte_map_in, store_of};
 ghost use Rattle.art_c.specs.Layouts.{bytes_key_len, bytes_pair, bytes_text_len};
-ghost use Rattle.art_c.specs.Loads.{IsLoaded};
+ghost use Rattle.art_c.specs.Loads.{IsLoadedIn};
 ghost use Rattle.art_c.specs.Spans.{reach};
 ghost use Rattle.art_c.specs.Walks.{IsWalked, many_rooms};
 
@@ -30,9 +30,9 @@ pub extern "C" fn bytes_walk(
     pairs: &mut [BytesPair],
     count: &mut usize,
 ) -> u32
-    ensures { Answers (OnlyReads (IsWalked whole bytes_pair (reach back from from_key.now to to_key.now)))
-        (byte_map_of handle.old) (many_rooms room.old pairs.old count.old)
-        result (byte_map_of handle.new) (many_rooms room.new pairs.new count.new) }
+    ensures { Answers byte_map_in (OnlyReads (IsWalked whole bytes_pair (reach back from from_key.now to to_key.now)))
+        (store_of handle.old) (many_rooms room.old pairs.old count.old)
+        result (store_of handle.new) (many_rooms room.new pairs.new count.new) }
 {
     let span = Span::new(back, from, from_key, to, to_key);
     reading!(alloc, handle, Bytes not Words, |map| walks::walk(map, span, room, pairs, count))
@@ -47,9 +47,9 @@ pub extern "C" fn bytes_load(
     pairs: &[BytesPair],
     taken: &mut usize,
 ) -> u32
-    ensures { Answers (Changes (IsLoaded whole bytes_pair bytes_key_len bytes_text_len bytes.now pairs.now))
-        (byte_map_of handle.old) taken.old
-        result (byte_map_of handle.new) taken.new }
+    ensures { Answers byte_map_in
+        (Changes (IsLoadedIn whole bytes_pair bytes_key_len bytes_text_len bytes.now pairs.now))
+        (store_of handle.old) taken.old result (store_of handle.new) taken.new }
 {
     changing!(alloc, handle, Bytes not Words, |map| loads::load(map, alloc, bytes, pairs, taken))
 }

@@ -3,8 +3,9 @@
 
 ghost use Rattle.std.specs.Prelude.{◌≡◌};
 ghost use Rattle.art_c.specs.Answers.{Answers, Changes, OnlyReads};
-ghost use Rattle.art_c.specs.Calls.{is_stored, IsBytesPut, IsRemoved, IsValueRead};
-ghost use Rattle.art_c.specs.Handles.{byte_map_of, pairs_or_none, store_of};
+ghost use Rattle.art_c.specs.Calls.{is_stored, IsValueRead};
+ghost use Rattle.art_c.specs.Handles.{byte_map_in, byte_map_of, pairs_or_none, store_of};
+ghost use Rattle.art_c.specs.Puts.{IsBytesPut, IsRemoved};
 
 use crate::calls::changes;
 use crate::code::Code;
@@ -16,8 +17,8 @@ use std::alloc::Global;
 /// Puts a pair in.
 #[unsafe(no_mangle)]
 pub extern "C" fn bytes_put(alloc: Global, handle: &mut Handle, key: &[u8], value: &[u8]) -> u32
-    ensures { Answers (Changes (IsBytesPut key.now value.now)) (byte_map_of handle.old) tt
-        result (byte_map_of handle.new) tt }
+    ensures { Answers byte_map_in (Changes (IsBytesPut key.now value.now)) (store_of handle.old) tt
+        result (store_of handle.new) tt }
 {
     changing!(alloc, handle, Bytes not Words, |map| changes::put_bytes(map, alloc, key, value))
 }
@@ -31,8 +32,8 @@ pub extern "C" fn bytes_get(
     room: &mut [u8],
     value_len: &mut usize,
 ) -> u32
-    ensures { Answers (OnlyReads (IsValueRead key.now)) (byte_map_of handle.old) (room.old, value_len.old)
-        result (byte_map_of handle.new) (room.new, value_len.new) }
+    ensures { Answers byte_map_in (OnlyReads (IsValueRead key.now)) (store_of handle.old) (room.old, value_len.old)
+        result (store_of handle.new) (room.new, value_len.new) }
 {
     reading!(alloc, handle, Bytes not Words, |map| give_value(map.get(&SliceKey(key)), room, value_len))
 }
@@ -47,11 +48,11 @@ pub extern "C" fn bytes_contains(alloc: Global, handle: &mut Handle, key: &[u8])
         Some(store) => match &*store {
             Store::Bytes(kept) => {
                 let is = kept.map().get(&SliceKey(key)).is_some();
-                *handle = Handle::of(store);
+                handle.set(store);
                 is
             }
             Store::Words(_) => {
-                *handle = Handle::of(store);
+                handle.set(store);
                 false
             }
         },
@@ -62,8 +63,8 @@ pub extern "C" fn bytes_contains(alloc: Global, handle: &mut Handle, key: &[u8])
 /// Takes out the pair with a key.
 #[unsafe(no_mangle)]
 pub extern "C" fn bytes_remove(alloc: Global, handle: &mut Handle, key: &[u8]) -> u32
-    ensures { Answers (Changes (IsRemoved key.now)) (byte_map_of handle.old) tt
-        result (byte_map_of handle.new) tt }
+    ensures { Answers byte_map_in (Changes (IsRemoved key.now)) (store_of handle.old) tt
+        result (store_of handle.new) tt }
 {
     changing!(alloc, handle, Bytes not Words, |map| changes::remove_bytes(map, key))
 }

@@ -1,8 +1,11 @@
 //! Pairs are put in and taken out.
-ghost use Rattle.std.specs.Prelude.{◌≡◌, [], IfErr, IfOk, MatchResult};
+ghost use Rattle.std.specs.Prelude.{◌≡◌, [], None, IfErr, IfOk, MatchResult, OnErr};
+ghost use Rattle.art_arena.specs.arena.Arena.{HasRoom, KeepsRoomOf};
 ghost use Rattle.art_operations.specs.Pairs.{CanPut, with_pair_put};
-ghost use Rattle.art_c.specs.Calls.{IsBytesPut, IsPrefixRemoved, GoesIn, IsPutRefused, IsRemoved, IsWordPut};
-ghost use Rattle.art_c.specs.Calls.{IsWordRemoved, stored_value, whole};
+ghost use Rattle.art_c.specs.Calls.{GoesIn, IsPutRefused, stored_value, whole};
+ghost use Rattle.art_c.specs.NodeRoom.{NeedsMemory, PutLeavesRoom};
+ghost use Rattle.art_c.specs.Placed.{IsLong};
+ghost use Rattle.art_c.specs.Puts.{IsBytesPut, IsPrefixRemoved, IsRemoved, IsWordPut, IsWordRemoved};
 ghost use Rattle.art_c.specs.declared.code.Code.TheVariants.{NoMemory};
 
 use crate::bytes::Bytes;
@@ -23,9 +26,12 @@ pub(super) fn put<V: Value>(
     item: V::Item,
     text: &[u8],
 ) -> Result<Option<V>, Code>
-    ensures { MatchResult result
+    ensures put { MatchResult result
         (λ was. GoesIn key.now (V.value_of item text.now) map.old.pairs was map.new.pairs)
         (λ code. IsPutRefused key.now map.old.pairs code map.new.pairs) }
+    ensures room { MatchResult result
+        (λ was. PutLeavesRoom was map.old map.new) (λ code. KeepsRoomOf map.old.nodes map.new.nodes) }
+    ensures memory { IfErr result (λ code. code ≡ NoMemory → NeedsMemory key.now text.now map.old) }
 {
     let Ok(place) = map.find_place(&SliceKey(key)) else {
         return Err(Code::Conflict);
@@ -52,10 +58,14 @@ fn put_new<V: Value>(
     key: &[u8],
     value: V,
 ) -> Result<Option<V>, Code>
-    requires { CanPut whole 16 map.old.nodes place key.now map.old.pairs [] }
+    requires place { CanPut whole 16 map.old.nodes place key.now map.old.pairs [] }
+    requires new { stored_value key.now map.old.pairs ≡ None }
     ensures put { IfOk result (λ was. (was ≡ stored_value key.now map.old.pairs)
         × (map.new.pairs ≡ with_pair_put whole key.now value map.old.pairs)) }
     ensures refused { IfErr result (λ code. (code ≡ NoMemory) × (map.new.pairs ≡ map.old.pairs)) }
+    ensures room { MatchResult result
+        (λ was. PutLeavesRoom was map.old map.new) (λ code. KeepsRoomOf map.old.nodes map.new.nodes) }
+    ensures long { OnErr result (HasRoom map.old.nodes 2 → IsLong key.now) }
 {
     let Ok(key) = Bytes::copied(alloc, key) else {
         return Err(Code::NoMemory);
@@ -73,7 +83,7 @@ pub(crate) fn put_word(
     word: u64,
     old: &mut u64,
 ) -> Code
-    ensures { IsWordPut key.now word map.old.pairs old.old result map.new.pairs old.new }
+    ensures { IsWordPut key.now word map.old old.old result map.new old.new }
 {
     let item = WordsPair {
         key_len: key.len(),
@@ -90,7 +100,7 @@ pub(crate) fn put_word(
 }
 
 pub(crate) fn put_bytes(map: &mut Map<Bytes>, alloc: Global, key: &[u8], value: &[u8]) -> Code
-    ensures { IsBytesPut key.now value.now map.old.pairs tt result map.new.pairs tt }
+    ensures { IsBytesPut key.now value.now map.old tt result map.new tt }
 {
     let item = BytesPair {
         key_len: key.len(),
@@ -104,7 +114,7 @@ pub(crate) fn put_bytes(map: &mut Map<Bytes>, alloc: Global, key: &[u8], value: 
 }
 
 pub(crate) fn remove_word(map: &mut Map<u64>, key: &[u8], word: &mut u64) -> Code
-    ensures { IsWordRemoved key.now map.old.pairs word.old result map.new.pairs word.new }
+    ensures { IsWordRemoved key.now map.old word.old result map.new word.new }
 {
     match map.remove(&SliceKey(key)) {
         Ok(Some(was)) => {
@@ -117,7 +127,7 @@ pub(crate) fn remove_word(map: &mut Map<u64>, key: &[u8], word: &mut u64) -> Cod
 }
 
 pub(crate) fn remove_bytes(map: &mut Map<Bytes>, key: &[u8]) -> Code
-    ensures { IsRemoved key.now map.old.pairs tt result map.new.pairs tt }
+    ensures { IsRemoved key.now map.old tt result map.new tt }
 {
     match map.remove(&SliceKey(key)) {
         Ok(Some(_was)) => Code::Done,
@@ -127,7 +137,7 @@ pub(crate) fn remove_bytes(map: &mut Map<Bytes>, key: &[u8]) -> Code
 }
 
 pub(crate) fn remove_prefix<V: Drop>(map: &mut Map<V>, prefix: &[u8], count: &mut usize) -> Code
-    ensures { IsPrefixRemoved prefix.now map.old.pairs count.old result map.new.pairs count.new }
+    ensures { IsPrefixRemoved prefix.now map.old count.old result map.new count.new }
 {
     match map.remove_prefix(prefix) {
         Ok(removed) => {

@@ -1,7 +1,7 @@
 //! All pairs of a map move into another.
 ghost use Rattle.std.specs.Prelude.{◌≡◌, MatchOption};
-ghost use Rattle.art_c.specs.Handles.{byte_map_of, word_map_of};
-ghost use Rattle.art_c.specs.Joins.{ArePairsMoved, IsAppended, MoveEnds, MovesFirst};
+ghost use Rattle.art_c.specs.Handles.{byte_map_in, store_of, word_map_in};
+ghost use Rattle.art_c.specs.Joins.{IsJoined, IsAppended, MoveEnds, MovesFirst};
 
 use crate::bytes::Bytes;
 use crate::code::Code;
@@ -37,7 +37,7 @@ fn move_first<V: Drop>(map: &mut Map<V>, other: &mut Map<V>) -> Option<Code>
 
 /// Moves the pairs of another map while they can be put in. An empty map takes them all at once.
 fn append<V: Drop>(map: &mut Map<V>, other: &mut Map<V>) -> Code
-    ensures { ArePairsMoved other.old.pairs map.old.pairs result other.new.pairs map.new.pairs }
+    ensures { IsJoined other.old map.old result other.new map.new }
 {
     // Tells that they ascend.
     let (_nodes, _root) = other.nodes();
@@ -54,21 +54,21 @@ fn append<V: Drop>(map: &mut Map<V>, other: &mut Map<V>) -> Code
 
 #[tactic(auto, using(crate::proofs::Answered::none_of_words))]
 pub(crate) fn append_words(alloc: Global, map: &mut Map<u64>, other: &mut Handle) -> Code
-    ensures { IsAppended map.old.pairs (word_map_of other.old) result map.new.pairs (word_map_of other.new) }
+    ensures { IsAppended word_map_in map.old (store_of other.old) result map.new (store_of other.new) }
 {
     match other.take(alloc) {
         Some(mut store) => match &mut *store {
             Store::Words(Kept::Own(owned)) => {
                 let code = append(map, &mut owned.map);
-                *other = Handle::of(store);
+                other.set(store);
                 code
             }
             Store::Words(Kept::Frozen(_)) => {
-                *other = Handle::of(store);
+                other.set(store);
                 Code::Frozen
             }
             Store::Bytes(_) => {
-                *other = Handle::of(store);
+                other.set(store);
                 Code::NoMap
             }
         },
@@ -78,21 +78,21 @@ pub(crate) fn append_words(alloc: Global, map: &mut Map<u64>, other: &mut Handle
 
 #[tactic(auto, using(crate::proofs::Answered::none_of_bytes))]
 pub(crate) fn append_bytes(alloc: Global, map: &mut Map<Bytes>, other: &mut Handle) -> Code
-    ensures { IsAppended map.old.pairs (byte_map_of other.old) result map.new.pairs (byte_map_of other.new) }
+    ensures { IsAppended byte_map_in map.old (store_of other.old) result map.new (store_of other.new) }
 {
     match other.take(alloc) {
         Some(mut store) => match &mut *store {
             Store::Bytes(Kept::Own(owned)) => {
                 let code = append(map, &mut owned.map);
-                *other = Handle::of(store);
+                other.set(store);
                 code
             }
             Store::Bytes(Kept::Frozen(_)) => {
-                *other = Handle::of(store);
+                other.set(store);
                 Code::Frozen
             }
             Store::Words(_) => {
-                *other = Handle::of(store);
+                other.set(store);
                 Code::NoMap
             }
         },

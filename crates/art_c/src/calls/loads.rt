@@ -1,10 +1,14 @@
 //! Many pairs are put in.
-ghost use Rattle.std.specs.Prelude.{◌≡◌, if◌then◌else◌, MatchResult, option_map};
+ghost use Rattle.std.specs.Prelude.{◌≡◌, ◌+◌, ◌*◌, ◌≤◌, ℕ, suc, false, if◌then◌else◌, IfOk, MatchResult, option_map};
+ghost use Rattle.art_arena.specs.arena.Shapes.{key_of};
 ghost use Rattle.art_bytes.specs.Keys.{AreBytes};
 ghost use Rattle.art_c.specs.Calls.{IsPutRefused, whole};
 ghost use Rattle.art_c.specs.Handles.{Pairs};
-ghost use Rattle.art_c.specs.Loads.{is_above, IsLoaded};
-ghost use Rattle.art_map.specs.Builders.{HasGathered};
+ghost use Rattle.art_c.specs.Loads.{AreShort, is_above, IsLoaded, IsLoadedIn};
+ghost use Rattle.art_c.specs.Placed.{IsLong};
+ghost use Rattle.art_c.specs.declared.code.Code.TheVariants.{NoMemory};
+ghost use Rattle.art_map.specs.Builders.{HasGathered, HasRoomLeft};
+ghost use Rattle.art_operations.specs.KeyedLists.{IsBlocked};
 ghost use Rattle.art_operations.specs.Pairs.{with_pair_put};
 
 use crate::bytes::Bytes;
@@ -38,8 +42,13 @@ fn put_after<V: Value>(
     text: &[u8],
 ) -> bool
     requires taken { (pairs : Pairs V) × HasGathered whole AreBytes builder.old pairs }
-    ensures { (pairs : Pairs V) → HasGathered whole AreBytes builder.old pairs → HasGathered whole AreBytes builder.new
+    ensures pairs { (pairs : Pairs V) → HasGathered whole AreBytes builder.old pairs
+        → HasGathered whole AreBytes builder.new
         (if result then with_pair_put whole key.now (V.value_of item text.now) pairs else pairs) }
+    ensures room { (n : ℕ) → 1 ≤ n → HasRoomLeft builder.old (if result then n + 2 else n) → HasRoomLeft builder.new n }
+    ensures refused { result ≡ false → (pairs : Pairs V) → HasGathered whole AreBytes builder.old pairs
+        → HasRoomLeft builder.old 2 → (IsLong key.now → ⊥) → (IsLong text.now → ⊥)
+        → IsBlocked (key_of whole) key.now pairs }
 {
     let Ok(key) = Bytes::copied(alloc, key) else {
         return false;
@@ -59,13 +68,17 @@ fn put_rising<'a, V: Value>(
     taken: &mut usize,
 ) -> Result<Code, &'a [u8]>
     requires taken { (pairs : Pairs V) × HasGathered whole AreBytes builder.old pairs }
-    ensures { (pairs : Pairs V) → HasGathered whole AreBytes builder.old pairs
+    ensures loaded { (pairs : Pairs V) → HasGathered whole AreBytes builder.old pairs
         → (new : Pairs V) × HasGathered whole AreBytes builder.new new × MatchResult result
         (λ code. IsLoaded V.text_of V.item_of V.key_len_of V.text_len_of bytes.now items.now pairs taken.old
         code new taken.new)
-        (λ key. (code : Code) → IsPutRefused key.now new code new
+        (λ key. ((code : Code) → IsPutRefused key.now new code new
         → IsLoaded V.text_of V.item_of V.key_len_of V.text_len_of bytes.now items.now pairs taken.old
-        code new taken.new) }
+        code new taken.new)
+        × (HasRoomLeft builder.old (2 * suc taken.new) → AreShort V.key_len_of V.text_len_of items.now
+        → IsBlocked (key_of whole) key.now new)) }
+    ensures room { (n : ℕ) → 1 ≤ n → HasRoomLeft builder.old (n + 2 * taken.new) → HasRoomLeft builder.new n }
+    ensures ended { IfOk result (λ code. code ≡ NoMemory → ⊥) }
 {
     let (mut rest, mut before) = (bytes, None);
     for (at, item) in items.iter().enumerate() {
@@ -103,8 +116,8 @@ pub(crate) fn load<V: Value>(
     items: &[V::Item],
     taken: &mut usize,
 ) -> Code
-    ensures { IsLoaded V.text_of V.item_of V.key_len_of V.text_len_of bytes.now items.now map.old.pairs taken.old
-        result map.new.pairs taken.new }
+    ensures { IsLoadedIn V.text_of V.item_of V.key_len_of V.text_len_of bytes.now items.now map.old taken.old
+        result map.new taken.new }
 {
     let mut builder = TreeMapBuilder::from_map(mem::replace(map, TreeMap::new(alloc)));
     let ended = put_rising(&mut builder, alloc, bytes, items, taken);

@@ -1,7 +1,7 @@
 //! Pairs whose keys begin with a prefix are taken out, some at a time.
 ghost use Rattle.std.specs.Prelude.{◌≡◌};
 ghost use Rattle.art_map.specs.Extractions.{left_of, map_of};
-ghost use Rattle.art_c.specs.Prefixes.{AreFirstTaken, IsNextWith, IsPrefixTaken};
+ghost use Rattle.art_c.specs.Prefixes.{AreFirstTaken, IsNextWith, IsPrefixTaken, TakingLeavesRoom};
 
 use crate::bytes::Bytes;
 use crate::calls::walks::words_code;
@@ -29,6 +29,7 @@ fn take_first(pairs: &mut Words<'_>, prefix: &[u8], words: &mut [u64]) -> (usize
     ensures same_map { (map_of pairs.new).ghost_name ≡ (map_of pairs.old).ghost_name }
     ensures taken { AreFirstTaken prefix.now (left_of pairs.old) (map_of pairs.old).now.pairs words.old
         result (map_of pairs.new).now.pairs words.new }
+    ensures room { TakingLeavesRoom result.0 result.1 (map_of pairs.old).now.nodes (map_of pairs.new).now.nodes }
 {
     let mut count = 0;
     while is_next_with(pairs, prefix) {
@@ -50,8 +51,8 @@ pub(crate) fn take_prefix(
     words: &mut [u64],
     count: &mut usize,
 ) -> Code
-    ensures { IsPrefixTaken prefix.now map.old.pairs (words.old, count.old)
-        result map.new.pairs (words.new, count.new) }
+    ensures { IsPrefixTaken prefix.now map.old (words.old, count.old)
+        result map.new (words.new, count.new) }
 {
     // Tells that they ascend.
     let (_nodes, _root) = map.nodes();

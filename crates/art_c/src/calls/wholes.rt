@@ -4,7 +4,7 @@
 ghost use Rattle.std.specs.Prelude.{◌≡◌, ◌⊎◌, ◌*◌, [], MatchResult, true};
 ghost use Rattle.art_arena.specs.arena.Arena.{HasRoom, IsTrimmed};
 ghost use Rattle.art_c.specs.Codes.{code_number};
-ghost use Rattle.art_c.specs.Handles.{byte_map_of, is_shut, own, state_of, store_of, word_map_of};
+ghost use Rattle.art_c.specs.Handles.{byte_map_in, IsOwn, is_shut, state_of, store_of, word_map_in};
 ghost use Rattle.art_c.specs.Wholes.{IsCleared, IsCompacted, GetsCopy, IsFrozen, IsGiven, IsGivenStore, IsReserved};
 ghost use Rattle.art_c.specs.Wholes.{IsShared, IsSharedOf, IsShrunk, IsSplitOff, IsThawed};
 ghost use Rattle.art_c.specs.declared.code.Code.TheVariants.{Done, NoMemory};
@@ -24,8 +24,7 @@ pub(crate) fn give(alloc: Global, to: &mut Handle, store: Store) -> Code
 {
     match Box::new(alloc, store) {
         Ok(store) => {
-            let _old = to.take(alloc);
-            *to = Handle::of(store);
+            to.replace(alloc, store);
             Code::Done
         }
         Err(_) => Code::NoMemory,
@@ -34,7 +33,7 @@ pub(crate) fn give(alloc: Global, to: &mut Handle, store: Store) -> Code
 
 /// An empty map.
 pub(crate) fn empty<V: Drop>(alloc: Global) -> Kept<V>
-    ensures { state_of result ≡ own [] }
+    ensures { IsOwn [] (state_of result) }
 {
     Kept::Own(Owned {
         map: TreeMap::new(alloc),
@@ -42,7 +41,7 @@ pub(crate) fn empty<V: Drop>(alloc: Global) -> Kept<V>
 }
 
 pub(crate) fn clone_words(alloc: Global, map: &Map<u64>, to: &mut Handle) -> Code
-    ensures { GetsCopy map.now.pairs (word_map_of to.old) result (word_map_of to.new) }
+    ensures { GetsCopy word_map_in map.now.pairs (store_of to.old) result (store_of to.new) }
 {
     match map.clone() {
         Ok(map) => give(alloc, to, Store::Words(Kept::Own(Owned { map }))),
@@ -51,7 +50,7 @@ pub(crate) fn clone_words(alloc: Global, map: &Map<u64>, to: &mut Handle) -> Cod
 }
 
 pub(crate) fn clone_bytes(alloc: Global, map: &Map<Bytes>, to: &mut Handle) -> Code
-    ensures { GetsCopy map.now.pairs (byte_map_of to.old) result (byte_map_of to.new) }
+    ensures { GetsCopy byte_map_in map.now.pairs (store_of to.old) result (store_of to.new) }
 {
     match map.clone() {
         Ok(map) => give(alloc, to, Store::Bytes(Kept::Own(Owned { map }))),
@@ -61,7 +60,7 @@ pub(crate) fn clone_bytes(alloc: Global, map: &Map<Bytes>, to: &mut Handle) -> C
 
 /// Moves the pairs from a key on into a map of their own. The box that takes them is allocated first.
 pub(crate) fn split_words(alloc: Global, map: &mut Map<u64>, key: &[u8], to: &mut Handle) -> Code
-    ensures { IsSplitOff key.now map.old.pairs (word_map_of to.old) result map.new.pairs (word_map_of to.new) }
+    ensures { IsSplitOff word_map_in key.now map.old (store_of to.old) result map.new (store_of to.new) }
 {
     let Ok(mut store) = Box::new(alloc, Store::Words(empty(alloc))) else {
         return Code::NoMemory;
@@ -69,8 +68,7 @@ pub(crate) fn split_words(alloc: Global, map: &mut Map<u64>, key: &[u8], to: &mu
     match map.split_off(&SliceKey(key)) {
         Ok(map) => {
             *store = Store::Words(Kept::Own(Owned { map }));
-            let _old = to.take(alloc);
-            *to = Handle::of(store);
+            to.replace(alloc, store);
             Code::Done
         }
         Err(_) => Code::NoMemory,
@@ -78,7 +76,7 @@ pub(crate) fn split_words(alloc: Global, map: &mut Map<u64>, key: &[u8], to: &mu
 }
 
 pub(crate) fn split_bytes(alloc: Global, map: &mut Map<Bytes>, key: &[u8], to: &mut Handle) -> Code
-    ensures { IsSplitOff key.now map.old.pairs (byte_map_of to.old) result map.new.pairs (byte_map_of to.new) }
+    ensures { IsSplitOff byte_map_in key.now map.old (store_of to.old) result map.new (store_of to.new) }
 {
     let Ok(mut store) = Box::new(alloc, Store::Bytes(empty(alloc))) else {
         return Code::NoMemory;
@@ -86,8 +84,7 @@ pub(crate) fn split_bytes(alloc: Global, map: &mut Map<Bytes>, key: &[u8], to: &
     match map.split_off(&SliceKey(key)) {
         Ok(map) => {
             *store = Store::Bytes(Kept::Own(Owned { map }));
-            let _old = to.take(alloc);
-            *to = Handle::of(store);
+            to.replace(alloc, store);
             Code::Done
         }
         Err(_) => Code::NoMemory,
@@ -95,7 +92,7 @@ pub(crate) fn split_bytes(alloc: Global, map: &mut Map<Bytes>, key: &[u8], to: &
 }
 
 pub(crate) fn reserve<V: Drop>(map: &mut Map<V>, additional: usize) -> Code
-    ensures pairs { IsReserved map.old.pairs tt result map.new.pairs tt }
+    ensures pairs { IsReserved map.old tt result map.new tt }
     ensures room { result ≡ Done → HasRoom map.new.nodes (2 * additional) }
     ensures succeeds { result ≡ NoMemory → HasRoom map.old.nodes (2 * additional) → ⊥ }
 {
@@ -106,7 +103,7 @@ pub(crate) fn reserve<V: Drop>(map: &mut Map<V>, additional: usize) -> Code
 }
 
 pub(crate) fn shrink<V: Drop>(map: &mut Map<V>) -> Code
-    ensures pairs { IsShrunk map.old.pairs tt result map.new.pairs tt }
+    ensures pairs { IsShrunk map.old tt result map.new tt }
     ensures trimmed { IsTrimmed map.new.nodes }
 {
     map.shrink_to_fit();
@@ -114,7 +111,7 @@ pub(crate) fn shrink<V: Drop>(map: &mut Map<V>) -> Code
 }
 
 pub(crate) fn compact<V: Drop>(map: &mut Map<V>) -> Code
-    ensures pairs { IsCompacted map.old.pairs tt result map.new.pairs tt }
+    ensures pairs { IsCompacted map.old tt result map.new tt }
     ensures trimmed { result ≡ Done → IsTrimmed map.new.nodes }
     ensures kept { result ≡ NoMemory → map.new ≡ map.old }
 {
@@ -125,7 +122,7 @@ pub(crate) fn compact<V: Drop>(map: &mut Map<V>) -> Code
 }
 
 pub(crate) fn clear<V: Drop>(alloc: Global, map: &mut Map<V>) -> Code
-    ensures { IsCleared map.old.pairs tt result map.new.pairs tt }
+    ensures { IsCleared map.old tt result map.new tt }
 {
     *map = TreeMap::new(alloc);
     Code::Done
@@ -197,7 +194,7 @@ fn shared_of<V: Drop>(kept: &Kept<V>) -> Result<Kept<V>, Code>
 }
 
 pub(crate) fn share_words(alloc: Global, kept: &Kept<u64>, to: &mut Handle) -> Code
-    ensures { IsShared (state_of kept.now) (word_map_of to.old) result (state_of kept.now) (word_map_of to.new) }
+    ensures { IsShared word_map_in (state_of kept.now) (store_of to.old) result (state_of kept.now) (store_of to.new) }
 {
     match shared_of(kept) {
         Ok(other) => give(alloc, to, Store::Words(other)),
@@ -206,7 +203,7 @@ pub(crate) fn share_words(alloc: Global, kept: &Kept<u64>, to: &mut Handle) -> C
 }
 
 pub(crate) fn share_bytes(alloc: Global, kept: &Kept<Bytes>, to: &mut Handle) -> Code
-    ensures { IsShared (state_of kept.now) (byte_map_of to.old) result (state_of kept.now) (byte_map_of to.new) }
+    ensures { IsShared byte_map_in (state_of kept.now) (store_of to.old) result (state_of kept.now) (store_of to.new) }
 {
     match shared_of(kept) {
         Ok(other) => give(alloc, to, Store::Bytes(other)),

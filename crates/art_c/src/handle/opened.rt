@@ -32,8 +32,9 @@ impl Handle {
     fn into_store(self, alloc: Global) -> Option<Box<Store>>
         ensures { store_of self ≡ option_map (λ store. store.value) result }
     {
-        if self.is_made {
-            Some(self.held.into_loose(alloc).into_box())
+        let Handle { held, is_made } = self;
+        if is_made {
+            Some(held.into_loose(alloc).into_box())
         } else {
             None
         }
@@ -45,5 +46,31 @@ impl Handle {
         ensures left { store_of self.new ≡ None }
     {
         std::mem::replace(self, Handle::empty()).into_store(alloc)
+    }
+
+    // Puts a map into a handle that has none.
+    pub(crate) fn set(&mut self, store: Box<Store>)
+        requires { store_of self.old ≡ None }
+        ensures { store_of self.new ≡ Some store.value }
+    {
+        std::mem::replace(self, Handle::of(store)).end()
+    }
+
+    // Puts a map into a handle in the place of the one that it has, which is freed.
+    pub(crate) fn replace(&mut self, alloc: Global, store: Box<Store>)
+        ensures { store_of self.new ≡ Some store.value }
+    {
+        let _old = self.take(alloc);
+        self.set(store);
+    }
+
+    // Lets a handle go that has no map.
+    fn end(self)
+        requires { store_of self ≡ None }
+    {
+        let Handle {
+            held: _held,
+            is_made: _is_made,
+        } = self;
     }
 }

@@ -6,7 +6,7 @@ ghost use Rattle.art_c.specs.Answers.{Answers, OnlyReads};
 ghost use Rattle.art_c.specs.Calls.{first_with_prefix, IsLenWordRead, IsPairsWordRead, IsWordPairRead};
 ghost use Rattle.art_c.specs.Calls.{last_with_prefix, pair_above, pair_below, pair_of_front};
 ghost use Rattle.art_c.specs.Copies.{key_room};
-ghost use Rattle.art_c.specs.Handles.{word_map_of};
+ghost use Rattle.art_c.specs.Handles.{store_of, word_map_in};
 
 use crate::calls::reads::{Wanted, pair_of};
 use crate::code::Code;
@@ -23,9 +23,9 @@ pub extern "C" fn words_find(
     key_len: &mut usize,
     word: &mut u64,
 ) -> u32
-    ensures { Answers (OnlyReads (IsLenWordRead (pair_of_front query.now)))
-        (word_map_of handle.old) (key_len.old, word.old)
-        result (word_map_of handle.new) (key_len.new, word.new) }
+    ensures { Answers word_map_in (OnlyReads (IsLenWordRead (pair_of_front query.now)))
+        (store_of handle.old) (key_len.old, word.old)
+        result (store_of handle.new) (key_len.new, word.new) }
 {
     reading!(alloc, handle, Words not Bytes, |map| {
         give_len_word(pair_of(map, Wanted::FrontOf(query)), key_len, word)
@@ -41,9 +41,9 @@ pub extern "C" fn words_first(
     key_len: &mut usize,
     word: &mut u64,
 ) -> u32
-    ensures { Answers (OnlyReads (IsWordPairRead first_item))
-        (word_map_of handle.old) (key_room room.old key_len.old word.old)
-        result (word_map_of handle.new) (key_room room.new key_len.new word.new) }
+    ensures { Answers word_map_in (OnlyReads (IsWordPairRead first_item))
+        (store_of handle.old) (key_room room.old key_len.old word.old)
+        result (store_of handle.new) (key_room room.new key_len.new word.new) }
 {
     reading!(alloc, handle, Words not Bytes, |map| {
         give_word_pair(pair_of(map, Wanted::First), room, key_len, word)
@@ -59,9 +59,9 @@ pub extern "C" fn words_last(
     key_len: &mut usize,
     word: &mut u64,
 ) -> u32
-    ensures { Answers (OnlyReads (IsWordPairRead last_item))
-        (word_map_of handle.old) (key_room room.old key_len.old word.old)
-        result (word_map_of handle.new) (key_room room.new key_len.new word.new) }
+    ensures { Answers word_map_in (OnlyReads (IsWordPairRead last_item))
+        (store_of handle.old) (key_room room.old key_len.old word.old)
+        result (store_of handle.new) (key_room room.new key_len.new word.new) }
 {
     reading!(alloc, handle, Words not Bytes, |map| {
         give_word_pair(pair_of(map, Wanted::Last), room, key_len, word)
@@ -78,9 +78,9 @@ pub extern "C" fn words_first_with_prefix(
     key_len: &mut usize,
     word: &mut u64,
 ) -> u32
-    ensures { Answers (OnlyReads (IsWordPairRead (first_with_prefix prefix.now)))
-        (word_map_of handle.old) (key_room room.old key_len.old word.old)
-        result (word_map_of handle.new) (key_room room.new key_len.new word.new) }
+    ensures { Answers word_map_in (OnlyReads (IsWordPairRead (first_with_prefix prefix.now)))
+        (store_of handle.old) (key_room room.old key_len.old word.old)
+        result (store_of handle.new) (key_room room.new key_len.new word.new) }
 {
     reading!(alloc, handle, Words not Bytes, |map| {
         give_word_pair(pair_of(map, Wanted::FirstWithPrefix(prefix)), room, key_len, word)
@@ -97,9 +97,9 @@ pub extern "C" fn words_last_with_prefix(
     key_len: &mut usize,
     word: &mut u64,
 ) -> u32
-    ensures { Answers (OnlyReads (IsWordPairRead (last_with_prefix prefix.now)))
-        (word_map_of handle.old) (key_room room.old key_len.old word.old)
-        result (word_map_of handle.new) (key_room room.new key_len.new word.new) }
+    ensures { Answers word_map_in (OnlyReads (IsWordPairRead (last_with_prefix prefix.now)))
+        (store_of handle.old) (key_room room.old key_len.old word.old)
+        result (store_of handle.new) (key_room room.new key_len.new word.new) }
 {
     reading!(alloc, handle, Words not Bytes, |map| {
         give_word_pair(pair_of(map, Wanted::LastWithPrefix(prefix)), room, key_len, word)
@@ -116,9 +116,9 @@ pub extern "C" fn words_next(
     key_len: &mut usize,
     word: &mut u64,
 ) -> u32
-    ensures { Answers (OnlyReads (IsWordPairRead (pair_above key.now)))
-        (word_map_of handle.old) (key_room room.old key_len.old word.old)
-        result (word_map_of handle.new) (key_room room.new key_len.new word.new) }
+    ensures { Answers word_map_in (OnlyReads (IsWordPairRead (pair_above key.now)))
+        (store_of handle.old) (key_room room.old key_len.old word.old)
+        result (store_of handle.new) (key_room room.new key_len.new word.new) }
 {
     reading!(alloc, handle, Words not Bytes, |map| {
         give_word_pair(pair_of(map, Wanted::Above(key)), room, key_len, word)
@@ -135,9 +135,9 @@ pub extern "C" fn words_previous(
     key_len: &mut usize,
     word: &mut u64,
 ) -> u32
-    ensures { Answers (OnlyReads (IsWordPairRead (pair_below key.now)))
-        (word_map_of handle.old) (key_room room.old key_len.old word.old)
-        result (word_map_of handle.new) (key_room room.new key_len.new word.new) }
+    ensures { Answers word_map_in (OnlyReads (IsWordPairRead (pair_below key.now)))
+        (store_of handle.old) (key_room room.old key_len.old word.old)
+        result (store_of handle.new) (key_room room.new key_len.new word.new) }
 {
     reading!(alloc, handle, Words not Bytes, |map| {
         give_word_pair(pair_of(map, Wanted::Below(key)), room, key_len, word)
@@ -147,8 +147,8 @@ pub extern "C" fn words_previous(
 /// Tells the word of the pair with the least key.
 #[unsafe(no_mangle)]
 pub extern "C" fn words_first_word(alloc: Global, handle: &mut Handle, word: &mut u64) -> u32
-    ensures { Answers (OnlyReads (IsPairsWordRead first_item)) (word_map_of handle.old) word.old
-        result (word_map_of handle.new) word.new }
+    ensures { Answers word_map_in (OnlyReads (IsPairsWordRead first_item)) (store_of handle.old) word.old
+        result (store_of handle.new) word.new }
 {
     reading!(alloc, handle, Words not Bytes, |map| give_pairs_word(pair_of(map, Wanted::First), word))
 }
@@ -156,8 +156,8 @@ pub extern "C" fn words_first_word(alloc: Global, handle: &mut Handle, word: &mu
 /// Tells the word of the pair with the greatest key.
 #[unsafe(no_mangle)]
 pub extern "C" fn words_last_word(alloc: Global, handle: &mut Handle, word: &mut u64) -> u32
-    ensures { Answers (OnlyReads (IsPairsWordRead last_item)) (word_map_of handle.old) word.old
-        result (word_map_of handle.new) word.new }
+    ensures { Answers word_map_in (OnlyReads (IsPairsWordRead last_item)) (store_of handle.old) word.old
+        result (store_of handle.new) word.new }
 {
     reading!(alloc, handle, Words not Bytes, |map| give_pairs_word(pair_of(map, Wanted::Last), word))
 }
@@ -170,8 +170,8 @@ pub extern "C" fn words_first_word_with_prefix(
     prefix: &[u8],
     word: &mut u64,
 ) -> u32
-    ensures { Answers (OnlyReads (IsPairsWordRead (first_with_prefix prefix.now))) (word_map_of handle.old) word.old
-        result (word_map_of handle.new) word.new }
+    ensures { Answers word_map_in (OnlyReads (IsPairsWordRead (first_with_prefix prefix.now)))
+        (store_of handle.old) word.old result (store_of handle.new) word.new }
 {
     reading!(alloc, handle, Words not Bytes, |map| {
         give_pairs_word(pair_of(map, Wanted::FirstWithPrefix(prefix)), word)
@@ -186,8 +186,8 @@ pub extern "C" fn words_last_word_with_prefix(
     prefix: &[u8],
     word: &mut u64,
 ) -> u32
-    ensures { Answers (OnlyReads (IsPairsWordRead (last_with_prefix prefix.now))) (word_map_of handle.old) word.old
-        result (word_map_of handle.new) word.new }
+    ensures { Answers word_map_in (OnlyReads (IsPairsWordRead (last_with_prefix prefix.now)))
+        (store_of handle.old) word.old result (store_of handle.new) word.new }
 {
     reading!(alloc, handle, Words not Bytes, |map| {
         give_pairs_word(pair_of(map, Wanted::LastWithPrefix(prefix)), word)
@@ -202,8 +202,8 @@ pub extern "C" fn words_next_word(
     key: &[u8],
     word: &mut u64,
 ) -> u32
-    ensures { Answers (OnlyReads (IsPairsWordRead (pair_above key.now))) (word_map_of handle.old) word.old
-        result (word_map_of handle.new) word.new }
+    ensures { Answers word_map_in (OnlyReads (IsPairsWordRead (pair_above key.now))) (store_of handle.old) word.old
+        result (store_of handle.new) word.new }
 {
     reading!(alloc, handle, Words not Bytes, |map| give_pairs_word(pair_of(map, Wanted::Above(key)), word))
 }
@@ -216,8 +216,8 @@ pub extern "C" fn words_previous_word(
     key: &[u8],
     word: &mut u64,
 ) -> u32
-    ensures { Answers (OnlyReads (IsPairsWordRead (pair_below key.now))) (word_map_of handle.old) word.old
-        result (word_map_of handle.new) word.new }
+    ensures { Answers word_map_in (OnlyReads (IsPairsWordRead (pair_below key.now))) (store_of handle.old) word.old
+        result (store_of handle.new) word.new }
 {
     reading!(alloc, handle, Words not Bytes, |map| give_pairs_word(pair_of(map, Wanted::Below(key)), word))
 }

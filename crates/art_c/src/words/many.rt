@@ -3,9 +3,9 @@
 
 ghost use Rattle.art_c.specs.Answers.{Answers, Changes, OnlyReads};
 ghost use Rattle.art_c.specs.Gets.{IsManyGot};
-ghost use Rattle.art_c.specs.Handles.{word_map_of};
+ghost use Rattle.art_c.specs.Handles.{store_of, word_map_in};
 ghost use Rattle.art_c.specs.Layouts.{no_text, word_key_len, word_text_len, words_pair};
-ghost use Rattle.art_c.specs.Loads.{IsLoaded};
+ghost use Rattle.art_c.specs.Loads.{IsLoadedIn};
 ghost use Rattle.art_c.specs.Prefixes.{IsPrefixTaken};
 ghost use Rattle.art_c.specs.Spans.{reach};
 ghost use Rattle.art_c.specs.Walks.{IsWalked, IsWordsWalked, many_rooms};
@@ -31,9 +31,9 @@ pub extern "C" fn words_walk(
     pairs: &mut [WordsPair],
     count: &mut usize,
 ) -> u32
-    ensures { Answers (OnlyReads (IsWalked no_text words_pair (reach back from from_key.now to to_key.now)))
-        (word_map_of handle.old) (many_rooms room.old pairs.old count.old)
-        result (word_map_of handle.new) (many_rooms room.new pairs.new count.new) }
+    ensures { Answers word_map_in (OnlyReads (IsWalked no_text words_pair (reach back from from_key.now to to_key.now)))
+        (store_of handle.old) (many_rooms room.old pairs.old count.old)
+        result (store_of handle.new) (many_rooms room.new pairs.new count.new) }
 {
     let span = Span::new(back, from, from_key, to, to_key);
     reading!(alloc, handle, Words not Bytes, |map| walks::walk(map, span, room, pairs, count))
@@ -52,9 +52,9 @@ pub extern "C" fn words_walk_words(
     words: &mut [u64],
     count: &mut usize,
 ) -> u32
-    ensures { Answers (OnlyReads (IsWordsWalked (reach back from from_key.now to to_key.now)))
-        (word_map_of handle.old) (words.old, count.old)
-        result (word_map_of handle.new) (words.new, count.new) }
+    ensures { Answers word_map_in (OnlyReads (IsWordsWalked (reach back from from_key.now to to_key.now)))
+        (store_of handle.old) (words.old, count.old)
+        result (store_of handle.new) (words.new, count.new) }
 {
     let span = Span::new(back, from, from_key, to, to_key);
     reading!(alloc, handle, Words not Bytes, |map| walks::walk_words(map, span, words, count))
@@ -69,9 +69,9 @@ pub extern "C" fn words_load(
     pairs: &[WordsPair],
     taken: &mut usize,
 ) -> u32
-    ensures { Answers (Changes (IsLoaded no_text words_pair word_key_len word_text_len keys.now pairs.now))
-        (word_map_of handle.old) taken.old
-        result (word_map_of handle.new) taken.new }
+    ensures { Answers word_map_in
+        (Changes (IsLoadedIn no_text words_pair word_key_len word_text_len keys.now pairs.now))
+        (store_of handle.old) taken.old result (store_of handle.new) taken.new }
 {
     changing!(alloc, handle, Words not Bytes, |map| loads::load(map, alloc, keys, pairs, taken))
 }
@@ -86,9 +86,9 @@ pub extern "C" fn words_get_many(
     found: &mut [u8],
     looked_up: &mut usize,
 ) -> u32
-    ensures { Answers (OnlyReads (IsManyGot keys.now))
-        (word_map_of handle.old) ((pairs.old, found.old), looked_up.old)
-        result (word_map_of handle.new) ((pairs.new, found.new), looked_up.new) }
+    ensures { Answers word_map_in (OnlyReads (IsManyGot keys.now))
+        (store_of handle.old) ((pairs.old, found.old), looked_up.old)
+        result (store_of handle.new) ((pairs.new, found.new), looked_up.new) }
 {
     reading!(alloc, handle, Words not Bytes, |map| gets::get_many(map, keys, pairs, found, looked_up))
 }
@@ -102,8 +102,8 @@ pub extern "C" fn words_take_prefix(
     words: &mut [u64],
     count: &mut usize,
 ) -> u32
-    ensures { Answers (Changes (IsPrefixTaken prefix.now)) (word_map_of handle.old) (words.old, count.old)
-        result (word_map_of handle.new) (words.new, count.new) }
+    ensures { Answers word_map_in (Changes (IsPrefixTaken prefix.now)) (store_of handle.old) (words.old, count.old)
+        result (store_of handle.new) (words.new, count.new) }
 {
     changing!(alloc, handle, Words not Bytes, |map| prefixes::take_prefix(map, prefix, words, count))
 }

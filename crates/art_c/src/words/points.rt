@@ -3,8 +3,9 @@
 
 ghost use Rattle.std.specs.Prelude.{◌≡◌};
 ghost use Rattle.art_c.specs.Answers.{Answers, Changes, OnlyReads};
-ghost use Rattle.art_c.specs.Calls.{is_stored, IsWordPut, IsWordRead, IsWordRemoved};
-ghost use Rattle.art_c.specs.Handles.{pairs_or_none, store_of, word_map_of};
+ghost use Rattle.art_c.specs.Calls.{is_stored, IsWordRead};
+ghost use Rattle.art_c.specs.Handles.{pairs_or_none, store_of, word_map_in, word_map_of};
+ghost use Rattle.art_c.specs.Puts.{IsWordPut, IsWordRemoved};
 
 use crate::calls::changes;
 use crate::code::Code;
@@ -22,8 +23,8 @@ pub extern "C" fn words_put(
     word: u64,
     old: &mut u64,
 ) -> u32
-    ensures { Answers (Changes (IsWordPut key.now word)) (word_map_of handle.old) old.old
-        result (word_map_of handle.new) old.new }
+    ensures { Answers word_map_in (Changes (IsWordPut key.now word)) (store_of handle.old) old.old
+        result (store_of handle.new) old.new }
 {
     changing!(alloc, handle, Words not Bytes, |map| changes::put_word(map, alloc, key, word, old))
 }
@@ -31,8 +32,8 @@ pub extern "C" fn words_put(
 /// Tells the word of a key.
 #[unsafe(no_mangle)]
 pub extern "C" fn words_get(alloc: Global, handle: &mut Handle, key: &[u8], word: &mut u64) -> u32
-    ensures { Answers (OnlyReads (IsWordRead key.now)) (word_map_of handle.old) word.old
-        result (word_map_of handle.new) word.new }
+    ensures { Answers word_map_in (OnlyReads (IsWordRead key.now)) (store_of handle.old) word.old
+        result (store_of handle.new) word.new }
 {
     reading!(alloc, handle, Words not Bytes, |map| give_word(map.get(&SliceKey(key)), word))
 }
@@ -47,11 +48,11 @@ pub extern "C" fn words_contains(alloc: Global, handle: &mut Handle, key: &[u8])
         Some(store) => match &*store {
             Store::Words(kept) => {
                 let is = kept.map().get(&SliceKey(key)).is_some();
-                *handle = Handle::of(store);
+                handle.set(store);
                 is
             }
             Store::Bytes(_) => {
-                *handle = Handle::of(store);
+                handle.set(store);
                 false
             }
         },
@@ -67,8 +68,8 @@ pub extern "C" fn words_remove(
     key: &[u8],
     word: &mut u64,
 ) -> u32
-    ensures { Answers (Changes (IsWordRemoved key.now)) (word_map_of handle.old) word.old
-        result (word_map_of handle.new) word.new }
+    ensures { Answers word_map_in (Changes (IsWordRemoved key.now)) (store_of handle.old) word.old
+        result (store_of handle.new) word.new }
 {
     changing!(alloc, handle, Words not Bytes, |map| changes::remove_word(map, key, word))
 }

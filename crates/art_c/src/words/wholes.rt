@@ -3,10 +3,11 @@
 
 ghost use Rattle.std.specs.Prelude.{◌≡◌, ◌*◌, length, None};
 ghost use Rattle.art_c.specs.Answers.{Answers, Changes, OnlyReads};
-ghost use Rattle.art_c.specs.Calls.{IsAudited, IsNew, IsPrefixRemoved};
+ghost use Rattle.art_c.specs.Calls.{IsAudited, IsNew};
 ghost use Rattle.art_c.specs.Codes.{code_number};
-ghost use Rattle.art_c.specs.Handles.{is_frozen_map, pairs_or_none, store_of, word_map_of};
+ghost use Rattle.art_c.specs.Handles.{is_frozen_map, pairs_or_none, store_of, word_map_in, word_map_of};
 ghost use Rattle.art_c.specs.Joins.{IsAppended};
+ghost use Rattle.art_c.specs.Puts.{IsPrefixRemoved};
 ghost use Rattle.art_c.specs.Wholes.{IsCleared, IsCompacted, GetsCopy, IsFrozen, IsReserved, IsShared, IsShrunk};
 ghost use Rattle.art_c.specs.Wholes.{HasRoomInStore, IsSplitOff, IsThawed, IsTrimmedStore};
 ghost use Rattle.art_c.specs.declared.code.Code.TheVariants.{Done, NoMemory};
@@ -20,7 +21,7 @@ use std::alloc::Global;
 /// Makes an empty map in a handle. A map that it had is freed.
 #[unsafe(no_mangle)]
 pub extern "C" fn words_new(alloc: Global, handle: &mut Handle) -> u32
-    ensures { IsNew (word_map_of handle.old) result (word_map_of handle.new) }
+    ensures { IsNew word_map_in (store_of handle.old) result (store_of handle.new) }
 {
     wholes::give(alloc, handle, Store::Words(wholes::empty(alloc))).number()
 }
@@ -43,11 +44,11 @@ pub extern "C" fn words_len(alloc: Global, handle: &mut Handle) -> usize
         Some(store) => match &*store {
             Store::Words(kept) => {
                 let len = kept.map().len();
-                *handle = Handle::of(store);
+                handle.set(store);
                 len
             }
             Store::Bytes(_) => {
-                *handle = Handle::of(store);
+                handle.set(store);
                 0
             }
         },
@@ -64,15 +65,15 @@ pub extern "C" fn words_is_frozen(alloc: Global, handle: &mut Handle) -> bool
     match handle.take(alloc) {
         Some(store) => match &*store {
             Store::Words(Kept::Frozen(_)) => {
-                *handle = Handle::of(store);
+                handle.set(store);
                 true
             }
             Store::Words(Kept::Own(_)) => {
-                *handle = Handle::of(store);
+                handle.set(store);
                 false
             }
             Store::Bytes(_) => {
-                *handle = Handle::of(store);
+                handle.set(store);
                 false
             }
         },
@@ -88,8 +89,8 @@ pub extern "C" fn words_remove_prefix(
     prefix: &[u8],
     count: &mut usize,
 ) -> u32
-    ensures { Answers (Changes (IsPrefixRemoved prefix.now)) (word_map_of handle.old) count.old
-        result (word_map_of handle.new) count.new }
+    ensures { Answers word_map_in (Changes (IsPrefixRemoved prefix.now)) (store_of handle.old) count.old
+        result (store_of handle.new) count.new }
 {
     changing!(alloc, handle, Words not Bytes, |map| changes::remove_prefix(map, prefix, count))
 }
@@ -97,8 +98,8 @@ pub extern "C" fn words_remove_prefix(
 /// Puts a copy of the map into another handle.
 #[unsafe(no_mangle)]
 pub extern "C" fn words_clone(alloc: Global, handle: &mut Handle, to: &mut Handle) -> u32
-    ensures { Answers (OnlyReads GetsCopy) (word_map_of handle.old) (word_map_of to.old)
-        result (word_map_of handle.new) (word_map_of to.new) }
+    ensures { Answers word_map_in (OnlyReads (GetsCopy word_map_in)) (store_of handle.old) (store_of to.old)
+        result (store_of handle.new) (store_of to.new) }
 {
     reading!(alloc, handle, Words not Bytes, |map| wholes::clone_words(alloc, map, to))
 }
@@ -111,8 +112,8 @@ pub extern "C" fn words_split_off(
     key: &[u8],
     to: &mut Handle,
 ) -> u32
-    ensures { Answers (Changes (IsSplitOff key.now)) (word_map_of handle.old) (word_map_of to.old)
-        result (word_map_of handle.new) (word_map_of to.new) }
+    ensures { Answers word_map_in (Changes (IsSplitOff word_map_in key.now)) (store_of handle.old) (store_of to.old)
+        result (store_of handle.new) (store_of to.new) }
 {
     changing!(alloc, handle, Words not Bytes, |map| wholes::split_words(alloc, map, key, to))
 }
@@ -120,8 +121,8 @@ pub extern "C" fn words_split_off(
 /// Moves all pairs of another handle's map into this one, up to the first that is refused.
 #[unsafe(no_mangle)]
 pub extern "C" fn words_append(alloc: Global, handle: &mut Handle, other: &mut Handle) -> u32
-    ensures { Answers (Changes IsAppended) (word_map_of handle.old) (word_map_of other.old)
-        result (word_map_of handle.new) (word_map_of other.new) }
+    ensures { Answers word_map_in (Changes (IsAppended word_map_in)) (store_of handle.old) (store_of other.old)
+        result (store_of handle.new) (store_of other.new) }
 {
     changing!(alloc, handle, Words not Bytes, |map| joins::append_words(alloc, map, other))
 }
@@ -129,7 +130,7 @@ pub extern "C" fn words_append(alloc: Global, handle: &mut Handle, other: &mut H
 /// Allocates the nodes of so many more insertions.
 #[unsafe(no_mangle)]
 pub extern "C" fn words_reserve(alloc: Global, handle: &mut Handle, additional: usize) -> u32
-    ensures pairs { Answers (Changes IsReserved) (word_map_of handle.old) tt result (word_map_of handle.new) tt }
+    ensures pairs { Answers word_map_in (Changes IsReserved) (store_of handle.old) tt result (store_of handle.new) tt }
     ensures room { result ≡ code_number Done → HasRoomInStore (2 * additional) (store_of handle.new) }
     ensures succeeds { result ≡ code_number NoMemory
         → HasRoomInStore (2 * additional) (store_of handle.old) → ⊥ }
@@ -140,7 +141,7 @@ pub extern "C" fn words_reserve(alloc: Global, handle: &mut Handle, additional: 
 /// Gives memory back that the nodes don't need.
 #[unsafe(no_mangle)]
 pub extern "C" fn words_shrink(alloc: Global, handle: &mut Handle) -> u32
-    ensures pairs { Answers (Changes IsShrunk) (word_map_of handle.old) tt result (word_map_of handle.new) tt }
+    ensures pairs { Answers word_map_in (Changes IsShrunk) (store_of handle.old) tt result (store_of handle.new) tt }
     ensures trimmed { result ≡ code_number Done → IsTrimmedStore (store_of handle.new) }
 {
     changing!(alloc, handle, Words not Bytes, |map| wholes::shrink(map))
@@ -149,7 +150,7 @@ pub extern "C" fn words_shrink(alloc: Global, handle: &mut Handle) -> u32
 /// Makes all nodes anew in the order of the keys, and gives memory back that they don't need.
 #[unsafe(no_mangle)]
 pub extern "C" fn words_compact(alloc: Global, handle: &mut Handle) -> u32
-    ensures pairs { Answers (Changes IsCompacted) (word_map_of handle.old) tt result (word_map_of handle.new) tt }
+    ensures pairs { Answers word_map_in (Changes IsCompacted) (store_of handle.old) tt result (store_of handle.new) tt }
     ensures trimmed { result ≡ code_number Done → IsTrimmedStore (store_of handle.new) }
 {
     changing!(alloc, handle, Words not Bytes, |map| wholes::compact(map))
@@ -158,7 +159,7 @@ pub extern "C" fn words_compact(alloc: Global, handle: &mut Handle) -> u32
 /// Takes all pairs out, and frees their memory.
 #[unsafe(no_mangle)]
 pub extern "C" fn words_clear(alloc: Global, handle: &mut Handle) -> u32
-    ensures { Answers (Changes IsCleared) (word_map_of handle.old) tt result (word_map_of handle.new) tt }
+    ensures { Answers word_map_in (Changes IsCleared) (store_of handle.old) tt result (store_of handle.new) tt }
 {
     changing!(alloc, handle, Words not Bytes, |map| wholes::clear(alloc, map))
 }
@@ -166,7 +167,7 @@ pub extern "C" fn words_clear(alloc: Global, handle: &mut Handle) -> u32
 /// Freezes the map: no call changes it from then on.
 #[unsafe(no_mangle)]
 pub extern "C" fn words_freeze(alloc: Global, handle: &mut Handle) -> u32
-    ensures { Answers (IsFrozen) (word_map_of handle.old) tt result (word_map_of handle.new) tt }
+    ensures { Answers word_map_in (IsFrozen) (store_of handle.old) tt result (store_of handle.new) tt }
 {
     keeping!(alloc, handle, Words not Bytes, |kept| wholes::freeze(alloc, kept))
 }
@@ -174,7 +175,7 @@ pub extern "C" fn words_freeze(alloc: Global, handle: &mut Handle) -> u32
 /// Makes a frozen map one that can be changed, where no other handle has it.
 #[unsafe(no_mangle)]
 pub extern "C" fn words_thaw(alloc: Global, handle: &mut Handle) -> u32
-    ensures { Answers (IsThawed) (word_map_of handle.old) tt result (word_map_of handle.new) tt }
+    ensures { Answers word_map_in (IsThawed) (store_of handle.old) tt result (store_of handle.new) tt }
 {
     keeping!(alloc, handle, Words not Bytes, |kept| wholes::thaw(alloc, kept))
 }
@@ -182,8 +183,8 @@ pub extern "C" fn words_thaw(alloc: Global, handle: &mut Handle) -> u32
 /// Makes another handle on a frozen map.
 #[unsafe(no_mangle)]
 pub extern "C" fn words_share(alloc: Global, handle: &mut Handle, to: &mut Handle) -> u32
-    ensures { Answers (IsShared) (word_map_of handle.old) (word_map_of to.old)
-        result (word_map_of handle.new) (word_map_of to.new) }
+    ensures { Answers word_map_in (IsShared word_map_in) (store_of handle.old) (store_of to.old)
+        result (store_of handle.new) (store_of to.new) }
 {
     keeping!(alloc, handle, Words not Bytes, |kept| wholes::share_words(alloc, kept, to))
 }
@@ -195,8 +196,8 @@ pub extern "C" fn words_audit(
     handle: &mut Handle,
     node_counts: &mut NodeCounts,
 ) -> u32
-    ensures { Answers (OnlyReads IsAudited) (word_map_of handle.old) node_counts.old
-        result (word_map_of handle.new) node_counts.new }
+    ensures { Answers word_map_in (OnlyReads IsAudited) (store_of handle.old) node_counts.old
+        result (store_of handle.new) node_counts.new }
 {
     reading!(alloc, handle, Words not Bytes, |map| counts::audit(map, node_counts))
 }

@@ -1,16 +1,25 @@
 use Rattle.std.proofs.Common.{sym, ◌∙◌}
 use Rattle.art_c.proofs.Lookups.{has-key, no-key, none-gone}
+use Rattle.art_c.proofs.NodeRoom.{not-ok, of-none, of-some}
 use Rattle.art_c.proofs.calls.changes.remove_bytes.Goals as goal
 
 pub returns-in-Ok-Some : goal.returns-in-Ok-Some
-returns-in-Ok-Some c = (
-  has-key c.args.key.now c.in-Ok-Some._was c.args.map.now.pairs (sym c.in-Ok-Some.field-0-is ∙ c.in-Ok-Some.ensures.value),
-  c.in-Ok-Some.ensures.pairs,
-)
+returns-in-Ok-Some c =
+    let e = c.in-Ok-Some.ensures in (
+      has-key c.args.key.now c.in-Ok-Some._was c.args.map.now.pairs (sym c.in-Ok-Some.field-0-is ∙ e.value),
+      e.pairs,
+      (e.room, of-some _ _ c.in-Ok-Some.field-0-is e.leaf_room),
+    )
 
 pub returns-in-Ok-None : goal.returns-in-Ok-None
 returns-in-Ok-None c =
-    let none = sym c.in-Ok-None.field-0-is ∙ c.in-Ok-None.ensures.value in (
+    let e = c.in-Ok-None.ensures in
+    let none = sym c.in-Ok-None.field-0-is ∙ e.value in (
       no-key c.args.key.now c.args.map.now.pairs none,
-      c.in-Ok-None.ensures.pairs ∙ none-gone c.args.key.now c.args.map.now.pairs none,
+      e.pairs ∙ none-gone c.args.key.now c.args.map.now.pairs none,
+      of-none _ c.in-Ok-None.field-0-is e.none_room,
     )
+
+pub returns-in-Err : goal.returns-in-Err
+returns-in-Err c =
+    let e = c.in-Err.ensures in (e.shrinks.0, e.shrinks.1, e.err, (e.kept.2, not-ok e.succeeds))

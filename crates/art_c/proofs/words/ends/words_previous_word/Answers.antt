@@ -3,4 +3,4 @@ use Rattle.art_c.proofs.words.ends.words_previous_word.Goals as goal
 
 pub returns-in-Bytes : goal.returns-in-Bytes
 returns-in-Bytes c =
-    bytes_there _ _ _ _ _ c.number-in-Bytes.ensures _ _ _ c.in-Some.ensures.map c.of-in-Bytes.ensures c.in-Bytes.is c.deref.ensures
+    bytes_there _ _ _ _ _ c.number-in-Bytes.ensures _ _ _ c.in-Some.ensures.map c.set-in-Bytes.ensures c.in-Bytes.is c.deref.ensures

@@ -3,5 +3,5 @@ use Rattle.art_c.proofs.words.wholes.words_share.Goals as goal
 
 pub returns-in-Bytes : goal.returns-in-Bytes
 returns-in-Bytes c =
-    bytes_back _ _ _ _ _ c.number-in-Bytes.ensures _ _ _ c.in-Some.ensures.map c.of-in-Bytes.ensures c.in-Bytes.is
+    bytes_back _ _ _ _ _ c.number-in-Bytes.ensures _ _ _ c.in-Some.ensures.map c.set-in-Bytes.ensures c.in-Bytes.is
     c.deref_mut.ensures.value
