@@ -149,7 +149,8 @@ void artmap_words_free(artmap_words *map);
 size_t artmap_words_len(artmap_words *map);
 
 /* Puts a pair in, in the place of the one with its key if there is one, and tells that one's word.
- * ARTMAP_DONE: no pair had the key, and no word is told; ARTMAP_REPLACED; ARTMAP_CONFLICT; ARTMAP_NO_MEMORY. */
+ * ARTMAP_DONE: no pair had the key, and no word is told; ARTMAP_REPLACED; ARTMAP_CONFLICT; ARTMAP_NO_MEMORY: never of a
+ * stored key. */
 artmap_code artmap_words_put(artmap_words *map, const void *key, size_t key_len, uint64_t word, uint64_t *old);
 
 /* Tells the word of a key.
@@ -310,7 +311,8 @@ void artmap_bytes_free(artmap_bytes *map);
 size_t artmap_bytes_len(artmap_bytes *map);
 
 /* Puts a pair in, in the place of the one with its key if there is one. Both are copied.
- * ARTMAP_DONE: no pair had the key; ARTMAP_REPLACED; ARTMAP_CONFLICT; ARTMAP_NO_MEMORY. */
+ * ARTMAP_DONE: no pair had the key; ARTMAP_REPLACED; ARTMAP_CONFLICT; ARTMAP_NO_MEMORY: of a stored key only for a value
+ * of more than thirty bytes. */
 artmap_code artmap_bytes_put(artmap_bytes *map, const void *key, size_t key_len, const void *value, size_t value_len);
 
 /* Copies the value of a key to the start of `room`, whose rest is left alone, and tells its length.
