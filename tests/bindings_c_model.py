@@ -136,6 +136,11 @@ class Model:
         code = (MORE if len(met) > len(given) else DONE) if given else NO_ROOM if first else NOT_FOUND
         return code, given, first
 
+    def marked(self, query, mark):
+        """The pair with the longest key that is some first bytes of the query and the mark."""
+        keys = [it for it in self.pairs if it and it[-1] == mark and query.startswith(it[:-1])]
+        return max(((it, self.pairs[it]) for it in keys), key=lambda it: len(it[0]), default=None)
+
     def found(self, name, key):
         keys = sorted(self.pairs)
         keys = {"find": lambda: [it for it in keys if key.startswith(it)],
@@ -284,6 +289,17 @@ class Beside:
         copied = NO_ROOM if pair and len(pair[0]) > key_room.size else code
         return (told, got), ((code, wanted), (copied, out(key_room.size, pair and pair[0], copied == DONE), wanted))
 
+    def marked(self):
+        """The longest key of some first bytes of a query and a mark."""
+        if self.kind != "words":
+            return None, None
+        query, mark = self.some_key()[:self.rng.randint(0, 7)] + some_bytes(self.rng, 3), self.rng.choice(b"\x00\x01a")
+        pair = self.model.marked(query, mark) if self.model else None
+        code = self.code() if self.code() is not None else DONE if pair else NOT_FOUND
+        key_len, word = ctypes.c_size_t(UNTOLD), ctypes.c_uint64(UNTOLD)
+        got = self.call("find_marked", *arg(query), ctypes.c_uint8(mark), ctypes.byref(key_len), ctypes.byref(word))
+        return (got, key_len.value, word.value), (code, len(pair[0]) if pair else UNTOLD, pair[1] if pair else UNTOLD)
+
     def some_span(self):
         rng = self.rng
         span = (rng.random() < 0.5, rng.choice([0, 0, 1, 2, 2, 7, 2 ** 32 - 1]), self.some_key(), rng.choice([0, 1, 2, 3, 3, 9]),
@@ -420,7 +436,7 @@ class Beside:
 
     def step(self):
         """One call at random, and what is wrong with it, if anything is."""
-        name = self.rng.choice(["put"] * 8 + ["get", "get", "ends", "ends", "ends", "remove", "remove_prefix",
+        name = self.rng.choice(["put"] * 8 + ["get", "get", "ends", "ends", "ends", "marked", "remove", "remove_prefix",
                                               "take_prefix", "get_many", "append", "audit", "load", "walk", "walk", "walk_words", "room", "copy", "part", "freeze",
                                               "thaw", "thaw", "new"])
         if name == "new" and self.rng.random() < 0.9:

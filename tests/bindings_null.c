@@ -21,6 +21,7 @@ static int words(void) {
     if (artmap_words_get(&map, NULL, 0, NULL) != ARTMAP_DONE || !artmap_words_contains(&map, NULL, 0)) return 6;
     if (artmap_words_find(&map, "any", 3, &len, NULL) != ARTMAP_DONE || len != 0) return 7;
     if (artmap_words_next_word(&map, NULL, 0, &word) != ARTMAP_NOT_FOUND) return 8;
+    if (artmap_words_find_marked(&map, NULL, 0, 0, &len, &word) != ARTMAP_NOT_FOUND || len != 0 || word != 6) return 48;
     if (artmap_words_first(&map, NULL, 0, NULL, NULL) != ARTMAP_DONE) return 9;
     if (artmap_words_walk(&map, &from_none, NULL, 0, pairs, 2, &count) != ARTMAP_DONE || count != 1) return 10;
     if (pairs[0].key_len != 0 || pairs[0].word != 6 || pairs[1].key_len != 7) return 11;

@@ -119,6 +119,14 @@ artmap_code artmap_words_find(words *map, const void *query, size_t query_len, s
     return words_find(map, IN(query), query_len, key_len ? key_len : &no_len, TOLD(word));
 }
 
+code words_find_marked(words *, in, size_t, uint8_t, size_t *, uint64_t *);
+artmap_code artmap_words_find_marked(words *map, const void *query, size_t query_len, uint8_t mark, size_t *key_len,
+                                     uint64_t *word) {
+    size_t no_len;
+    uint64_t unwanted;
+    return words_find_marked(map, IN(query), query_len, mark, key_len ? key_len : &no_len, TOLD(word));
+}
+
 #define WORDS_END(NAME, WORD)                                                                                             \
     code words_##NAME(words *, out, size_t, size_t *, uint64_t *);                                                        \
     artmap_code artmap_words_##NAME(words *map, void *room, size_t room_len, size_t *key_len, uint64_t *word) {           \

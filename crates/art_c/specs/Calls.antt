@@ -7,7 +7,7 @@ use Rattle.art_arena.specs.tree.Tenants.{with_front}
 use Rattle.art_operations.specs.KeyedLists.{IsBlocked}
 use Rattle.art_operations.specs.Pairs.{with_pair_put}
 use Rattle.art_map.specs.Audit.{audit_of}
-use Rattle.art_map.specs.Contents.{has_bytes, is_front, first_item, last_item}
+use Rattle.art_map.specs.Contents.{has_bytes, is_front, first_item, last_item, marked_pair}
 use Rattle.art_map.specs.Ranges.{pairs_between}
 use Rattle.art_c.specs.Codes.{code_number}
 use Rattle.art_c.specs.Handles.{IsOwn, MapState, Pairs, View}
@@ -20,7 +20,7 @@ use Rattle.art_c.specs.declared.code.Code.TheVariants.{Done, Conflict, NoMemory}
 use Rattle.art_c.specs.declared.handle.store.Store.{Store}
 use Rattle.art_c.specs.declared.calls.reads.Wanted.{Wanted}
 use Rattle.art_c.specs.declared.calls.reads.Wanted.TheVariants.{First, Last, FirstWithPrefix, LastWithPrefix}
-use Rattle.art_c.specs.declared.calls.reads.Wanted.TheVariants.{FrontOf, Above, Below}
+use Rattle.art_c.specs.declared.calls.reads.Wanted.TheVariants.{FrontOf, MarkedFrontOf, Above, Below}
 
 -- the bytes of a key
 abbrev pub whole : List ℕ → List ℕ
@@ -60,6 +60,10 @@ module _ {V : Type 0} where
   abbrev pub pair_of_front : List ℕ → Pairs V → Option (List ℕ × V)
   pair_of_front query pairs = lookup_entry (is_front whole query) pairs
 
+  -- the pair with the longest key that is a front of a query, or all of it, and a mark after it
+  abbrev pub pair_of_marked_front : List ℕ → ℕ → Pairs V → Option (List ℕ × V)
+  pair_of_marked_front query mark pairs = marked_pair whole query mark pairs
+
   -- the pair with the least key above a key, and the one with the greatest below
   abbrev pub pair_above : List ℕ → Pairs V → Option (List ℕ × V)
   pair_above key pairs = first_item (pairs_between whole (Excluded key) Unbounded pairs)
@@ -81,6 +85,7 @@ module _ {V : Type 0} where
   wanted_of (FirstWithPrefix prefix) pairs = first_with_prefix prefix.now pairs
   wanted_of (LastWithPrefix prefix) pairs = last_with_prefix prefix.now pairs
   wanted_of (FrontOf query) pairs = pair_of_front query.now pairs
+  wanted_of (MarkedFrontOf query mark) pairs = pair_of_marked_front query.now mark pairs
   wanted_of (Above key) pairs = pair_above key.now pairs
   wanted_of (Below key) pairs = pair_below key.now pairs
 

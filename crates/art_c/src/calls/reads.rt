@@ -21,6 +21,8 @@ pub(crate) enum Wanted<'a> {
     LastWithPrefix(&'a [u8]),
     /// The one whose key is a front of these bytes, or equals them.
     FrontOf(&'a [u8]),
+    /// The one with the longest key that is a front of these bytes, or all of them, and this mark after it.
+    MarkedFrontOf(&'a [u8], u8),
     /// The one with the least key above this one.
     Above(&'a [u8]),
     /// The one with the greatest key below this one.
@@ -62,6 +64,7 @@ pub(crate) fn pair_of<'m, V>(map: &'m Map<V>, wanted: Wanted<'_>) -> Option<(&'m
         Wanted::FirstWithPrefix(prefix) => first_with_prefix(map, prefix),
         Wanted::LastWithPrefix(prefix) => last_with_prefix(map, prefix),
         Wanted::FrontOf(query) => map.prefix_get_key_value(&SliceKey(query)),
+        Wanted::MarkedFrontOf(query, mark) => map.marked_get_key_value(&SliceKey(query), mark),
         Wanted::Above(key) => above(map, key),
         Wanted::Below(key) => below(map, key),
     }

@@ -5,6 +5,7 @@ ghost use Rattle.art_map.specs.Contents.{first_item, last_item};
 ghost use Rattle.art_c.specs.Answers.{Answers, OnlyReads};
 ghost use Rattle.art_c.specs.Calls.{first_with_prefix, IsLenWordRead, IsPairsWordRead, IsWordPairRead};
 ghost use Rattle.art_c.specs.Calls.{last_with_prefix, pair_above, pair_below, pair_of_front};
+ghost use Rattle.art_c.specs.Calls.{pair_of_marked_front};
 ghost use Rattle.art_c.specs.Copies.{key_room};
 ghost use Rattle.art_c.specs.Handles.{store_of, word_map_in};
 
@@ -29,6 +30,26 @@ pub extern "C" fn words_find(
 {
     reading!(alloc, handle, Words not Bytes, |map| {
         give_len_word(pair_of(map, Wanted::FrontOf(query)), key_len, word)
+    })
+}
+
+/// Tells how long the longest key is, with the mark at its end, that is some bytes of a query, from its first, and the
+/// mark; and its word.
+#[unsafe(no_mangle)]
+pub extern "C" fn words_find_marked(
+    alloc: Global,
+    handle: &mut Handle,
+    query: &[u8],
+    mark: u8,
+    key_len: &mut usize,
+    word: &mut u64,
+) -> u32
+    ensures { Answers word_map_in (OnlyReads (IsLenWordRead (pair_of_marked_front query.now mark)))
+        (store_of handle.old) (key_len.old, word.old)
+        result (store_of handle.new) (key_len.new, word.new) }
+{
+    reading!(alloc, handle, Words not Bytes, |map| {
+        give_len_word(pair_of(map, Wanted::MarkedFrontOf(query, mark)), key_len, word)
     })
 }
 
