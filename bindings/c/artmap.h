@@ -175,8 +175,7 @@ artmap_code artmap_words_find(artmap_words *map, const void *query, size_t query
 
 /* Keys that end with a mark, a byte that is in none of them before, may so begin each other but for it: texts with a zero
  * after each, routes, blocks of addresses. Of the pairs whose key is some first bytes of a query, or all of them, and then
- * the mark, the one with the longest key. `key_len` counts the mark, too. The query has none. It is gone down once, or
- * twice where prefixes aren't wholly stored.
+ * the mark, the one with the longest key. `key_len` counts the mark, too. The query has none.
  * ARTMAP_DONE; ARTMAP_NOT_FOUND. */
 artmap_code artmap_words_find_marked(artmap_words *map, const void *query, size_t query_len, uint8_t mark, size_t *key_len,
                                      uint64_t *word);
