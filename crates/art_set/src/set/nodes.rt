@@ -27,6 +27,7 @@ impl<K: AsBytes, const PREFIX_LEN: usize> TreeSet<K, PREFIX_LEN> {
     /// ```
     pub fn nodes(&self) -> (&NodeArena<K, (), PREFIX_LEN>, Option<OpaqueNodePtr>)
         ensures tree { HoldsTreeOf K.bytes PREFIX_LEN result.0.now result.1 (pairs_of_keys self.now.keys) }
+        ensures same { (result.0.now ≡ self.now.nodes) × (result.1 ≡ self.now.root) }
         ensures ordered { AscendsByKey K.bytes self.now.keys }
     {
         self.map.nodes()
@@ -44,6 +45,7 @@ impl<K: AsBytes, const PREFIX_LEN: usize> TreeSet<K, PREFIX_LEN> {
     /// assert_eq!(rt; reader.visits(), 2);
     /// ```
     pub fn reader(&self) -> MapReader<'_, K, (), PREFIX_LEN>
+        ensures same { (result.nodes ≡ self.now.nodes) × (result.root ≡ self.now.root) }
         ensures count { result.count ≡ 0 }
         ensures keys { ReadsPairs K.bytes PREFIX_LEN result.nodes result.root (pairs_of_keys self.now.keys) }
     {
