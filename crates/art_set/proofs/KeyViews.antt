@@ -1,11 +1,11 @@
 -- A set's keys, from the pairs of the map that holds them.
-use Rattle.std.proofs.Common.{◌≡◌, ◌⊎◌, ℕ, Bool, true, false, not, cond, List, [], ◌∷◌, Option, Some, None, refl, sym, ap, ◌∙◌, subst, inl, inr}
+use Rattle.std.proofs.Common.{◌≡◌, ◌⊎◌, ℕ, ◌-◌, Bool, true, false, not, cond, List, [], ◌∷◌, length, Option, Some, None, refl, sym, ap, ap₂, ◌∙◌, subst, inl, inr}
 use Rattle.std.specs.Prelude.{IfNone, OnSome, filter, find, is_some}
 use Rattle.std.specs.Bool.{OnFalse, OnTrue}
 use Rattle.std.specs.List.{AllZip, list_any}
 use Rattle.std.specs.Map.{keys_of, lookup, lookup_entry}
 use Rattle.std.specs.declared.ops.Bound.{Bound}
-use Rattle.std.proofs.lemmas.List.{map-append}
+use Rattle.std.proofs.lemmas.List.{length-map, map-append}
 use Rattle.std.proofs.lemmas.Map.Made.{is_some-lookup}
 use Rattle.art_arena.proofs.Common.{Arena, key_of, is_before, put_in_order, AscendsByKey, Shrinks, in_map, in_unmap}
 use Rattle.art_arena.proofs.tree.Paths.{all_map}
@@ -13,6 +13,7 @@ use Rattle.art_arena.specs.declared.ends.End.{End}
 use Rattle.art_arena.specs.declared.ends.End.TheVariants.{First, Last}
 use Rattle.art_bytes.proofs.Common.{Conflict, IsBefore}
 use Rattle.art_map.proofs.Common.{with_pairs_put, has_bytes, last_item, pairs_between}
+use Rattle.art_map.specs.Room.{UsesLeafRoom}
 use Rattle.art_operations.proofs.Common.{HasKey, HasKeyAt, IsBlocked, KeepsLeavesOf, without_key, IsAtEnd, ShrinksAtEnd, with_pair_put}
 use Rattle.art_operations.proofs.LeafPairs.{shrinks-map}
 use Rattle.art_set.proofs.Terms.{keys_between, key_if_some, with_key_put, with_keys_put, KeyShrinksAtEnd}
@@ -125,6 +126,10 @@ clone-keys C D [] [] h = h
 clone-keys C D [] (q ∷ qs) h = h
 clone-keys C D (p ∷ ps) [] h = h
 clone-keys C D (p ∷ ps) (q ∷ qs) h = (h.0.0, clone-keys C D ps qs h.1)
+
+-- a set has as many keys as its map has pairs
+pub leaf-room : {K V : Type 0} (ps qs : List (K × V)) (old new : Arena K V) → UsesLeafRoom (length qs - length ps) old new → UsesLeafRoom (length (keys_of qs) - length (keys_of ps)) old new
+leaf-room ps qs old new = subst (λ n. UsesLeafRoom n old new) (ap₂ (λ a b. a - b) (sym (length-map qs (λ p. p.0))) (sym (length-map ps (λ p. p.0))))
 
 -- each key that stays keeps its leaf
 pub kept-names : {K V : Type 0} (bytes : K → List ℕ) (ps : List (K × V)) (old new : Arena K V) → KeepsLeavesOf bytes ps old new → (slot : ℕ) (key : List ℕ) → HasKeyAt bytes old slot key → HasKey bytes key (keys_of ps) → HasKeyAt bytes new slot key

@@ -1,9 +1,10 @@
 //! Insertions: of a key that overlaps no other, or in place of a key with the same bytes.
-ghost use Rattle.std.specs.Prelude.{◌≡◌, List, find, not, IfErr, IfOk, IsOk, OnErr, OnOk};
+ghost use Rattle.std.specs.Prelude.{◌≡◌, ◌-◌, List, find, length, not, IfErr, IfOk, IsOk, OnErr, OnOk};
 ghost use Rattle.art_operations.specs.KeyedLists.{HasKey, IsBlocked};
 ghost use Rattle.std.specs.Map.{keys_of};
 ghost use Rattle.art_map.specs.Contents.{has_bytes};
 ghost use Rattle.art_map.specs.Changes.{IsTryRefused as IsPairRefused};
+ghost use Rattle.art_map.specs.Room.{UsesLeafRoom};
 ghost use Rattle.art_arena.specs.arena.Arena.{HasRoom, KeepsRoomOf, UsesRoom};
 ghost use Rattle.art_set.specs.Changes.{IsKeyTurnedAway};
 ghost use Rattle.art_set.specs.LeafNames.{IsSetUntouched, KeepsAllNames};
@@ -54,6 +55,7 @@ impl<K: AsBytes, const PREFIX_LEN: usize> TreeSet<K, PREFIX_LEN> {
         ensures room { UsesRoom 2 self.old.nodes self.new.nodes }
         ensures stored_room { HasKey K.bytes (K.bytes key) self.old.keys
             → KeepsRoomOf self.old.nodes self.new.nodes }
+        ensures leaf_room { UsesLeafRoom (length self.new.keys - length self.old.keys) self.old.nodes self.new.nodes }
     {
         let old = match self.map.try_insert(key, ()) {
             Ok(old) => old,
@@ -88,6 +90,7 @@ impl<K: NoPrefixesBytes, const PREFIX_LEN: usize> TreeSet<K, PREFIX_LEN> {
         ensures room { UsesRoom 2 self.old.nodes self.new.nodes }
         ensures stored_room { HasKey K.bytes (K.bytes key) self.old.keys
             → KeepsRoomOf self.old.nodes self.new.nodes }
+        ensures leaf_room { UsesLeafRoom (length self.new.keys - length self.old.keys) self.old.nodes self.new.nodes }
     {
         let old = match self.map.insert(key, ()) {
             Ok(old) => old,
@@ -118,6 +121,7 @@ impl<K: NoPrefixesBytes, const PREFIX_LEN: usize> TreeSet<K, PREFIX_LEN> {
         ensures room { UsesRoom 2 self.old.nodes self.new.nodes }
         ensures stored_room { HasKey K.bytes (K.bytes key) self.old.keys
             → KeepsRoomOf self.old.nodes self.new.nodes }
+        ensures leaf_room { UsesLeafRoom (length self.new.keys - length self.old.keys) self.old.nodes self.new.nodes }
     {
         let old = match self.map.replace_entry(key, ()) {
             Ok(old) => old,

@@ -1,11 +1,10 @@
-use Rattle.std.proofs.Common.{ap, ap₂, ◌∙◌, ◌-◌, ◌*◌, sym, subst}
+use Rattle.std.proofs.Common.{ap, ◌∙◌, ◌*◌, sym, subst}
 use Rattle.std.proofs.lemmas.List.{length-map}
 use Rattle.std.proofs.lemmas.Result.{on_ok_weaker}
 use Rattle.std.specs.Map.{keys_of}
 use Rattle.art_arena.proofs.Common.{HasRoom}
 use Rattle.art_arena.specs.arena.Arena.{UsesRoom}
-use Rattle.art_map.specs.Room.{UsesLeafRoom}
-use Rattle.art_set.proofs.KeyViews.{keys-put-all, no-pair, no-pair-either}
+use Rattle.art_set.proofs.KeyViews.{keys-put-all, leaf-room, no-pair, no-pair-either}
 use Rattle.art_set.specs.Members.{members}
 use Rattle.art_set.proofs.set.TreeSet.append.Goals as goal
 
@@ -30,8 +29,7 @@ returns-clause-succeeds g c = rw (← c.self.view_is, ← c.other.view_is)
 
 pub returns-clause-leaf_room : goal.returns-clause-leaf_room
 returns-clause-leaf_room g c = rw (← c.self.view_is)
-    (on_ok_weaker c.append.result (λ uses some. subst (λ n. UsesLeafRoom n c.self.inside.map.nodes c.append.new.self.nodes)
-    (ap₂ (λ a b. a - b) (sym (length-map c.append.new.self.pairs (λ p. p.0))) (sym (length-map c.self.inside.map.pairs (λ p. p.0)))) (uses (λ e. some (ap keys_of e)))) c.append.ensures.leaf_room)
+    (on_ok_weaker c.append.result (λ uses some. leaf-room c.self.inside.map.pairs c.append.new.self.pairs c.self.inside.map.nodes c.append.new.self.nodes (uses (λ e. some (ap keys_of e)))) c.append.ensures.leaf_room)
 
 pub returns-clause-room : goal.returns-clause-room
 returns-clause-room g c = rw (← c.self.view_is, ← c.other.view_is)

@@ -1,5 +1,5 @@
 use Rattle.art_map.proofs.Common.{has_bytes}
-use Rattle.art_set.proofs.KeyViews.{blocking, blocks, has-pair, keys-put, was-added}
+use Rattle.art_set.proofs.KeyViews.{blocking, blocks, has-pair, keys-put, leaf-room, was-added}
 use Rattle.art_set.proofs.set.TreeSet.try_insert.Goals as goal
 
 pub returns-in-Err-clause-stored : goal.returns-in-Err-clause-stored
@@ -31,3 +31,9 @@ returns-in-Err-clause-stored_room g c = rw (← c.self.view_is) (λ h. c.in-Err.
 
 pub returns-clause-stored_room : goal.returns-clause-stored_room
 returns-clause-stored_room g c = rw (← c.self.view_is) (λ h. c.in-Ok.ensures.stored_room (has-pair g.K.AsBytes.bytes (g.K.AsBytes.bytes c.args.key) c.self.inside.map.pairs h))
+
+pub returns-in-Err-clause-leaf_room : goal.returns-in-Err-clause-leaf_room
+returns-in-Err-clause-leaf_room g c = rw (← c.self.view_is) (leaf-room c.self.inside.map.pairs c.try_insert.new.self.pairs c.self.inside.map.nodes c.try_insert.new.self.nodes c.in-Err.ensures.leaf_room)
+
+pub returns-clause-leaf_room : goal.returns-clause-leaf_room
+returns-clause-leaf_room g c = rw (← c.self.view_is) (leaf-room c.self.inside.map.pairs c.try_insert.new.self.pairs c.self.inside.map.nodes c.try_insert.new.self.nodes c.in-Ok.ensures.leaf_room)
