@@ -183,7 +183,7 @@ impl<K: AsBytes, const PREFIX_LEN: usize> TreeSet<K, PREFIX_LEN> {
 /// assert!(rt; shelves[&7].contains(b"ab"));
 /// ```
 impl<K: AsBytes, const PREFIX_LEN: usize> MadeWith<Global> for TreeSet<K, PREFIX_LEN> {
-    ghost is_made_with = { λ s. s.keys ≡ [] };
+    ghost is_made_with = { λ s. (s.keys ≡ []) × HasNoRoom s.nodes };
 
     fn made_with(alloc: Global) -> Self {
         TreeSet::with_prefix_len(alloc)

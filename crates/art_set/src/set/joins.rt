@@ -141,7 +141,8 @@ impl<K: NoPrefixesBytes + Drop, const PREFIX_LEN: usize> TreeSet<K, PREFIX_LEN> 
 /// assert!(rt; shelf.clone()?.books.contains(b"ab"));
 /// ```
 impl<K: CloneKey, const PREFIX_LEN: usize> Clone for TreeSet<K, PREFIX_LEN> {
-    ghost is_clone = { λ old copy. AllZip K.is_clone old.keys copy.keys × IsSetClone K.is_clone old copy };
+    ghost is_clone = { λ old copy. AllZip K.is_clone old.keys copy.keys × IsSetClone K.is_clone old copy
+        × HasNoSpare old.nodes copy.nodes };
 
     fn clone(&self) -> Result<Self, AllocError> {
         match TreeSet::clone(self) {
