@@ -8,7 +8,7 @@ use Rattle.art_bytes.specs.Keys.{is_below}
 use Rattle.art_arena.proofs.Common.{AscendsByKey, IsIn, begins_with, bytes_from_same, same_key, without_front}
 use Rattle.art_map.proofs.Common.{first_item, has_bytes, keys_added, last_item}
 use Rattle.art_map.proofs.FoundAfter.{turned}
-use Rattle.art_map.proofs.ItemChanges.{first-least, found-by-key, in-all-put, in-kept, in-put-over, last-greatest, with_items}
+use Rattle.art_map.proofs.ItemChanges.{first-least, found-by-key, in-all-put, in-kept, in-left, in-put-over, last-greatest, with_items}
 use Rattle.art_map.proofs.ItemCounts.{ascending-apart, has-kept, has-with, has-with-all, long-all-put, long-with, long-without}
 use Rattle.art_map.specs.PairLaws.{StandsLast}
 use Rattle.art_operations.proofs.Common.{HasKey, without_key}
@@ -125,6 +125,9 @@ module _ {K : Type 0} (bytes : K → List ℕ) where
   long-among [] ys = omega arith
   long-among (x ∷ xs) ys = let below = long-below x (put_among bytes xs ys) in let later = long-among xs ys in omega (arith, below, later)
 
+  pub long-difference : (xs ys : List K) → length (intersection_of bytes xs ys) + length (difference_of bytes xs ys) ≡ length xs
+  long-difference xs ys = long-retained-keys (λ x. is_member bytes (bytes x) ys) xs
+
   pub long-union : (xs ys : List K) → length (union_of bytes xs ys) ≡ length xs + length (difference_of bytes ys xs)
   long-union xs ys = long-among (difference_of bytes ys xs) xs
 
@@ -134,6 +137,12 @@ module _ {K : Type 0} (bytes : K → List ℕ) where
   -- and which
   pub in-key-inserted : (q k : K) (keys : List K) → IsIn q (with_key_put bytes k keys) ↔ ((q ≡ k) ⊎ (IsIn q keys × (bytes_eq (bytes q) (bytes k) ≡ false)))
   in-key-inserted q k keys = in-put-over bytes (λ x. bytes_eq (bytes x) (bytes k)) k q keys
+
+  pub in-key-removed : (q : K) (key : List ℕ) (keys : List K) → IsIn q (without_key bytes key keys) ↔ (IsIn q keys × (bytes_eq (bytes q) key ≡ false))
+  in-key-removed q key = in-left (λ k. bytes_eq (bytes k) key) q
+
+  pub in-keys-cut : (q : K) (front : List ℕ) (keys : List K) → IsIn q (without_front bytes front keys) ↔ (IsIn q keys × (begins_with front (bytes q) ≡ false))
+  in-keys-cut q front = in-left (λ k. begins_with front (bytes k)) q
 
   pub in-keys-inserted : (q : K) (new keys : List K) → IsIn q (with_keys_put bytes new keys) ↔ (StandsLast bytes q new ⊎ (IsIn q keys × (HasKey bytes (bytes q) new → ⊥)))
   in-keys-inserted q new keys = subst (λ l. IsIn q l ↔ (StandsLast bytes q new ⊎ (IsIn q keys × (HasKey bytes (bytes q) new → ⊥)))) (sym (all-put new keys)) (in-all-put bytes q new keys)
@@ -162,6 +171,7 @@ pub ruleset member_laws = (
   long-key-removed,
   long-keys-inserted,
   long-retained-keys,
+  long-difference,
   long-union,
   long-symmetric,
   first-key-least,

@@ -71,6 +71,10 @@ module _ (K : Type 0) where
   ManyKeysAmongRetained = (test : K → Bool) (keys : List K)
       → length (filter test keys) + length (filter (λ k. not (test k)) keys) ≡ length keys
 
+  abbrev pub ManyKeysOfDifference : Type 0
+  ManyKeysOfDifference = (bytes : K → List ℕ) (xs ys : List K)
+      → length (intersection_of bytes xs ys) + length (difference_of bytes xs ys) ≡ length xs
+
   abbrev pub ManyKeysOfUnion : Type 0
   ManyKeysOfUnion = (bytes : K → List ℕ) (xs ys : List K)
       → length (union_of bytes xs ys) ≡ length xs + length (difference_of bytes ys xs)
@@ -84,6 +88,14 @@ module _ (K : Type 0) where
   IsKeyInAfterInsertion = (bytes : K → List ℕ) (q k : K) (keys : List K)
       → IsIn q (with_key_put bytes k keys)
       ↔ ((q ≡ k) ⊎ (IsIn q keys × (bytes_eq (bytes q) (bytes k) ≡ false)))
+
+  abbrev pub IsKeyInAfterRemoval : Type 0
+  IsKeyInAfterRemoval = (bytes : K → List ℕ) (q : K) (key : List ℕ) (keys : List K)
+      → IsIn q (without_key bytes key keys) ↔ (IsIn q keys × (bytes_eq (bytes q) key ≡ false))
+
+  abbrev pub IsKeyInAfterPrefixRemoval : Type 0
+  IsKeyInAfterPrefixRemoval = (bytes : K → List ℕ) (q : K) (front : List ℕ) (keys : List K)
+      → IsIn q (without_front bytes front keys) ↔ (IsIn q keys × (begins_with front (bytes q) ≡ false))
 
   abbrev pub IsKeyInAfterInsertions : Type 0
   IsKeyInAfterInsertions = (bytes : K → List ℕ) (q : K) (new keys : List K)

@@ -8,8 +8,10 @@ ghost use Rattle.art_set.specs.Laws.{MembersAfterInsertion, MembersAfterPrefixRe
 ghost use Rattle.art_set.specs.Laws.{MembersAmongRetained, MembersAfterInsertions, MembersOfDifference};
 ghost use Rattle.art_set.specs.Laws.{MembersOfIntersection, MembersOfSymmetricDifference, MembersOfUnion};
 ghost use Rattle.art_set.specs.Laws.{ManyKeysAmongRetained, ManyKeysAfterInsertion, ManyKeysAfterInsertions};
-ghost use Rattle.art_set.specs.Laws.{ManyKeysAfterRemoval, ManyKeysOfSymmetricDifference, ManyKeysOfUnion};
-ghost use Rattle.art_set.specs.Laws.{IsKeyInAmongRetained, IsKeyInAfterInsertion, IsKeyInAfterInsertions};
+ghost use Rattle.art_set.specs.Laws.{ManyKeysAfterRemoval, ManyKeysOfDifference, ManyKeysOfSymmetricDifference};
+ghost use Rattle.art_set.specs.Laws.{ManyKeysOfUnion, IsKeyInAmongRetained};
+ghost use Rattle.art_set.specs.Laws.{IsKeyInAfterInsertion, IsKeyInAfterInsertions, IsKeyInAfterPrefixRemoval};
+ghost use Rattle.art_set.specs.Laws.{IsKeyInAfterRemoval};
 ghost use Rattle.art_set.specs.Laws.{FirstKeyIsLeast, KeyFoundByBytes, LastKeyIsGreatest};
 
 use crate::set::TreeSet;
@@ -83,6 +85,11 @@ pub fn len_among_retained<K>()
     ensures { ManyKeysAmongRetained K }
 {}
 
+/// The keys that both sets have and those that the first has alone are all keys of the first.
+pub fn len_of_difference<K>()
+    ensures { ManyKeysOfDifference K }
+{}
+
 /// A union has the keys of the first set, and as many more as the second has alone.
 pub fn len_of_union<K>()
     ensures { ManyKeysOfUnion K }
@@ -98,14 +105,23 @@ pub fn is_in_after_insertion<K>()
     ensures { IsKeyInAfterInsertion K }
 {}
 
+/// After `remove` and `take` the keys are those that were there with other bytes.
+pub fn is_in_after_removal<K>()
+    ensures { IsKeyInAfterRemoval K }
+{}
+
+/// After `remove_prefix` the keys are those that were there with bytes that don't begin with the prefix.
+pub fn is_in_after_prefix_removal<K>()
+    ensures { IsKeyInAfterPrefixRemoval K }
+{}
+
 /// After `extend`, `append` and their like the keys are the last of each bytes of those that were put in, and those
 /// that were there with bytes that no new key has.
 pub fn is_in_after_insertions<K>()
     ensures { IsKeyInAfterInsertions K }
 {}
 
-/// Among the keys that pass a test are those of the set that pass it. So it is after a removal, where the test is for
-/// other bytes.
+/// Among the keys that pass a test are those of the set that pass it.
 pub fn is_in_among_retained<K>()
     ensures { IsKeyInAmongRetained K }
 {}
