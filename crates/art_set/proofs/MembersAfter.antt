@@ -1,7 +1,9 @@
 -- What is a member after a change and of a merge, how many keys there are then, and which. Callers cite these lemmas.
 use Rattle.std.proofs.Common.{◌≡◌, ◌⊎◌, inl, inr, ℕ, suc, ◌+◌, Bool, true, false, cond, not, ◌||◌, List, [], ◌∷◌, length, Some, bytes_eq, refl, sym, ap, ap₂, subst, ◌∙◌, arith}
 use Rattle.std.specs.Prelude.{◌&&◌, ◌↔◌, filter, find}
+use Rattle.std.specs.List.{AllZip}
 use Rattle.std.proofs.Math.Bool.{and_comm, or-true, or_comm}
+use Rattle.std.proofs.lemmas.List.Elements.{same_from_all_zip}
 use Rattle.std.proofs.lemmas.List.Filters.{length-filter_both}
 use Rattle.art_bytes.proofs.Common.{IsBefore}
 use Rattle.art_bytes.specs.Keys.{is_below}
@@ -35,6 +37,10 @@ module _ {K : Type 0} where
 
   pub long-retained-keys : (test : K → Bool) (keys : List K) → length (filter test keys) + length (filter (λ k. not (test k)) keys) ≡ length keys
   long-retained-keys test keys = length-filter_both test (λ k. not (test k)) (λ k. refl) keys
+
+  -- clones that equal their keys are these keys
+  pub clones-are-keys : (is_clone : K → K → Type 0) (keys clones : List K) → ((k c : K) → is_clone k c → c ≡ k) → AllZip is_clone keys clones → clones ≡ keys
+  clones-are-keys is_clone keys clones same are = same_from_all_zip is_clone keys clones are same
 
 module _ {K : Type 0} (bytes : K → List ℕ) where
   -- keys that are put in are items that are
@@ -176,4 +182,5 @@ pub ruleset member_laws = (
   long-symmetric,
   first-key-least,
   last-key-greatest,
+  clones-are-keys,
 )

@@ -1,10 +1,12 @@
 -- A merge of two ascending lists ascends.
 use Rattle.std.proofs.Common.{subst, ◌++◌, append_assoc, ◌≡◌, ℕ, Bool, true, false, not, cond, ◌||◌, bytes_eq, List, [], ◌∷◌, refl, sym, ap, ◌∙◌, inl, inr}
 use Rattle.std.specs.Prelude.{filter}
-use Rattle.std.specs.List.{AllByRecursion}
+use Rattle.std.specs.List.{AllByRecursion, AllZip}
 use Rattle.std.specs.Ordering.{is_eq, is_lt}
 use Rattle.std.specs.declared.cmp.Ordering.{Ordering}
 use Rattle.std.specs.declared.cmp.Ordering.TheVariants.{Less, Equal, Greater}
+use Rattle.std.proofs.lemmas.List.{append-nil}
+use Rattle.std.proofs.lemmas.List.Elements.{AllZip-push}
 use Rattle.std.proofs.lemmas.Map.Text.{is_eq-slice_cmp}
 use Rattle.art_arena.proofs.Common.{AscendsByKey, all_append, all_left, all_weaker}
 use Rattle.art_bytes.proofs.Common.{BeginsWith, Conflict, IsBefore, bytes_cmp, before_cmp, cmp_before}
@@ -100,13 +102,42 @@ module _ {K : Type 0} (bytes : K → List ℕ) where
   ascending-left [] ys up = tt
   ascending-left (x ∷ xs) ys up = (all_left (λ y. bytes_cmp (bytes x) (bytes y) ≡ Less) xs ys up.0, ascending-left xs ys up.1)
 
-  -- a key is put in after keys that come before it
-  pub collected : (is_key : K → Type 0) → ((k l : K) → is_key k → is_key l → BeginsWith (bytes k) (bytes l) → bytes k ≡ bytes l)
-      → (all set rest on : List K) (k c : K) (new : List K) → AscendsInBytes bytes all → AllByRecursion is_key set → set ++ rest ≡ all → rest ≡ k ∷ on → is_key k → c ≡ k → new ≡ with_key_put bytes c set
-      → AllByRecursion is_key new × (new ++ on ≡ all)
-  collected is_key alone all set rest on k c new up are whole next is same put =
-      let more = all_append is_key set (k ∷ []) are (is, tt) in
-      let part : (set ++ k ∷ []) ++ on ≡ all = append_assoc set (k ∷ []) on ∙ ap (λ ks. set ++ ks) (sym next) ∙ whole in
-      let ordered = ascends-by-key is_key alone (set ++ k ∷ []) more (ascending-left (set ++ k ∷ []) on (subst (AscendsInBytes bytes) (sym part) up)) in
-      let made : new ≡ set ++ k ∷ [] = put ∙ ap (λ x. with_key_put bytes x set) same ∙ put-last bytes set k ordered in
-      (subst (AllByRecursion is_key) (sym made) more, ap (λ ks. ks ++ on) made ∙ part)
+  -- of all these keys some came, of which the last list has clones, and the rest is still to come
+  pub record HasClonesOfSome (is_key : K → Type 0) (C : K → K → Type 0) (all rest made : List K) : Type 0 where
+    pub came : List K
+    pub keys : AllByRecursion is_key came
+    pub clones : AllZip C came made
+    pub whole : came ++ rest ≡ all
+
+  -- where none is still to come, it has clones of all
+  pub all-cloned : (is_key : K → Type 0) (C : K → K → Type 0) (all rest made new : List K) → HasClonesOfSome is_key C all rest made → rest ≡ [] → new ≡ made → AllZip C all new
+  all-cloned is_key C all rest made new some none is =
+      let whole : some.came ≡ all = sym (append-nil some.came) ∙ ap (λ ks. some.came ++ ks) (sym none) ∙ some.whole in
+      subst (λ ks. AllZip C ks new) whole (subst (AllZip C some.came) (sym is) some.clones)
+
+  module _ (C : K → K → Type 0) (same : (k c : K) → C k c → bytes c ≡ bytes k) where
+    -- clones with the bytes of their keys come in the order of these
+    clones-after : (k c : K) → C k c → (ks cs : List K) → AllZip C ks cs → AllByRecursion (λ y. IsBefore (bytes k) (bytes y)) ks → AllByRecursion (λ y. IsBefore (bytes c) (bytes y)) cs
+    clones-after k c is [] [] are h = tt
+    clones-after k c is [] (d ∷ cs) are h = absurd are
+    clones-after k c is (l ∷ ks) [] are h = absurd are
+    clones-after k c is (l ∷ ks) (d ∷ cs) are h = (rw (same k c is, same l d are.0) h.0, clones-after k c is ks cs are.1 h.1)
+
+    ascending-clones : (ks cs : List K) → AllZip C ks cs → AscendsByKey bytes ks → AscendsByKey bytes cs
+    ascending-clones [] [] are h = tt
+    ascending-clones [] (c ∷ cs) are h = absurd are
+    ascending-clones (k ∷ ks) [] are h = absurd are
+    ascending-clones (k ∷ ks) (c ∷ cs) are h = (clones-after k c are.0 ks cs are.1 h.0, ascending-clones ks cs are.1 h.1)
+
+    -- a clone is put in after those of the keys that come before its own
+    pub collected : (is_key : K → Type 0) → ((k l : K) → is_key k → is_key l → BeginsWith (bytes k) (bytes l) → bytes k ≡ bytes l)
+        → (all rest on made : List K) (k c : K) (new : List K) → AscendsInBytes bytes all → HasClonesOfSome is_key C all rest made → rest ≡ k ∷ on → is_key k → C k c → new ≡ with_key_put bytes c made
+        → HasClonesOfSome is_key C all on new
+    collected is_key alone all rest on made k c new up some next is clone put =
+        let came = some.came in
+        let more = all_append is_key came (k ∷ []) some.keys (is, tt) in
+        let part : (came ++ k ∷ []) ++ on ≡ all = append_assoc came (k ∷ []) on ∙ ap (λ ks. came ++ ks) (sym next) ∙ some.whole in
+        let ordered = ascends-by-key is_key alone (came ++ k ∷ []) more (ascending-left (came ++ k ∷ []) on (subst (AscendsInBytes bytes) (sym part) up)) in
+        let all-clones = AllZip-push C came made k c some.clones clone in
+        let last = put ∙ put-last bytes made c (ascending-clones (came ++ k ∷ []) (made ++ c ∷ []) all-clones ordered) in
+        record { came = came ++ k ∷ []; keys = more; clones = subst (AllZip C (came ++ k ∷ [])) (sym last) all-clones; whole = part }

@@ -1,6 +1,7 @@
 -- The statements that the functions of `laws` ensure.
 use Rattle.std.specs.Prelude.{◌≡◌, ◌⊎◌, ◌↔◌, ℕ, suc, ◌+◌, ◌&&◌, ◌||◌, not, Bool, true, false, if◌then◌else◌}
 use Rattle.std.specs.Prelude.{List, filter, find, length, Some, bytes_eq}
+use Rattle.std.specs.List.{AllZip}
 use Rattle.art_bytes.specs.Keys.{IsBefore}
 use Rattle.art_arena.specs.tree.Changes.{IsIn}
 use Rattle.art_arena.specs.tree.Order.{AscendsByKey}
@@ -117,3 +118,7 @@ module _ (K : Type 0) where
   abbrev pub LastKeyIsGreatest : Type 0
   LastKeyIsGreatest = (bytes : K → List ℕ) (k q : K) (keys : List K) → AscendsByKey bytes keys
       → last_item keys ≡ Some k → IsIn q keys → (q ≡ k) ⊎ IsBefore (bytes q) (bytes k)
+
+  abbrev pub KeysOfClones : (K → K → Type 0) → Type 0
+  KeysOfClones is_clone = (keys clones : List K) → ((k c : K) → is_clone k c → c ≡ k)
+      → AllZip is_clone keys clones → clones ≡ keys

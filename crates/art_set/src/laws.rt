@@ -12,7 +12,7 @@ ghost use Rattle.art_set.specs.Laws.{ManyKeysAfterRemoval, ManyKeysOfDifference,
 ghost use Rattle.art_set.specs.Laws.{ManyKeysOfUnion, IsKeyInAmongRetained};
 ghost use Rattle.art_set.specs.Laws.{IsKeyInAfterInsertion, IsKeyInAfterInsertions, IsKeyInAfterPrefixRemoval};
 ghost use Rattle.art_set.specs.Laws.{IsKeyInAfterRemoval};
-ghost use Rattle.art_set.specs.Laws.{FirstKeyIsLeast, KeyFoundByBytes, LastKeyIsGreatest};
+ghost use Rattle.art_set.specs.Laws.{FirstKeyIsLeast, KeyFoundByBytes, KeysOfClones, LastKeyIsGreatest};
 
 use crate::set::TreeSet;
 use art_bytes::AsBytes;
@@ -139,6 +139,11 @@ pub fn first_is_least<K>()
 /// The last key comes after all others.
 pub fn last_is_greatest<K>()
     ensures { LastKeyIsGreatest K }
+{}
+
+/// If a clone of a key equals it, what `clone`, `&`, `|`, `^` and `-` make of keys has these keys.
+pub fn keys_of_clones<K: Clone>()
+    ensures { KeysOfClones K K.is_clone }
 {}
 
 /// The keys of a set ascend by their bytes, no two have the same, and none is a prefix of another.

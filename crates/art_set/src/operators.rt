@@ -1,5 +1,6 @@
 //! `&`, `|`, `^` and `-` of two sets: sets of clones of the keys that a merge gives.
 ghost use Rattle.std.specs.Prelude.{◌≡◌, IfOk};
+ghost use Rattle.std.specs.List.{AllZip};
 ghost use Rattle.art_set.specs.Merges.{difference_of, intersection_of, symmetric_difference_of, union_of};
 
 use crate::merges::{FirstAlone, InBoth, InEither, Kind, OneAlone};
@@ -15,7 +16,8 @@ fn collected<W: Kind<K>, K: OrderedBytes + NoPrefixesBytes + Clone + Drop, const
     first: &TreeSet<K, PREFIX_LEN>,
     second: &TreeSet<K, PREFIX_LEN>,
 ) -> Result<TreeSet<K, PREFIX_LEN>, AllocError>
-    ensures { ((k c : K) → K.is_clone k c → c ≡ k) → IfOk result (λ s. s.keys ≡ W.keys first.now.keys second.now.keys) }
+    ensures { ((k c : K) → K.is_clone k c → K.bytes c ≡ K.bytes k)
+        → IfOk result (λ s. AllZip K.is_clone (W.keys first.now.keys second.now.keys) s.keys) }
 {
     if !nodes_fit::<PREFIX_LEN>() {
         return Err(AllocError);
@@ -37,8 +39,9 @@ fn collected<W: Kind<K>, K: OrderedBytes + NoPrefixesBytes + Clone + Drop, const
     })
 }
 
-/// The keys that both sets have, as this one has them. Fails if a key can't be cloned, or if out of memory. The
-/// contract says which keys these are if a clone of a key equals it.
+/// Clones of the keys that both sets have, as this one has them. Fails if a key can't be cloned, or if out of memory.
+/// The contract speaks of keys whose clones have the same bytes (`CloneBytes`). If a clone of a key equals it, it has
+/// these keys themselves: see `laws::keys_of_clones`.
 ///
 /// ```
 /// let mut first = TreeSet::new(rt.alloc());
@@ -52,16 +55,15 @@ impl<'a, 'b, K: OrderedBytes + NoPrefixesBytes + Clone + Drop, const PREFIX_LEN:
 > for &'a TreeSet<K, PREFIX_LEN> {
     type Output = Result<TreeSet<K, PREFIX_LEN>, AllocError>;
 
-    ghost bitand_gives = { λ a b r. ((k c : K) → K.is_clone k c → c ≡ k)
-        → IfOk r (λ s. s.keys ≡ intersection_of K.bytes a.now.keys b.now.keys) };
+    ghost bitand_gives = { λ a b r. ((k c : K) → K.is_clone k c → K.bytes c ≡ K.bytes k)
+        → IfOk r (λ s. AllZip K.is_clone (intersection_of K.bytes a.now.keys b.now.keys) s.keys) };
 
     fn bitand(self, other: &'b TreeSet<K, PREFIX_LEN>) -> Self::Output {
         collected::<InBoth, _, _>(self, other)
     }
 }
 
-/// The keys of this set, and those of the other that it lacks. Fails if a key can't be cloned, or if out of memory. The
-/// contract says which keys these are if a clone of a key equals it.
+/// Clones of the keys of this set, and of those of the other that it lacks. It fails and is promised as `&`.
 ///
 /// ```
 /// let mut first = TreeSet::new(rt.alloc());
@@ -75,16 +77,15 @@ impl<'a, 'b, K: OrderedBytes + NoPrefixesBytes + Clone + Drop, const PREFIX_LEN:
 > for &'a TreeSet<K, PREFIX_LEN> {
     type Output = Result<TreeSet<K, PREFIX_LEN>, AllocError>;
 
-    ghost bitor_gives = { λ a b r. ((k c : K) → K.is_clone k c → c ≡ k)
-        → IfOk r (λ s. s.keys ≡ union_of K.bytes a.now.keys b.now.keys) };
+    ghost bitor_gives = { λ a b r. ((k c : K) → K.is_clone k c → K.bytes c ≡ K.bytes k)
+        → IfOk r (λ s. AllZip K.is_clone (union_of K.bytes a.now.keys b.now.keys) s.keys) };
 
     fn bitor(self, other: &'b TreeSet<K, PREFIX_LEN>) -> Self::Output {
         collected::<InEither, _, _>(self, other)
     }
 }
 
-/// The keys that one of the sets has and the other lacks. Fails if a key can't be cloned, or if out of memory. The
-/// contract says which keys these are if a clone of a key equals it.
+/// Clones of the keys that one of the sets has and the other lacks. It fails and is promised as `&`.
 ///
 /// ```
 /// let mut first = TreeSet::new(rt.alloc());
@@ -98,16 +99,15 @@ impl<'a, 'b, K: OrderedBytes + NoPrefixesBytes + Clone + Drop, const PREFIX_LEN:
 > for &'a TreeSet<K, PREFIX_LEN> {
     type Output = Result<TreeSet<K, PREFIX_LEN>, AllocError>;
 
-    ghost bitxor_gives = { λ a b r. ((k c : K) → K.is_clone k c → c ≡ k)
-        → IfOk r (λ s. s.keys ≡ symmetric_difference_of K.bytes a.now.keys b.now.keys) };
+    ghost bitxor_gives = { λ a b r. ((k c : K) → K.is_clone k c → K.bytes c ≡ K.bytes k)
+        → IfOk r (λ s. AllZip K.is_clone (symmetric_difference_of K.bytes a.now.keys b.now.keys) s.keys) };
 
     fn bitxor(self, other: &'b TreeSet<K, PREFIX_LEN>) -> Self::Output {
         collected::<OneAlone, _, _>(self, other)
     }
 }
 
-/// The keys that the other set lacks. Fails if a key can't be cloned, or if out of memory. The contract says which keys
-/// these are if a clone of a key equals it.
+/// Clones of the keys that the other set lacks. It fails and is promised as `&`.
 ///
 /// ```
 /// let mut first = TreeSet::new(rt.alloc());
@@ -121,8 +121,8 @@ impl<'a, 'b, K: OrderedBytes + NoPrefixesBytes + Clone + Drop, const PREFIX_LEN:
 > for &'a TreeSet<K, PREFIX_LEN> {
     type Output = Result<TreeSet<K, PREFIX_LEN>, AllocError>;
 
-    ghost sub_gives = { λ a b r. ((k c : K) → K.is_clone k c → c ≡ k)
-        → IfOk r (λ s. s.keys ≡ difference_of K.bytes a.now.keys b.now.keys) };
+    ghost sub_gives = { λ a b r. ((k c : K) → K.is_clone k c → K.bytes c ≡ K.bytes k)
+        → IfOk r (λ s. AllZip K.is_clone (difference_of K.bytes a.now.keys b.now.keys) s.keys) };
 
     fn sub(self, other: &'b TreeSet<K, PREFIX_LEN>) -> Self::Output {
         collected::<FirstAlone, _, _>(self, other)

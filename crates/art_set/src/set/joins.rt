@@ -60,7 +60,8 @@ impl<K: AsBytes, const PREFIX_LEN: usize> TreeSet<K, PREFIX_LEN> {
 
     /// Makes a set of clones of the keys, in the same order, with nodes of its own. It has memory for as many nodes of
     /// each kind as there are slots for here, and for no more. If a clone of a key equals its original, it has the same
-    /// keys. A clone of a key has to be a key of its type, as it is if it equals its original.
+    /// keys: see `laws::keys_of_clones`. A clone of a key has to be a key of its type, as it is if it equals its
+    /// original.
     ///
     /// Fails if a key can't be cloned, or if out of memory. What was made is dropped then. The set is only read.
     ///
@@ -76,7 +77,6 @@ impl<K: AsBytes, const PREFIX_LEN: usize> TreeSet<K, PREFIX_LEN> {
         K: CloneBytes,
         requires { (k c : K) → K.is_key k → K.is_clone k c → K.is_key c }
         ensures clones { IfOk result (λ copy. AllZip K.is_clone self.now.keys copy.keys) }
-        ensures keys { ((k c : K) → K.is_clone k c → c ≡ k) → IfOk result (λ copy. copy.keys ≡ self.now.keys) }
         ensures shape { IfOk result (IsSetClone K.is_clone self.now) }
         ensures exact { IfOk result (λ copy. HasNoSpare self.now.nodes copy.nodes) }
     {

@@ -1,13 +1,8 @@
-use Rattle.std.proofs.Common.{ap, refl}
-use Rattle.std.specs.Map.{keys_of}
 use Rattle.art_set.proofs.KeyViews.{clone-keys}
 use Rattle.art_set.proofs.set.TreeSet.clone.Goals as goal
 
 pub returns-clause-clones : goal.returns-clause-clones
 returns-clause-clones g c = rw (← c.self.view_is) (clone-keys _ _ _ _ c.in_ok-map.ensures.clones)
-
-pub returns-clause-keys : goal.returns-clause-keys
-returns-clause-keys g c = rw (← c.self.view_is) (λ same. ap keys_of (c.in_ok-map.ensures.pairs same (λ v w is. refl)))
 
 pub returns-clause-shape : goal.returns-clause-shape
 returns-clause-shape g c = rw (← c.self.view_is) c.in_ok-map.ensures.shape
