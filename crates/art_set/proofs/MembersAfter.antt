@@ -11,10 +11,10 @@ use Rattle.art_arena.proofs.Common.{AscendsByKey, IsIn, begins_with, bytes_from_
 use Rattle.art_map.proofs.Common.{first_item, has_bytes, keys_added, last_item}
 use Rattle.art_map.proofs.FoundAfter.{turned}
 use Rattle.art_map.proofs.ItemChanges.{first-least, found-by-key, in-all-put, in-kept, in-left, in-put-over, last-greatest, with_items}
-use Rattle.art_map.proofs.ItemCounts.{ascending-apart, has-kept, has-with, has-with-all, long-all-put, long-with, long-without}
+use Rattle.art_map.proofs.ItemCounts.{AreApart, ascending-apart, has-kept, has-with, has-with-all, long-all-put, long-with, long-without}
 use Rattle.art_map.specs.PairLaws.{StandsLast}
 use Rattle.art_operations.proofs.Common.{HasKey, without_key}
-use Rattle.art_set.proofs.Terms.{difference_of, is_member, put_among, put_below, with_key_put, with_keys_put}
+use Rattle.art_set.proofs.Terms.{difference_of, filter-none, is_member, put_among, put_below, with_key_put, with_keys_put}
 use Rattle.art_set.specs.Merges.{intersection_of, symmetric_difference_of, union_of}
 
 -- a key that is there is a member, and a member's key is there
@@ -134,6 +134,54 @@ module _ {K : Type 0} (bytes : K → List ℕ) where
   pub long-difference : (xs ys : List K) → length (intersection_of bytes xs ys) + length (difference_of bytes xs ys) ≡ length xs
   long-difference xs ys = long-retained-keys (λ x. is_member bytes (bytes x) ys) xs
 
+  -- one if so, and none if not
+  abbrev one_if : Bool → ℕ
+  one_if b = cond b 1 0
+
+  -- one key more of the second list
+  one-more : (x : K) (xs ys : List K) → is_member bytes (bytes x) xs ≡ false → AreApart bytes ys
+      → length (filter (λ y. bytes_eq (bytes x) (bytes y) || is_member bytes (bytes y) xs) ys) ≡ one_if (is_member bytes (bytes x) ys) + length (intersection_of bytes ys xs)
+  one-more x xs [] none apart = refl
+  one-more x xs (y ∷ ys) none apart = by_key (bytes_eq (bytes x) (bytes y)) refl (is_member bytes (bytes y) xs) refl (one-more x xs ys none apart.1)
+    where
+      with-x : List K
+      with-x = filter (λ l. bytes_eq (bytes x) (bytes l) || is_member bytes (bytes l) xs) ys
+
+      common : List K
+      common = intersection_of bytes ys xs
+
+      later : Bool
+      later = is_member bytes (bytes x) ys
+
+      here : (b : Bool) → bytes_eq (bytes x) (bytes y) ≡ b → one_if (bytes_eq (bytes y) (bytes x) || later) ≡ one_if (b || later)
+      here b at = ap (λ c. one_if (c || later)) (turned (bytes y) (bytes x) ∙ at)
+
+      counted : (m : Bool) (l c : ℕ) → length with-x ≡ l + length common → c ≡ l → length (cond m (y ∷ with-x) with-x) ≡ c + length (cond m (y ∷ common) common)
+      counted true l c all is = omega (arith, all, is)
+      counted false l c all is = omega (arith, all, is)
+
+      by_key : (b : Bool) → bytes_eq (bytes x) (bytes y) ≡ b → (m : Bool) → is_member bytes (bytes y) xs ≡ m → length with-x ≡ one_if later + length common
+          → length (cond (b || m) (y ∷ with-x) with-x) ≡ one_if (bytes_eq (bytes y) (bytes x) || later) + length (cond m (y ∷ common) common)
+      by_key true at true m e =
+          let clash : true ≡ false = sym m ∙ ap (λ k. is_member bytes k xs) (sym (bytes_from_same (bytes x) (bytes y) at)) ∙ none in absurd (cc)
+      by_key true at false m e =
+          let gone : one_if later ≡ 0 = ap one_if (ap (λ k. is_member bytes k ys) (bytes_from_same (bytes x) (bytes y) at) ∙ apart.0) in
+          let one : one_if (bytes_eq (bytes y) (bytes x) || later) ≡ 1 = here true at in
+          omega (arith, e, gone, one)
+      by_key false at m is e = counted m (one_if later) (one_if (bytes_eq (bytes y) (bytes x) || later)) e (here false at)
+
+  many-common : (xs ys : List K) → AreApart bytes xs → AreApart bytes ys → length (intersection_of bytes xs ys) ≡ length (intersection_of bytes ys xs)
+  many-common [] ys one other = sym (ap length (filter-none (λ y. false) ys (λ y. refl)))
+  many-common (x ∷ xs) ys one other = by_test (is_member bytes (bytes x) ys) (many-common xs ys one.1 other) (one-more x xs ys one.0 other)
+    where
+      by_test : (b : Bool) → length (intersection_of bytes xs ys) ≡ length (intersection_of bytes ys xs) → length (intersection_of bytes ys (x ∷ xs)) ≡ one_if b + length (intersection_of bytes ys xs)
+          → length (cond b (x ∷ intersection_of bytes xs ys) (intersection_of bytes xs ys)) ≡ length (intersection_of bytes ys (x ∷ xs))
+      by_test true later more = omega (arith, later, more)
+      by_test false later more = omega (arith, later, more)
+
+  pub long-intersection : (xs ys : List K) → AscendsByKey bytes xs → AscendsByKey bytes ys → length (intersection_of bytes xs ys) ≡ length (intersection_of bytes ys xs)
+  long-intersection xs ys one other = many-common xs ys (ascending-apart bytes xs one) (ascending-apart bytes ys other)
+
   pub long-union : (xs ys : List K) → length (union_of bytes xs ys) ≡ length xs + length (difference_of bytes ys xs)
   long-union xs ys = long-among (difference_of bytes ys xs) xs
 
@@ -178,6 +226,7 @@ pub ruleset member_laws = (
   long-keys-inserted,
   long-retained-keys,
   long-difference,
+  long-intersection,
   long-union,
   long-symmetric,
   first-key-least,

@@ -76,6 +76,10 @@ module _ (K : Type 0) where
   ManyKeysOfDifference = (bytes : K → List ℕ) (xs ys : List K)
       → length (intersection_of bytes xs ys) + length (difference_of bytes xs ys) ≡ length xs
 
+  abbrev pub ManyKeysOfIntersection : Type 0
+  ManyKeysOfIntersection = (bytes : K → List ℕ) (xs ys : List K) → AscendsByKey bytes xs → AscendsByKey bytes ys
+      → length (intersection_of bytes xs ys) ≡ length (intersection_of bytes ys xs)
+
   abbrev pub ManyKeysOfUnion : Type 0
   ManyKeysOfUnion = (bytes : K → List ℕ) (xs ys : List K)
       → length (union_of bytes xs ys) ≡ length xs + length (difference_of bytes ys xs)

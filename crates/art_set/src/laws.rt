@@ -9,7 +9,7 @@ ghost use Rattle.art_set.specs.Laws.{MembersAmongRetained, MembersAfterInsertion
 ghost use Rattle.art_set.specs.Laws.{MembersOfIntersection, MembersOfSymmetricDifference, MembersOfUnion};
 ghost use Rattle.art_set.specs.Laws.{ManyKeysAmongRetained, ManyKeysAfterInsertion, ManyKeysAfterInsertions};
 ghost use Rattle.art_set.specs.Laws.{ManyKeysAfterRemoval, ManyKeysOfDifference, ManyKeysOfSymmetricDifference};
-ghost use Rattle.art_set.specs.Laws.{ManyKeysOfUnion, IsKeyInAmongRetained};
+ghost use Rattle.art_set.specs.Laws.{ManyKeysOfIntersection, ManyKeysOfUnion, IsKeyInAmongRetained};
 ghost use Rattle.art_set.specs.Laws.{IsKeyInAfterInsertion, IsKeyInAfterInsertions, IsKeyInAfterPrefixRemoval};
 ghost use Rattle.art_set.specs.Laws.{IsKeyInAfterRemoval};
 ghost use Rattle.art_set.specs.Laws.{FirstKeyIsLeast, KeyFoundByBytes, KeysOfClones, LastKeyIsGreatest};
@@ -88,6 +88,11 @@ pub fn len_among_retained<K>()
 /// The keys that both sets have and those that the first has alone are all keys of the first.
 pub fn len_of_difference<K>()
     ensures { ManyKeysOfDifference K }
+{}
+
+/// Two sets have as many keys in common, whichever of them is the first.
+pub fn len_of_intersection<K>()
+    ensures { ManyKeysOfIntersection K }
 {}
 
 /// A union has the keys of the first set, and as many more as the second has alone.
