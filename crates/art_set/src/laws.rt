@@ -3,6 +3,7 @@
 #![tactic(auto, using(crate::proofs::MembersAfter::member_laws))]
 
 ghost use Rattle.std.specs.Prelude.{◌≡◌};
+ghost use Rattle.std.specs.Thread.{IsSend, IsSync};
 ghost use Rattle.art_arena.specs.tree.Order.{AscendsByKey};
 ghost use Rattle.art_set.specs.Laws.{MembersAfterInsertion, MembersAfterPrefixRemoval, MembersAfterRemoval};
 ghost use Rattle.art_set.specs.Laws.{MembersAmongRetained, MembersAfterInsertions, MembersOfDifference};
@@ -13,6 +14,7 @@ ghost use Rattle.art_set.specs.Laws.{ManyKeysOfIntersection, ManyKeysOfUnion, Is
 ghost use Rattle.art_set.specs.Laws.{IsKeyInAfterInsertion, IsKeyInAfterInsertions, IsKeyInAfterPrefixRemoval};
 ghost use Rattle.art_set.specs.Laws.{IsKeyInAfterRemoval};
 ghost use Rattle.art_set.specs.Laws.{FirstKeyIsLeast, KeyFoundByBytes, KeysOfClones, LastKeyIsGreatest};
+ghost use Rattle.art_set.specs.contracts.set.TreeSet.{the_row};
 
 use crate::set::TreeSet;
 use art_bytes::AsBytes;
@@ -158,7 +160,7 @@ pub fn keys_ascend<K: AsBytes, const PREFIX_LEN: usize>(set: &TreeSet<K, PREFIX_
     let _keys = set.nodes();
 }
 
-// Takes what may go to another thread and be read from several at once.
+// Takes what may go to another thread and be read from several at once, as the language judges.
 fn crossing<T: Send + Sync>(value: T) -> T
     ensures { result ≡ value }
 {
@@ -169,7 +171,9 @@ fn crossing<T: Send + Sync>(value: T) -> T
 pub fn set_crosses<K: AsBytes + Send + Sync, const PREFIX_LEN: usize>(
     set: TreeSet<K, PREFIX_LEN>,
 ) -> TreeSet<K, PREFIX_LEN>
-    ensures { result ≡ set }
+    ensures same { result ≡ set }
+    ensures sent { IsSend (the_row K.row PREFIX_LEN.row K.AsBytes) }
+    ensures shared { IsSync (the_row K.row PREFIX_LEN.row K.AsBytes) }
 {
     crossing(set)
 }
