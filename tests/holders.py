@@ -25,7 +25,7 @@ PARTS_SO_NAMED = {"readers.rt", "read_ahead.rt"}
 RULES = [
     (r"\bTreeMap\b", {HOLDER, *LENT}, "names a map"),
     (r"\bNodeArena\b|\.nodes\(", {"read_ahead/path_reader.rt"}, "names an arena"),
-    (r"\bself\s*\.(records|numbers)\b|\bindex\s*\.(records|numbers)\b", {HOLDER, *PARTS_SO_NAMED}, "takes a map of an index"),
+    (r"\bself\s*\.(keys|numbers)\b|\bindex\s*\.(keys|numbers)\b", {HOLDER, *PARTS_SO_NAMED}, "takes a map of an index"),
     (r"\.(byte_map|number_map)\(", set(), "calls what lends a map to others"),
     (r"\b(PathReader|MapReader|Readers)::new\(", {HOLDER}, "makes a reader"),
     (r"\.reader\(", {"readers.rt"}, "makes a reader"),
@@ -38,7 +38,7 @@ WRONG = {
     "looks up beside the readers": (
         "handling.rt",
         LOOKS,
-        f"        let _found = self.records.get(&SliceKey(fields.full_key()));\n{LOOKS}",
+        f"        let _found = self.keys.get(&SliceKey(fields.full_key()));\n{LOOKS}",
     ),
     "makes a second reader": ("handling.rt", LOOKS, f"        let mut aside = self.number_map().reader();\n{LOOKS}"),
     "reads ahead by a reader of its own": (
@@ -56,7 +56,7 @@ WRONG = {
         "        index.prefetch(read_ahead, rest);",
         "        let _all = index.byte_map().iter().count(); index.prefetch(read_ahead, rest);",
     ),
-    "shows the maps": (HOLDER, "    alloc: Global,\n    records:", "    alloc: Global,\n    pub(crate) records:"),
+    "shows the maps": (HOLDER, "    alloc: Global,\n    keys:", "    alloc: Global,\n    pub(crate) keys:"),
 }
 
 

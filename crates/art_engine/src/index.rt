@@ -44,7 +44,7 @@ use std::marker::Model;
 #[derive(Drop)]
 pub struct Index<const PREFIX_LEN: usize> {
     alloc: Global,
-    records: TreeMap<Vec<u8>, Vec<u8>, PREFIX_LEN>,
+    keys: TreeMap<Vec<u8>, Vec<u8>, PREFIX_LEN>,
     numbers: TreeMap<[u8; NUMBER_KEY], Vec<u8>, PREFIX_LEN>,
     reads: History,
     ahead: History,
@@ -59,13 +59,13 @@ impl<const PREFIX_LEN: usize> Model for Index<PREFIX_LEN> {
     ghost use Rattle.art_engine.specs.Stored.{all_records_of, ArePairs, AreNumberPairs};
 
     ghost view = { λ s. record {
-      records = all_records_of s.records.pairs s.numbers.pairs;
+      records = all_records_of s.keys.pairs s.numbers.pairs;
       reads = s.reads.items;
       ahead = s.ahead.items;
       prefetched = s.prefetched.items;
     } };
 
-    ghost invariant = { λ s. ArePairs s.records.pairs × AreNumberPairs s.numbers.pairs };
+    ghost invariant = { λ s. ArePairs s.keys.pairs × AreNumberPairs s.numbers.pairs };
 }
 
 impl<const PREFIX_LEN: usize> Index<PREFIX_LEN> {
@@ -82,7 +82,7 @@ impl<const PREFIX_LEN: usize> Index<PREFIX_LEN> {
     {
         Index {
             alloc,
-            records: TreeMap::with_prefix_len(alloc),
+            keys: TreeMap::with_prefix_len(alloc),
             numbers: TreeMap::with_prefix_len(alloc),
             reads: History::new(),
             ahead: History::new(),
@@ -112,7 +112,7 @@ impl<const PREFIX_LEN: usize> Index<PREFIX_LEN> {
     {
         Index {
             alloc,
-            records: byte_map,
+            keys: byte_map,
             numbers: number_map,
             reads: History::new(),
             ahead: History::new(),
@@ -130,7 +130,7 @@ impl<const PREFIX_LEN: usize> Index<PREFIX_LEN> {
     pub fn holds_records(&self)
         ensures { AreRecords self.now.records }
     {
-        let _records = &self.records;
+        let _records = &self.keys;
     }
 
     /// Returns the records under keys, each value under its full key: four bytes of the tenant, the highest first, and
@@ -145,7 +145,7 @@ impl<const PREFIX_LEN: usize> Index<PREFIX_LEN> {
     pub fn byte_map(&self) -> &TreeMap<Vec<u8>, Vec<u8>, PREFIX_LEN>
         ensures { map (λ p. (p.0.items, p.1.items)) result.now.pairs ≡ map full_pair self.now.records.keys }
     {
-        &self.records
+        &self.keys
     }
 
     /// Returns the records under numbers, each value under twelve bytes: four of the tenant, the highest first, and
@@ -184,7 +184,7 @@ impl<const PREFIX_LEN: usize> Index<PREFIX_LEN> {
             × (self.new.prefetched ≡ self.old.prefetched) }
         ensures are { AreRecords self.old.records }
     {
-        let readers = Readers::new(&self.records, &self.numbers);
+        let readers = Readers::new(&self.keys, &self.numbers);
         let executed = readers.execute(word, fields, sink);
         self.count(executed.1);
         executed
@@ -219,8 +219,8 @@ impl<const PREFIX_LEN: usize> Index<PREFIX_LEN> {
         ensures kept { (self.new.records ≡ self.old.records) × (self.new.reads ≡ self.old.reads)
             × (self.new.ahead ≡ self.old.ahead) }
     {
-        if read_ahead.should_read(self.records.len().max(self.numbers.len())) {
-            let mut keys = PathReader::new(&self.records);
+        if read_ahead.should_read(self.keys.len().max(self.numbers.len())) {
+            let mut keys = PathReader::new(&self.keys);
             let mut numbers = PathReader::new(&self.numbers);
             read_ahead.read_maps(&mut keys, &mut numbers, MIN_RECORDS, text);
             let of_keys = Count { number: keys.end() };
@@ -238,13 +238,7 @@ impl<const PREFIX_LEN: usize> Index<PREFIX_LEN> {
         ensures kept { (self.new.reads ≡ self.old.reads) × (self.new.ahead ≡ self.old.ahead)
             × (self.new.prefetched ≡ self.old.prefetched) }
     {
-        change(
-            self.alloc,
-            &mut self.records,
-            &mut self.numbers,
-            word,
-            fields,
-        )
+        change(self.alloc, &mut self.keys, &mut self.numbers, word, fields)
     }
 
     /// Removes all records of the tenant that was read. If it is out of memory, nothing is changed.
@@ -253,14 +247,14 @@ impl<const PREFIX_LEN: usize> Index<PREFIX_LEN> {
         ensures kept { (self.new.reads ≡ self.old.reads) × (self.new.ahead ≡ self.old.ahead)
             × (self.new.prefetched ≡ self.old.prefetched) }
     {
-        drop_tenant(&mut self.records, &mut self.numbers, fields)
+        drop_tenant(&mut self.keys, &mut self.numbers, fields)
     }
 
     /// Surveys all records.
     pub(crate) fn survey(&self, word: Whole) -> Survey
         ensures { IsSurvey result (asks_all word) self.now.records }
     {
-        take_survey(&self.records, &self.numbers, word)
+        take_survey(&self.keys, &self.numbers, word)
     }
 
     /// Writes a survey of all records.
@@ -273,6 +267,6 @@ impl<const PREFIX_LEN: usize> Index<PREFIX_LEN> {
         ensures { Writes result (W.taken sink.old) (W.taken sink.new)
             (flat_map line_of (survey_words found self.now.records)) (W.has_failed sink.new) }
     {
-        write_survey(&self.records, &self.numbers, found, sink)
+        write_survey(&self.keys, &self.numbers, found, sink)
     }
 }

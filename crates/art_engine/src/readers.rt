@@ -19,25 +19,25 @@ use art_walks::MapReader;
 /// A reader of each map. It can't be let go: `execute` alone ends it, which executes a look-up by it and returns how
 /// many nodes were read through it.
 pub(crate) struct Readers<'a, const PREFIX_LEN: usize> {
-    bytes: MapReader<'a, Vec<u8>, Vec<u8>, PREFIX_LEN>,
+    keys: MapReader<'a, Vec<u8>, Vec<u8>, PREFIX_LEN>,
     numbers: MapReader<'a, [u8; NUMBER_KEY], Vec<u8>, PREFIX_LEN>,
 }
 
 impl<'a, const PREFIX_LEN: usize> Readers<'a, PREFIX_LEN> {
     /// Readers of these maps, which have read nothing yet.
     pub(crate) fn new(
-        records: &'a TreeMap<Vec<u8>, Vec<u8>, PREFIX_LEN>,
+        keys: &'a TreeMap<Vec<u8>, Vec<u8>, PREFIX_LEN>,
         numbers: &'a TreeMap<[u8; NUMBER_KEY], Vec<u8>, PREFIX_LEN>,
     ) -> Self
-        requires held { ArePairs records.now.pairs }
+        requires held { ArePairs keys.now.pairs }
         requires numbers { AreNumberPairs numbers.now.pairs }
-        ensures bytes { ReadsRecords PREFIX_LEN result.bytes records.now.pairs }
+        ensures bytes { ReadsRecords PREFIX_LEN result.keys keys.now.pairs }
         ensures numbers { ReadsNumbers PREFIX_LEN result.numbers numbers.now.pairs }
-        ensures unread { (result.bytes.count ≡ 0) × (result.numbers.count ≡ 0) }
+        ensures unread { (result.keys.count ≡ 0) × (result.numbers.count ≡ 0) }
     {
-        let _all = (records.len(), numbers.len()); // (there are no more, so that they can be counted)
+        let _all = (keys.len(), numbers.len()); // (there are no more, so that they can be counted)
         Readers {
-            bytes: records.reader(),
+            keys: keys.reader(),
             numbers: numbers.reader(),
         }
     }
@@ -51,26 +51,26 @@ impl<'a, const PREFIX_LEN: usize> Readers<'a, PREFIX_LEN> {
         sink: &mut W,
     ) -> (Result<(), RunFault>, u64)
         requires open { W.has_failed sink.old ≡ false }
-        requires bytes { (ps : List Pair) × ReadsRecords PREFIX_LEN self.bytes ps }
+        requires bytes { (ps : List Pair) × ReadsRecords PREFIX_LEN self.keys ps }
         requires numbers { (ns : List NumberPair) × ReadsNumbers PREFIX_LEN self.numbers ns }
-        requires unread { (self.bytes.count ≡ 0) × (self.numbers.count ≡ 0) }
-        ensures output { (ps : List Pair) (ns : List NumberPair) → ReadsRecords PREFIX_LEN self.entry.bytes ps
+        requires unread { (self.keys.count ≡ 0) × (self.numbers.count ≡ 0) }
+        ensures output { (ps : List Pair) (ns : List NumberPair) → ReadsRecords PREFIX_LEN self.entry.keys ps
             → ReadsNumbers PREFIX_LEN self.entry.numbers ns → Writes result.0 (W.taken sink.old) (W.taken sink.new)
             (flat_map line_of (command_reply (Some (looks_up word fields.now)) (all_records_of ps ns)))
             (W.has_failed sink.new) }
         ensures err { IfErr result.0 (λ fault. fault ≡ RunFault.Write) }
-        ensures visits { (ps : List Pair) (ns : List NumberPair) → ReadsRecords PREFIX_LEN self.entry.bytes ps
+        ensures visits { (ps : List Pair) (ns : List NumberPair) → ReadsRecords PREFIX_LEN self.entry.keys ps
             → ReadsNumbers PREFIX_LEN self.entry.numbers ns → OnOk result.0 (IsWithin
             (visits_of (Some (looks_up word fields.now)) (all_records_of ps ns)) result.1) }
-        ensures few { (ps : List Pair) (ns : List NumberPair) → ReadsRecords PREFIX_LEN self.entry.bytes ps
+        ensures few { (ps : List Pair) (ns : List NumberPair) → ReadsRecords PREFIX_LEN self.entry.keys ps
             → ReadsNumbers PREFIX_LEN self.entry.numbers ns
             → result.1 ≤ (visits_of (Some (looks_up word fields.now)) (all_records_of ps ns)).most }
     {
         let Readers {
-            mut bytes,
+            mut keys,
             mut numbers,
         } = self;
-        let done = look_up(&mut bytes, &mut numbers, word, fields, sink);
-        (done, bytes.visits().saturating_add(numbers.visits()))
+        let done = look_up(&mut keys, &mut numbers, word, fields, sink);
+        (done, keys.visits().saturating_add(numbers.visits()))
     }
 }

@@ -17,12 +17,10 @@ use crate::index::Index;
 use crate::piece::PieceRoom;
 use crate::read_ahead::ReadAhead;
 use arrayvec::ArrayVec;
+use art_lines::command::LINE_ROOM;
 use art_lines::{ReadFailed, Sink, Source, ToWriter};
 use memchr::memchr;
 use std::io::Write;
-
-/// The bytes of an unfinished line that are held: one more than a line may have, so that a longer one is known as such.
-const HELD: usize = 4097;
 
 /// Reads lines to the end of the input, and writes the reply to each. Before each read, the replies to all whole lines
 /// so far have been written. A last line without a newline counts, unless it is empty. After a failed read it doesn't.
@@ -71,7 +69,7 @@ pub fn run<S: Source, W: Sink, const PREFIX_LEN: usize>(
         × (W.taken sink.new ≡ W.taken sink.old ++ written)
         × AfterWriteFault index.old (lines_so_far (S.has_ended source.new) text) written index.new }
 {
-    let mut held: ArrayVec<u8, HELD> = ArrayVec::new();
+    let mut held: ArrayVec<u8, LINE_ROOM> = ArrayVec::new();
     let mut read_ahead = ReadAhead::new(index.alloc());
     run_held(index, &mut held, &mut read_ahead, source, sink)
 }
@@ -80,7 +78,7 @@ pub fn run<S: Source, W: Sink, const PREFIX_LEN: usize>(
 /// room at each for what is dropped there.)
 fn run_held<S: Source, W: Sink, const PREFIX_LEN: usize>(
     index: &mut Index<PREFIX_LEN>,
-    held: &mut ArrayVec<u8, HELD>,
+    held: &mut ArrayVec<u8, LINE_ROOM>,
     read_ahead: &mut ReadAhead,
     source: &mut S,
     sink: &mut W,
@@ -155,7 +153,7 @@ fn read_piece<S: Source, W: Sink>(
 /// handled there; only a line that was cut is put together. What the look-ups among them read is read ahead.
 fn feed<W: Sink, const PREFIX_LEN: usize>(
     index: &mut Index<PREFIX_LEN>,
-    held: &mut ArrayVec<u8, HELD>,
+    held: &mut ArrayVec<u8, LINE_ROOM>,
     read_ahead: &mut ReadAhead,
     piece: &[u8],
     sink: &mut W,
@@ -185,7 +183,7 @@ fn feed<W: Sink, const PREFIX_LEN: usize>(
 /// Carries out the line that is held and then ends with the part, with which the rest of the piece begins.
 fn finish_line<W: Sink, const PREFIX_LEN: usize>(
     index: &mut Index<PREFIX_LEN>,
-    held: &mut ArrayVec<u8, HELD>,
+    held: &mut ArrayVec<u8, LINE_ROOM>,
     read_ahead: &mut ReadAhead,
     rest: &[u8],
     part: &[u8],
@@ -271,11 +269,12 @@ fn count_unused<const PREFIX_LEN: usize>(index: &mut Index<PREFIX_LEN>, read_ahe
     }
 }
 
-/// Appends the part to what is held, as far as there is room.
-fn append_capped(held: &mut ArrayVec<u8, HELD>, part: &[u8])
+/// Appends the part to what is held, as far as there is room: for one byte more than a line may have, so that a longer
+/// one is known as such.
+fn append_capped(held: &mut ArrayVec<u8, LINE_ROOM>, part: &[u8])
     ensures { held.new.items ≡ take 4097 (held.old.items ++ part.now) }
 {
-    let room = part.len().min(HELD - held.len());
+    let room = part.len().min(LINE_ROOM - held.len());
     let _ = held.try_extend_from_slice(&part[..room]);
 }
 
