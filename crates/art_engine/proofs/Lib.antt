@@ -45,5 +45,8 @@ pub mod LineCounts
 pub mod DroppedTenants
 pub mod Undoing
 pub mod LinesAhead
+pub mod WaysAhead
+pub mod PathsAhead
+pub mod OwnAhead
 pub mod Terms
 pub mod Common

@@ -118,3 +118,10 @@ passed_after lines zero at d low fits = absurd (omega arith)
 passed_after [] (suc len) at d low fits = absurd (omega arith)
 passed_after (x ∷ xs) (suc len) zero d low fits = sym (sum_by-cons (λ (l : Line). l.read) x (take len xs))
 passed_after (x ∷ xs) (suc len) (suc at) d low fits = passed_after xs len at d (omega arith) (omega arith)
+
+-- the line at a place is the first of those from there on, and the others come after it
+pub own_there : (lines : List Line) (len at : ℕ) → at < len → at < length lines → (slice_get lines at ≡ slice_get (drop at (take len lines)) 0) × (drop (suc at) (take len lines) ≡ drop 1 (drop at (take len lines)))
+own_there lines zero at low fits = absurd (omega arith)
+own_there [] (suc len) at low fits = absurd (omega arith)
+own_there (x ∷ xs) (suc len) zero low fits = (refl, refl)
+own_there (x ∷ xs) (suc len) (suc at) low fits = own_there xs len at (omega arith) (omega arith)

@@ -1,15 +1,21 @@
 -- What is read ahead of a line.
-use Rattle.std.specs.Prelude.{◌≡◌, ◌⊎◌, ℕ, suc, ◌+◌, int_lt, if◌then◌else◌, List, [], ◌∷◌, ◌++◌, length, drop}
-use Rattle.std.specs.Prelude.{Option, Some, None, option_map, unwrap_or, nat_eq, true}
+use Rattle.std.specs.Prelude.{◌≡◌, ◌⊎◌, ℕ, suc, ◌+◌, ◌<◌, int_lt, if◌then◌else◌, List, [], ◌∷◌, ◌++◌, length, drop}
+use Rattle.std.specs.Prelude.{Option, Some, None, IsSome, MatchOption, option_map, unwrap_or, nat_eq, Bool, true, false}
+use Rattle.std.specs.Global.{Vec}
 use Rattle.std.specs.List.{starts_with, sum_by}
 use Rattle.art_bytes.specs.Keys.{is_below}
 use Rattle.art_bytes.specs.Laws.{pair_key}
 use Rattle.art_nodes.specs.Name.{Name}
 use Rattle.art_nodes.specs.InnerNode.{InnerNode}
-use Rattle.art_arena.specs.arena.Arena.{Arena, held_at, inner_held}
+use Rattle.art_arena.specs.arena.Arena.{Arena, held_at, inner_held, node_at}
+use Rattle.art_arena.specs.arena.Cells.{AreHeld}
 use Rattle.art_arena.specs.arena.Descents.{GoesOn}
+use Rattle.art_arena.specs.arena.Shapes.{Shape, cells, erase, name_of}
+use Rattle.art_arena.specs.tree.Paths.{path_of}
+use Rattle.art_arena.specs.tree.TreeOf.{tree_of}
+use Rattle.art_arena.specs.tree.Trees.{Tree}
 use Rattle.art_arena.specs.declared.descent.Passing.{Passing}
-use Rattle.art_arena.specs.declared.descent.Passing.TheVariants.{ByBytes}
+use Rattle.art_arena.specs.declared.descent.Passing.TheVariants.{ByBytes, ByLength}
 use Rattle.art_lines.specs.Commands.{Command, of_tenant, over, del, get, find, list, span, nget, ndel, nspan}
 use Rattle.art_lines.specs.Keys.{full_key}
 use Rattle.art_lines.specs.Lines.{whole_lines_of}
@@ -33,13 +39,78 @@ path_ahead other = None
 abbrev pub most_ahead : Option Command → ℕ
 most_ahead command = unwrap_or (option_map (λ full. suc (length full)) (path_ahead command)) 0
 
--- From one place of a path, a node and how many bytes of the key lead there, to the next: there is none, or the node is
--- an inner one from which the key goes on by its next byte. By bytes the key meets its prefix, as much as is stored.
-abbrev pub IsStepAhead : {K V : Type 0} → Passing → Arena K V → List ℕ → Name × ℕ → Name × ℕ → Type 0
-IsStepAhead passing arena key from to = (to ≡ from)
-    ⊎ ((node : InnerNode) × (byte : ℕ) × (held_at arena from.0 ≡ Some (inner_held node))
-    × GoesOn key from.1 node byte to.0 to.1
-    × (passing ≡ ByBytes → starts_with nat_eq (drop from.1 key) node.header.stored ≡ true))
+-- that path lies in the map of numbers, and else in that of keys
+abbrev pub is_in_numbers : Option Command → Bool
+is_in_numbers (Some (of_tenant tenant (nget number))) = true
+is_in_numbers (Some (of_tenant tenant (ndel number))) = true
+is_in_numbers (Some (of_tenant tenant (nspan low high))) = true
+is_in_numbers other = false
+
+-- how prefixes are passed on it: by their lengths where the command compares the key of its leaf as a whole
+abbrev pub passing_ahead : Option Command → Passing
+passing_ahead (Some (of_tenant tenant (get key))) = ByLength
+passing_ahead (Some (of_tenant tenant (find key))) = ByLength
+passing_ahead (Some (of_tenant tenant (nget number))) = ByLength
+passing_ahead (Some (of_tenant tenant (del key))) = ByLength
+passing_ahead (Some (of_tenant tenant (ndel number))) = ByLength
+passing_ahead other = ByBytes
+
+module _ {K V : Type 0} (passing : Passing) (arena : Arena K V) (key : List ℕ) where
+  -- From one place of a path, a node and how many bytes of the key lead there, to the next: the node is an inner one
+  -- from which the key goes on by its next byte. By bytes the key meets its prefix, as much as is stored.
+  abbrev pub LeadsTo : Name × ℕ → Name × ℕ → Type 0
+  LeadsTo from to = (node : InnerNode) × (byte : ℕ) × (held_at arena from.0 ≡ Some (inner_held node))
+      × GoesOn key from.1 node byte to.0 to.1
+      × (passing ≡ ByBytes → starts_with nat_eq (drop from.1 key) node.header.stored ≡ true)
+
+  -- a step: it stays, or goes on
+  abbrev pub IsStepAhead : Name × ℕ → Name × ℕ → Type 0
+  IsStepAhead from to = (to ≡ from) ⊎ LeadsTo from to
+
+  -- from one place these nodes lead to another, each of them to the one after it
+  abbrev pub AllLeadTo : Name × ℕ → List Name → Name × ℕ → Type 0
+  AllLeadTo from [] to = to ≡ from
+  AllLeadTo from (n ∷ names) to = (n ≡ from.0) × (next : Name × ℕ) × LeadsTo from next × AllLeadTo next names to
+
+  -- from a place on these are nodes of the path, each led to by the one before it
+  abbrev pub IsWay : Name × ℕ → List Name → Type 0
+  IsWay from [] = Unit {0}
+  IsWay from (n ∷ []) = (n ≡ from.0) × IsSome (held_at arena n)
+  IsWay from (n ∷ m ∷ names) = (n ≡ from.0) × (next : Name × ℕ) × LeadsTo from next × IsWay next (m ∷ names)
+
+  -- A line visited these nodes, from the root on, if there is one. If it may visit `left` more, they lead to the place
+  -- where it is.
+  pub record IsWayAhead (root : Option Name) (names : List Name) (left : ℕ) (here : Name × ℕ) : Type 0 where
+    pub way : MatchOption root (names ≡ []) (λ r. IsWay (r, 0) names)
+    pub goes_on : 0 < left → (r : Name) × (root ≡ Some r) × AllLeadTo (r, 0) names here
+
+module _ {K V : Type 0} (P : ℕ) (arena : Arena K V) where
+  -- the node under this name and those below it are those of this tree
+  abbrev pub IsNodeOf : Name → Tree (K × V) → Type 0
+  IsNodeOf n t = (s : Shape K V) × (name_of s ≡ n) × AreHeld (node_at arena) (cells P s) × (erase s ≡ t)
+
+  -- these names stand for the first of these nodes, in order
+  abbrev pub AreNodesAlong : List Name → List (Tree (K × V)) → Type 0
+  AreNodesAlong [] nodes = Unit {0}
+  AreNodesAlong (n ∷ names) [] = ⊥
+  AreNodesAlong (n ∷ names) (t ∷ nodes) = IsNodeOf n t × AreNodesAlong names nodes
+
+-- the nodes of a key's path in a tree, if there is one
+abbrev pub nodes_to : {X : Type 0} → List ℕ → Option (Tree X) → List (Tree X)
+nodes_to key None = []
+nodes_to key (Some t) = path_of t key
+
+-- The names visited ahead of a command stand for the first nodes of the path of its full key in the tree of the pairs
+-- of its map. Where it has no such key there are none.
+module _ (P : ℕ) (keys : Arena (Vec ℕ) (Vec ℕ)) (ps : List (Vec ℕ × Vec ℕ)) (numbers : Arena (List ℕ) (Vec ℕ))
+    (ns : List (List ℕ × Vec ℕ)) where
+  abbrev pub AreOnPath : Bool → Option (List ℕ) → List Name → Type 0
+  AreOnPath in_numbers None names = names ≡ []
+  AreOnPath true (Some full) names = AreNodesAlong P numbers names (nodes_to full (tree_of (λ p. p.0) ns))
+  AreOnPath false (Some full) names = AreNodesAlong P keys names (nodes_to full (tree_of (λ p. p.0.items) ps))
+
+  abbrev pub AreOnOwnPath : Option Command → List Name → Type 0
+  AreOnOwnPath command names = AreOnPath (is_in_numbers command) (path_ahead command) names
 
 -- the sum of some numbers
 abbrev pub total : List ℕ → ℕ

@@ -1,6 +1,7 @@
 //! An index. It alone holds the two maps: what it lends are readers that count, what it makes are changes. So it can be
 //! read whole what touches a map.
-ghost use Rattle.std.specs.Prelude.{◌≡◌, ◌+◌, ◌≤◌, ◌∷◌, [], ◌++◌, List, ℕ, map, OnOk, IfErr, Some, false, flat_map};
+ghost use Rattle.std.specs.Prelude.{◌≡◌, ◌⊎◌, ◌+◌, ◌≤◌, ◌∷◌, [], ◌++◌, List, ℕ, map, OnOk, IfErr, Some, false};
+ghost use Rattle.std.specs.Prelude.{flat_map};
 ghost use Rattle.art_lines.specs.Commands.{Spells};
 ghost use Rattle.art_lines.specs.Parsed.{asks_all, changes, looks_up, tenant_in_place};
 ghost use Rattle.art_lines.specs.Words.{line_of};
@@ -10,6 +11,7 @@ ghost use Rattle.art_engine.specs.Changed.{IsChangeDone};
 ghost use Rattle.art_engine.specs.Counts.{IsWithin, visits_of};
 ghost use Rattle.art_engine.specs.Dropped.{IsDropDone};
 ghost use Rattle.art_engine.specs.Keys.{full_pair, number_pair};
+ghost use Rattle.art_engine.specs.OwnAhead.{AreReadAhead};
 ghost use Rattle.art_engine.specs.Records.{AreRecords, no_records};
 ghost use Rattle.art_engine.specs.Replies.{command_reply};
 ghost use Rattle.art_engine.specs.State.{unread};
@@ -209,26 +211,41 @@ impl<const PREFIX_LEN: usize> Index<PREFIX_LEN> {
     }
 
     /// Prefetches for the next lines of a text, through a reader of each map, if those that were parsed before their
-    /// turn are used up and where it may pay. What each reader has counted is kept.
+    /// turn are used up and where it may pay. What each reader has counted is kept. What was read ahead of each line
+    /// are the first nodes of the path of its own full key in the tree of the records, in order, and as many as are
+    /// told for it.
     #[inline]
     pub(crate) fn prefetch(&mut self, read_ahead: &mut ReadAhead, text: &[u8])
         requires comes { AreNext (texts_of (to_come read_ahead.old)) text.now }
         ensures comes { AreNext (texts_of (to_come read_ahead.new)) text.now }
         ensures counted { total self.new.prefetched + read_of (to_come read_ahead.old)
             ≡ total self.old.prefetched + read_of (to_come read_ahead.new) }
+        ensures ahead { (to_come read_ahead.new ≡ to_come read_ahead.old)
+            ⊎ AreReadAhead PREFIX_LEN self.old.records (to_come read_ahead.new) }
         ensures kept { (self.new.records ≡ self.old.records) × (self.new.reads ≡ self.old.reads)
             × (self.new.ahead ≡ self.old.ahead) }
     {
         if read_ahead.should_read(self.keys.len().max(self.numbers.len())) {
-            let mut keys = PathReader::new(&self.keys);
-            let mut numbers = PathReader::new(&self.numbers);
-            read_ahead.read_maps(&mut keys, &mut numbers, MIN_RECORDS, text);
-            let of_keys = Count { number: keys.end() };
-            let of_numbers = Count {
-                number: numbers.end(),
-            };
-            self.prefetched = self.prefetched.then_count(&of_keys).then_count(&of_numbers);
+            self.prefetch_now(read_ahead, text);
         }
+    }
+
+    /// Prefetches for the next lines of a text, where none are to come that were parsed before their turn.
+    fn prefetch_now(&mut self, read_ahead: &mut ReadAhead, text: &[u8])
+        ensures comes { AreNext (texts_of (to_come read_ahead.new)) text.now }
+        ensures counted { total self.new.prefetched ≡ total self.old.prefetched + read_of (to_come read_ahead.new) }
+        ensures ahead { AreReadAhead PREFIX_LEN self.old.records (to_come read_ahead.new) }
+        ensures kept { (self.new.records ≡ self.old.records) × (self.new.reads ≡ self.old.reads)
+            × (self.new.ahead ≡ self.old.ahead) }
+    {
+        let mut keys = PathReader::new(&self.keys);
+        let mut numbers = PathReader::new(&self.numbers);
+        read_ahead.read_maps(&mut keys, &mut numbers, MIN_RECORDS, text);
+        let of_keys = Count { number: keys.end() };
+        let of_numbers = Count {
+            number: numbers.end(),
+        };
+        self.prefetched = self.prefetched.then_count(&of_keys).then_count(&of_numbers);
     }
 
     /// Makes a change, and returns how it went. If it was out of memory, nothing is changed.

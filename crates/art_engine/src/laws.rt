@@ -4,6 +4,7 @@ ghost use Rattle.art_engine.specs.Laws.{RequestsLeaveOthers, TenantsStandAlone, 
 ghost use Rattle.art_engine.specs.Laws.{DeletionsGoByOwnNumbers, DropsReadFew, DumpsTellRecords, DumpsAreReadBack};
 ghost use Rattle.art_engine.specs.Laws.{FullKeysKeepOrder, FullKeysKeepConflicts, OwnIsUnderPrefix};
 ghost use Rattle.art_engine.specs.Laws.{PutsAreUndone, NumberPutsAreUndone, PathsAreOwn};
+ghost use Rattle.art_engine.specs.OwnAhead.{AheadIsOwn, OwnWaysArePaths};
 
 /// What is put in place for a tenant is what it holds then.
 #[tactic(auto, using(crate::proofs::OwnLaws::own_reads_back))]
@@ -98,4 +99,16 @@ pub fn drops_read_few()
 /// the prefix or the lower bound that the line has.
 pub fn paths_are_own()
     ensures { PathsAreOwn }
+{}
+
+/// What is read ahead of a line that finds a record are nodes of the path in its own tenant's tree, and at most four
+/// more.
+pub fn ahead_is_own()
+    ensures { AheadIsOwn }
+{}
+
+/// Where two maps hold the records, a way in a line's own map is the first nodes of the path of its own full key. They
+/// are as many as are told for it.
+pub fn own_ways_are_paths()
+    ensures { OwnWaysArePaths }
 {}

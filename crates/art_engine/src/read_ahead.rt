@@ -7,17 +7,20 @@
 //! of the line does, by their lengths or by their bytes. No reply rests on what is prefetched: if a line between
 //! changes a tree, a later path may have been prefetched in vain.
 ghost use Rattle.std.specs.Prelude.{◌≡◌, ◌≤◌, ◌<◌, ◌+◌, [], None, IfSome, IsTrue, drop, length};
-ghost use Rattle.std.specs.Prelude.{option_map, take, ◌++◌, map};
-ghost use Rattle.std.specs.List.{sum_by};
+ghost use Rattle.std.specs.Prelude.{option_map, take, ◌++◌, map, Option, slice_get};
+ghost use Rattle.std.specs.List.{AllByRecursion, AllZip, sum_by};
+ghost use Rattle.art_nodes.specs.Name.{Name};
 ghost use Rattle.std.specs.Prelude.{if◌then◌else◌};
 ghost use Rattle.art_arena.specs.arena.Visited.{count_of};
 ghost use Rattle.art_lines.specs.Lines.{whole_lines_of};
 ghost use Rattle.art_lines.specs.Parsed.{command_with};
 ghost use Rattle.art_lines.specs.Reading.{command_of};
 ghost use Rattle.art_engine.specs.Ahead.{AreNext, IsNextLine, most_ahead};
-ghost use Rattle.art_engine.specs.ReadAhead.{ahead_now, fields_now, to_come, read_of, texts_of, word_now};
+ghost use Rattle.art_engine.specs.ReadAhead.{ahead_now, fields_now, line_now, to_come, read_of, texts_of, word_now};
+ghost use Rattle.art_engine.specs.ReadAhead.{IsAtStart, IsDescended, IsOnOwnWay};
 
 mod line;
+mod names;
 mod path_reader;
 
 use art_bytes::AsBytes;
@@ -114,6 +117,8 @@ fn step_each<'a, K, const PREFIX_LEN: usize>(
     ensures counted { read_of lines.new + count_of reader.old.reader ≡ read_of lines.old + count_of reader.new.reader }
     ensures texts { texts_of lines.new ≡ texts_of lines.old }
     ensures long { length lines.new ≡ length lines.old }
+    ensures descended { AllZip (IsDescended reader.old.arena.now of_number) lines.old lines.new }
+    ensures same_tree { (reader.new.arena.now ≡ reader.old.arena.now) × (reader.new.root ≡ reader.old.root) }
 {
     let mut goes_on = false;
     'lines: for at in 0..lines.len().min(LINES) {
@@ -137,6 +142,8 @@ fn descend_all<K: AsBytes, const PREFIX_LEN: usize>(
     ensures counted { read_of lines.new + count_of reader.old.reader ≡ read_of lines.old + count_of reader.new.reader }
     ensures texts { texts_of lines.new ≡ texts_of lines.old }
     ensures long { length lines.new ≡ length lines.old }
+    ensures descended { AllZip (IsDescended reader.old.arena.now of_number) lines.old lines.new }
+    ensures same_tree { (reader.new.arena.now ≡ reader.old.arena.now) × (reader.new.root ≡ reader.old.root) }
 {
     let mut leaves = [None; LINES];
     'steps: for _ in 0..KEY + 1 {
@@ -160,6 +167,11 @@ fn descend_both<const PREFIX_LEN: usize>(
         ≡ read_of (take len lines.old) + count_of keys.new.reader + count_of numbers.new.reader }
     ensures texts { texts_of (take len lines.new) ≡ texts_of (take len lines.old) }
     ensures long { length lines.new ≡ length lines.old }
+    ensures ways { (keys_root numbers_root : Option Name)
+        → AllByRecursion (IsOnOwnWay keys.old.arena.now keys_root numbers.old.arena.now numbers_root)
+        (take len lines.old)
+        → AllByRecursion (IsOnOwnWay keys.old.arena.now keys_root numbers.old.arena.now numbers_root)
+        (take len lines.new) }
 {
     let first = &mut lines[..len];
     descend_all(first, keys, false, prefetched);
@@ -172,6 +184,7 @@ fn read_lines(lines: &mut [Line], roots: &Roots, text: &[u8]) -> usize
     ensures within { result ≤ length lines.new }
     ensures long { length lines.new ≡ length lines.old }
     ensures none { read_of (take result lines.new) ≡ 0 }
+    ensures start { AllByRecursion (IsAtStart roots.now.keys roots.now.numbers) (take result lines.new) }
     ensures next { AreNext (texts_of (take result lines.new)) text.now }
 {
     let (mut len, mut rest) = (0, text);
@@ -247,6 +260,8 @@ impl ReadAhead {
         ensures few { ahead_now self.new ≤ most_ahead (command_of line.now) }
         ensures counted { ahead_now self.new + read_of (to_come self.new) ≡ read_of (to_come self.old) }
         ensures following { texts_of (to_come self.new) ≡ drop 1 (texts_of (to_come self.old)) }
+        ensures own { (line_now self.new ≡ slice_get (to_come self.old) 0)
+            × (to_come self.new ≡ drop 1 (to_come self.old)) }
     {
         let at = self.at;
         if at < self.len && at < self.lines.len() {
@@ -279,6 +294,7 @@ impl ReadAhead {
             ≡ command_of line.now }
         ensures ahead { ahead_now self.new ≡ 0 }
         ensures kept { to_come self.new ≡ to_come self.old }
+        ensures alone { line_now self.new ≡ None }
     {
         self.current = None;
         self.word = read_line(line, &mut self.fields);
@@ -353,6 +369,8 @@ impl ReadAhead {
         ensures next { AreNext (texts_of (to_come self.new)) text.now }
         ensures counted { read_of (to_come self.new) + count_of keys.old.reader + count_of numbers.old.reader
             ≡ count_of keys.new.reader + count_of numbers.new.reader }
+        ensures ways { AllByRecursion (IsOnOwnWay keys.old.arena.now keys.old.root numbers.old.arena.now
+            numbers.old.root) (to_come self.new) }
     {
         self.read_next_lines(
             &Roots {
@@ -417,6 +435,7 @@ impl ReadAhead {
         ensures first { self.new.at ≡ 0 }
         ensures within { self.new.len ≤ length self.new.lines.items }
         ensures none { read_of (to_come self.new) ≡ 0 }
+        ensures start { AllByRecursion (IsAtStart roots.now.keys roots.now.numbers) (to_come self.new) }
         ensures next { AreNext (texts_of (to_come self.new)) text.now }
     {
         if self.lines.is_empty() {

@@ -1,20 +1,24 @@
 //! A line that is parsed before its turn, and how far the path of its key is descended.
-ghost use Rattle.std.specs.Prelude.{◌≡◌, ◌+◌, ◌<◌, ◌≤◌, true, IsTrue, IfSome, drop, length, option_map};
-ghost use Rattle.std.specs.Prelude.{Some, if◌then◌else◌, nat_eq};
+ghost use Rattle.std.specs.Prelude.{◌≡◌, ◌+◌, ◌<◌, ◌≤◌, ◌++◌, List, [], true, IsTrue, IfSome, drop, length};
+ghost use Rattle.std.specs.Prelude.{Option, Some, option_map, if◌then◌else◌, nat_eq};
 ghost use Rattle.art_arena.specs.arena.Visited.{count_of};
+ghost use Rattle.art_arena.specs.arena.Arena.{held_at, leaf_held};
 ghost use Rattle.art_arena.specs.arena.Descents.{GoesOn};
 ghost use Rattle.std.specs.List.{starts_with};
 ghost use Rattle.art_lines.specs.Parsed.{command_with};
 ghost use Rattle.art_lines.specs.Reading.{command_of};
-ghost use Rattle.art_engine.specs.Ahead.{path_ahead, most_ahead, IsStepAhead};
+ghost use Rattle.art_lines.specs.declared.command.fields.Fields.{Fields};
+ghost use Rattle.art_nodes.specs.Name.{Name};
+ghost use Rattle.art_engine.specs.Ahead.{path_ahead, most_ahead, is_in_numbers, passing_ahead, IsWayAhead, IsStepAhead};
 
+use crate::read_ahead::names::Names;
 use crate::read_ahead::path_reader::PathReader;
 use crate::read_ahead::{ParsedLine, Roots};
 use arrayvec::ArrayVec;
 use art_arena::{InnerRef, NextStep, Passing};
 use art_lines::command::fields::Fields;
 use art_lines::command::read_line;
-use art_lines::command::word::{Change, LookUp, Word};
+use art_lines::command::word::{Change, LookUp, Whole, Word};
 use art_nodes::{LeafNode, OpaqueNodePtr};
 
 /// The longest line that is read before its turn.
@@ -25,7 +29,8 @@ pub(crate) const KEY: usize = 132;
 
 /// A line that is parsed before its turn. It has the node that comes next on the path of its key, how many bytes of the
 /// key lead there, how many nodes were read, and how many may be still. Of a line that has a path the key is that of
-/// its command, and prefixes are passed as its look-up passes them.
+/// its command, and prefixes are passed as its look-up passes them. For proofs alone it keeps the names of the nodes
+/// that were read.
 #[derive(Drop)]
 pub(crate) struct Line {
     text: ArrayVec<u8, SHORT>,
@@ -38,10 +43,14 @@ pub(crate) struct Line {
     depth: usize,
     read: u64,
     left: u64,
+    visited: Names,
     ghost spelled: { option_map (λ word. command_with word fields) word ≡ command_of text.items },
     ghost few: { read + left ≤ most_ahead (command_of text.items) },
     ghost small: { read + left ≤ 133 },
     ghost path: { 0 < read + left → path_ahead (command_of text.items) ≡ Some key.items },
+    ghost map: { 0 < read + left → of_number ≡ is_in_numbers (command_of text.items) },
+    ghost passed: { 0 < read + left → passing ≡ passing_ahead (command_of text.items) },
+    ghost told: { length visited.items ≡ read },
 }
 
 /// The child to which a key goes on from an inner node after so many of its bytes. By bytes it goes no further where it
@@ -103,21 +112,48 @@ fn set_path_key(word: Word, fields: &Fields, key: &mut ArrayVec<u8, KEY>) -> boo
     }
 }
 
-/// Whether a word asks for something under a number.
-fn is_of_number(word: Word) -> bool {
-    matches!(
-        word,
-        Word::LookUp(LookUp::NGet | LookUp::NSpan) | Word::Change(Change::NDel)
-    )
+/// Whether the path that is prefetched for a word lies in the map of numbers.
+fn is_of_number(word: Word) -> bool
+    ensures { (fields : Fields) → result ≡ is_in_numbers (Some (command_with word fields)) }
+{
+    match word {
+        Word::LookUp(LookUp::NGet) => true,
+        Word::LookUp(LookUp::NSpan) => true,
+        Word::LookUp(LookUp::Get) => false,
+        Word::LookUp(LookUp::Find) => false,
+        Word::LookUp(LookUp::List) => false,
+        Word::LookUp(LookUp::Span) => false,
+        Word::Change(Change::NDel) => true,
+        Word::Change(Change::NPut) => false,
+        Word::Change(Change::Put) => false,
+        Word::Change(Change::Over) => false,
+        Word::Change(Change::Del) => false,
+        Word::Whole(Whole::Dump) => false,
+        Word::Whole(Whole::Audit) => false,
+        Word::Drop => false,
+    }
 }
 
 /// How the look-up of a word passes the prefix of a node. One that compares the key of its leaf as a whole passes it by
 /// its length, whatever its bytes are. So does what is read ahead of it: else a miss would wait for the nodes below.
-fn passing_of(word: Word) -> Passing {
+fn passing_of(word: Word) -> Passing
+    ensures { (fields : Fields) → result ≡ passing_ahead (Some (command_with word fields)) }
+{
     match word {
-        Word::LookUp(LookUp::Get | LookUp::Find | LookUp::NGet) => Passing::ByLength,
-        Word::Change(Change::Del | Change::NDel) => Passing::ByLength,
-        _ => Passing::ByBytes,
+        Word::LookUp(LookUp::Get) => Passing::ByLength,
+        Word::LookUp(LookUp::Find) => Passing::ByLength,
+        Word::LookUp(LookUp::NGet) => Passing::ByLength,
+        Word::LookUp(LookUp::List) => Passing::ByBytes,
+        Word::LookUp(LookUp::Span) => Passing::ByBytes,
+        Word::LookUp(LookUp::NSpan) => Passing::ByBytes,
+        Word::Change(Change::Del) => Passing::ByLength,
+        Word::Change(Change::NDel) => Passing::ByLength,
+        Word::Change(Change::Put) => Passing::ByBytes,
+        Word::Change(Change::NPut) => Passing::ByBytes,
+        Word::Change(Change::Over) => Passing::ByBytes,
+        Word::Whole(Whole::Dump) => Passing::ByBytes,
+        Word::Whole(Whole::Audit) => Passing::ByBytes,
+        Word::Drop => Passing::ByBytes,
     }
 }
 
@@ -138,12 +174,14 @@ impl Line {
             depth: 0,
             read: 0,
             left: 0,
+            visited: Names::new(),
         }
     }
 
     /// Reads a line that is short. Its path begins at the root of a map that is given, if any.
     pub(crate) fn read(&mut self, text: &[u8], roots: &Roots)
         ensures none { self.new.read ≡ 0 }
+        ensures unvisited { self.new.visited.items ≡ [] }
         ensures start { 0 < self.new.left → (self.new.depth ≡ 0)
             × ((if self.new.of_number then roots.now.numbers else roots.now.keys) ≡ Some self.new.node) }
         ensures text { length text.now ≤ 256 → self.new.text.items ≡ text.now }
@@ -154,6 +192,7 @@ impl Line {
         self.read = 0;
         self.left = 0;
         self.depth = 0;
+        self.visited = Names::new();
         let Some(word) = self.word else {
             return;
         };
@@ -168,11 +207,13 @@ impl Line {
         }
     }
 
-    /// A law, which does nothing: what it asks for is what its bytes spell, and no more was read ahead than may be.
+    /// A law, which does nothing: what it asks for is what its bytes spell, and no more was read ahead than may be. As
+    /// many nodes were visited for it as were read.
     pub(crate) fn is_read(&self)
         ensures read { option_map (λ word. command_with word self.now.fields) self.now.word
             ≡ command_of self.now.text.items }
         ensures few { self.now.read ≤ most_ahead (command_of self.now.text.items) }
+        ensures told { length self.now.visited.items ≡ self.now.read }
     {}
 
     /// Returns it parsed.
@@ -190,12 +231,15 @@ impl Line {
 
     /// Whether its path goes on in the map of numbers, or in that of keys.
     #[inline(always)]
-    pub(crate) fn goes_on(&self, of_number: bool) -> bool {
+    pub(crate) fn goes_on(&self, of_number: bool) -> bool
+        ensures { IsTrue result → self.now.of_number ≡ of_number }
+    {
         self.left != 0 && self.of_number == of_number
     }
 
     /// Reads the next node of the path, if there is one, and returns it if it is a leaf. That is the node under the
-    /// name that the step before came to. The next name is its child under the key's next byte.
+    /// name that the step before came to. The next name is its child under the key's next byte. So what was visited for
+    /// the line stays a way from the root, and what the reader has visited more is what the line has more.
     #[inline(always)]
     pub(crate) fn step<'a, K, const PREFIX_LEN: usize>(
         &mut self,
@@ -203,10 +247,19 @@ impl Line {
     ) -> Option<&'a LeafNode<K, Vec<u8>>>
         ensures counted { self.new.read + count_of reader.old.reader ≡ self.old.read + count_of reader.new.reader }
         ensures one { self.new.read ≤ self.old.read + 1 }
-        ensures named { self.old.read < self.new.read → reader.new.last ≡ self.old.node }
+        ensures named { (more : List Name) × (self.new.visited.items ≡ self.old.visited.items ++ more)
+            × (reader.new.visited.items ≡ reader.old.visited.items ++ more) }
         ensures along { IsStepAhead self.old.passing reader.old.arena.now self.old.key.items
             (self.old.node, self.old.depth) (self.new.node, self.new.depth) }
+        ensures way { (root : Option Name) → IsWayAhead self.old.passing reader.old.arena.now self.old.key.items root
+            self.old.visited.items self.old.left (self.old.node, self.old.depth)
+            → IsWayAhead self.new.passing reader.new.arena.now self.new.key.items root
+            self.new.visited.items self.new.left (self.new.node, self.new.depth) }
+        ensures leaf { IfSome result (λ leaf.
+            held_at reader.old.arena.now self.old.node ≡ Some (leaf_held leaf.now)) }
         ensures text { self.new.text.items ≡ self.old.text.items }
+        ensures same_map { self.new.of_number ≡ self.old.of_number }
+        ensures same_tree { (reader.new.arena.now ≡ reader.old.arena.now) × (reader.new.root ≡ reader.old.root) }
     {
         if self.left == 0 {
             return None;
@@ -215,6 +268,7 @@ impl Line {
             self.left = 0;
             return None;
         };
+        self.visited = self.visited.then(&self.node);
         self.left -= 1;
         self.read += 1;
         match node.leaf() {

@@ -1,9 +1,11 @@
 //! The nodes of a map, each counted when it is read.
-ghost use Rattle.std.specs.Prelude.{◌≡◌, ◌+◌, ◌^◌, ◌<◌, ◌≢◌, IfSome, MatchOption, Some};
+ghost use Rattle.std.specs.Prelude.{◌≡◌, ◌+◌, ◌^◌, ◌<◌, ◌≢◌, ◌++◌, ◌∷◌, [], IfSome, MatchOption, Some};
 ghost use Rattle.art_nodes.specs.declared.kind.NodeType.TheVariants as kind;
 ghost use Rattle.art_arena.specs.arena.Arena.{held_at};
 ghost use Rattle.art_arena.specs.arena.Visited.{arena_of, count_of, held_of, kind_of};
+ghost use Rattle.art_operations.specs.Runs.{HoldsTreeOf};
 
+use crate::read_ahead::names::Names;
 use art_arena::{ArenaReader, NodeArena, VisitedNode};
 use art_bytes::AsBytes;
 use art_map::TreeMap;
@@ -11,8 +13,7 @@ use art_nodes::{NodeType, OpaqueNodePtr};
 use std::marker::PhantomData;
 
 /// The one access to the nodes of a map for prefetching: it counts each node that it lends. It can't be
-/// let go: `end` alone ends it, and returns how many nodes were read. It keeps the name that it visited last, so that
-/// contracts say whose node that was.
+/// let go: `end` alone ends it, and returns how many nodes were read. For proofs alone it keeps the names of these.
 ///
 /// The last parameter is never written: it tells the borrow check that the arena lives as long as it is lent.
 pub struct PathReader<'a, K, const PREFIX_LEN: usize, M: 'a = NodeArena<K, Vec<u8>, PREFIX_LEN>> {
@@ -20,7 +21,7 @@ pub struct PathReader<'a, K, const PREFIX_LEN: usize, M: 'a = NodeArena<K, Vec<u
     root: Option<OpaqueNodePtr>,
     len: usize,
     reader: ArenaReader<'a, K, Vec<u8>, PREFIX_LEN>,
-    last: OpaqueNodePtr,
+    visited: Names,
     mark: PhantomData<M>,
     ghost same: { arena_of reader ≡ arena.now },
 }
@@ -35,6 +36,7 @@ impl<'a, K: AsBytes, const PREFIX_LEN: usize> PathReader<'a, K, PREFIX_LEN> {
     /// ```
     pub fn new(map: &'a TreeMap<K, Vec<u8>, PREFIX_LEN>) -> Self
         ensures same { (result.arena.now ≡ map.now.nodes) × (result.root ≡ map.now.root) }
+        ensures tree { HoldsTreeOf K.bytes PREFIX_LEN result.arena.now result.root map.now.pairs }
         ensures count { count_of result.reader ≡ 0 }
     {
         let (arena, root) = map.nodes();
@@ -43,7 +45,7 @@ impl<'a, K: AsBytes, const PREFIX_LEN: usize> PathReader<'a, K, PREFIX_LEN> {
             root,
             len: map.len(),
             reader: ArenaReader::new(arena),
-            last: OpaqueNodePtr::default(),
+            visited: Names::new(),
             mark: PhantomData,
         }
     }
@@ -64,7 +66,8 @@ impl<'a, K, const PREFIX_LEN: usize> PathReader<'a, K, PREFIX_LEN> {
         name: OpaqueNodePtr,
     ) -> Option<VisitedNode<'a, K, Vec<u8>, PREFIX_LEN>>
         ensures value { IfSome result (λ node. held_at self.old.arena.now name ≡ Some (held_of node)) }
-        ensures named { MatchOption result (self.new.last ≡ self.old.last) (λ _. self.new.last ≡ name) }
+        ensures named { MatchOption result (self.new.visited.items ≡ self.old.visited.items)
+            (λ _. self.new.visited.items ≡ self.old.visited.items ++ name ∷ []) }
         ensures fits_in_memory { IfSome result (λ node. kind_of node ≢ NodeType.Leaf → PREFIX_LEN < 2 ^ 62) }
         ensures kept { (self.new.arena.now ≡ self.old.arena.now) × (self.new.root ≡ self.old.root) }
         ensures counts { MatchOption result (count_of self.new.reader ≡ count_of self.old.reader)
@@ -73,7 +76,7 @@ impl<'a, K, const PREFIX_LEN: usize> PathReader<'a, K, PREFIX_LEN> {
         if self.reader.count() == u64::MAX || !self.arena.holds(name) {
             return None;
         }
-        self.last = name;
+        self.visited = self.visited.then(&name);
         Some(self.reader.visit(name))
     }
 
@@ -92,7 +95,7 @@ impl<'a, K, const PREFIX_LEN: usize> PathReader<'a, K, PREFIX_LEN> {
             root: _,
             len: _,
             reader,
-            last: _,
+            visited: _,
             mark: _,
         } = self;
         reader.count()

@@ -3,7 +3,7 @@ use Rattle.std.specs.Prelude.{slice_get}
 use Rattle.art_engine.specs.ReadAhead.{line_or}
 use Rattle.art_engine.specs.declared.read_ahead.line.Line.{Line}
 use Rattle.art_engine.proofs.Terms.{read_of}
-use Rattle.art_engine.proofs.LinesAhead.{few_there, found_there, next_there, read_there, counted_after}
+use Rattle.art_engine.proofs.LinesAhead.{few_there, found_there, next_there, own_there, read_there, counted_after}
 use Rattle.art_engine.proofs.read_ahead.ReadAhead.next.Goals as goal
 
 pub returns-then-at-len-clause-read : goal.returns-then-at-len-clause-read
@@ -28,3 +28,11 @@ returns-then-at-len-clause-counted c =
     let fits : s.at < length s.lines.items = let l = c.len.ensures in let i = c.if-at-len.true in omega arith in
     let on : s.at + 1 ≡ suc s.at = omega arith in
     ap (λ n. line_or 0 (λ (l : Line). l.read) (slice_get s.lines.items s.at) + read_of (drop n (take s.len s.lines.items))) on ∙ counted_after s.lines.items s.len s.at c.if-at-self.true fits
+
+pub returns-then-at-len-clause-own : goal.returns-then-at-len-clause-own
+returns-then-at-len-clause-own c =
+    let s = c.args.self.now in
+    let fits : s.at < length s.lines.items = let l = c.len.ensures in let i = c.if-at-len.true in omega arith in
+    let on : s.at + 1 ≡ suc s.at = omega arith in
+    let own = own_there s.lines.items s.len s.at c.if-at-self.true fits in
+    (own.0, ap (λ n. drop n (take s.len s.lines.items)) on ∙ own.1)
