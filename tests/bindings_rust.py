@@ -19,14 +19,14 @@ from cases import TOP, read
 CRATE = f"{TOP}/bindings/rust"
 EXAMPLES = ("films", "paths", "sizes")
 CALLS = 34  # of examples/refused.rs
-TAKE_NO_MEMORY = {1, 5, 9, 18, 21}  # (a stored key's value is set in its place)
+TAKE_NO_MEMORY = {1, 5, 9, 18, 21, 33}  # (a stored key's value is set in its place)
 NEVER_FAIL = {19, 20, 31}  # (a walk, a look-up in what is frozen, giving memory back: they go on in what they have)
 SANITIZED = ("--lib", "--test", "differential", "--test", "panics", "--test", "map", "--test", "keys",
              "--test", "hostile", "--test", "faces")
 SANITIZED_CALLS = 200_000  # of tests/differential.rs, with the sanitizer and in --quick; else it makes a million
 TYPES = {"artmap_words *": "*mut Handle", "const void *": "*const u8", "void *": "*mut u8", "size_t *": "*mut usize",
-         "size_t ": "usize", "uint32_t ": "u32", "uint64_t ": "u64", "uint64_t *": "*mut u64", "bool ": "bool",
-         "const artmap_span *": "*const RawSpan", "const artmap_words_pair *": "*const Pair"}
+         "size_t ": "usize", "uint8_t ": "u8", "uint32_t ": "u32", "uint64_t ": "u64", "uint64_t *": "*mut u64",
+         "bool ": "bool", "const artmap_span *": "*const RawSpan", "const artmap_words_pair *": "*const Pair"}
 SERDE = ("serde", "serde_derive", "serde_json")
 REGISTRY = "/usr/share/cargo/registry"  # of Debian's librust-serde-dev and librust-serde-json-dev
 ANSWERS = {"artmap_code": "u32", "size_t": "usize", "void": "", "bool": "bool"}
