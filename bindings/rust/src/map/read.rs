@@ -69,7 +69,7 @@ impl<K: Key, V> ArtMap<K, V> {
     }
 
     /// The value of the longest key that begins the query, or equals it: of prefixes as keys, the one that the query is
-    /// under. Of texts many may begin it; it is gone down once.
+    /// under. Of texts many may begin it.
     ///
     /// ```
     /// let paths = artmap::ArtMap::from([("/", 1), ("/api", 2)]);
