@@ -1,5 +1,6 @@
 pub mod ClaimedLends
 pub mod Claims
 pub mod Fits
+pub mod Growths
 pub mod NodesLends
 pub mod Stepping

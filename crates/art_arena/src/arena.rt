@@ -210,12 +210,12 @@ impl<K, V, const PREFIX_LEN: usize> NodeArena<K, V, PREFIX_LEN> {
         ensures room_of { KeepsRoomOf self.old self.new }
         ensures kept { SameNodes self.old self.new }
     {
-        self.leaves.reserve(additional)?;
-        self.nodes4.reserve(additional)?;
-        self.nodes16.reserve(additional)?;
-        self.nodes32.reserve(additional)?;
-        self.nodes48.reserve(additional)?;
-        self.nodes256.reserve(additional)
+        self.leaves.reserve(NodeType::Leaf, additional)?;
+        self.nodes4.reserve(NodeType::Node4, additional)?;
+        self.nodes16.reserve(NodeType::Node16, additional)?;
+        self.nodes32.reserve(NodeType::Node32, additional)?;
+        self.nodes48.reserve(NodeType::Node48, additional)?;
+        self.nodes256.reserve(NodeType::Node256, additional)
     }
 
     /// Allocates so many more nodes of one kind, and of no other: as many allocations of that kind then can't fail.
@@ -233,12 +233,12 @@ impl<K, V, const PREFIX_LEN: usize> NodeArena<K, V, PREFIX_LEN> {
         ensures kept { SameNodes self.old self.new }
     {
         match kind {
-            NodeType::Node4 => self.nodes4.reserve(additional),
-            NodeType::Node16 => self.nodes16.reserve(additional),
-            NodeType::Node32 => self.nodes32.reserve(additional),
-            NodeType::Node48 => self.nodes48.reserve(additional),
-            NodeType::Node256 => self.nodes256.reserve(additional),
-            NodeType::Leaf => self.leaves.reserve(additional),
+            NodeType::Node4 => self.nodes4.reserve(kind, additional),
+            NodeType::Node16 => self.nodes16.reserve(kind, additional),
+            NodeType::Node32 => self.nodes32.reserve(kind, additional),
+            NodeType::Node48 => self.nodes48.reserve(kind, additional),
+            NodeType::Node256 => self.nodes256.reserve(kind, additional),
+            NodeType::Leaf => self.leaves.reserve(kind, additional),
         }
     }
 

@@ -3,10 +3,12 @@ ghost use Rattle.std.specs.Prelude.{◌≡◌, ℕ, ◌<◌, ◌≤◌, ◌-◌,
 ghost use Rattle.std.specs.Prelude.{[], Some, None, IfOk, IfErr, IsOk, IsSome, IsTrue, OnErr, OnOk};
 ghost use Rattle.std.specs.Borrow.{sem};
 ghost use Rattle.slab.specs.Slab.{get, slab_len, EndsWithValue, HasRoomFor, SameValues, Updates, IsSlotClone};
+ghost use Rattle.art_nodes.specs.declared.kind.NodeType.{NodeType};
+ghost use Rattle.art_arena.specs.inner.Growths.{growth_of};
 ghost use Rattle.art_arena.specs.inner.NodesLends.{lends_in};
 
 use crate::claimed::ClaimedSlab;
-use art_nodes::assume_proved;
+use art_nodes::{NodeType, assume_proved};
 use std::alloc::{AllocError, AllocFailed, Global};
 use std::marker::Model;
 
@@ -31,17 +33,25 @@ impl<N, const PREFIX_LEN: usize> Model for Nodes<N, PREFIX_LEN> {
     ghost invariant = { λ a. FitsWhereUsed PREFIX_LEN a.slab };
 }
 
-// Makes room for so many more values, where there is none: for as many as there are, if so much memory is had, else for
-// half as many, and so on, down to no more than these. So a first value asks for the memory of one.
+// How many more nodes of a kind are asked for at a time, where there are so many: as many again, or a quarter of them
+// where one takes half a kilobyte or more. Those are the nodes with room for more than 32 children.
+fn growth(kind: NodeType, len: usize) -> usize
+    ensures { result ≡ growth_of kind len }
+{
+    if kind.row().most > 32 { len / 4 } else { len }
+}
+
+// Makes room for so many more values, where there is none: for as many as are wanted, if so much memory is had, else
+// for half as many, and so on, down to no more than these.
 #[cold]
-fn grow<T>(slab: &mut ClaimedSlab<T>, additional: usize) -> Result<(), AllocError>
+fn grow<T>(slab: &mut ClaimedSlab<T>, additional: usize, wanted: usize) -> Result<(), AllocError>
     ensures room { OnOk result (HasRoomFor slab.new additional) }
-    ensures few { slab.new.capacity ≤ max slab.old.capacity (slab_len slab.old + max additional (slab_len slab.old)) }
+    ensures few { slab.new.capacity ≤ max slab.old.capacity (slab_len slab.old + max additional wanted) }
     ensures err { OnErr result (slab.new ≡ slab.old) }
     ensures capacity { slab.old.capacity ≤ slab.new.capacity }
     ensures kept { slab.new ≡ record slab.old { capacity = slab.new.capacity } }
 {
-    let mut more = slab.len();
+    let mut more = wanted;
     'halves: while more > additional {
         if slab.reserve_exact(more).is_ok() {
             return Ok(());
@@ -110,12 +120,15 @@ impl<N, const PREFIX_LEN: usize> Nodes<N, PREFIX_LEN> {
         self.slab.contains(slot)
     }
 
-    // Makes room for so many more nodes. It is refused only where there is no room for them, and no memory.
-    pub(crate) fn reserve(&mut self, additional: usize) -> Result<(), AllocError>
+    // Makes room for so many more nodes. It is refused only where there is no room for them, and no memory. Their kind
+    // tells how many are asked for.
+    pub(crate) fn reserve(&mut self, kind: NodeType, additional: usize) -> Result<(), AllocError>
         ensures room { OnOk result (HasRoomFor self.new additional) }
         ensures succeeds { HasRoomFor self.old additional → IsOk result }
         ensures err { OnErr result (self.new ≡ self.old) }
         ensures enough { HasRoomFor self.old additional → self.new ≡ self.old }
+        ensures few { self.new.capacity
+            ≤ max self.old.capacity (slab_len self.old + max additional (growth_of kind (slab_len self.old))) }
         ensures capacity { self.old.capacity ≤ self.new.capacity }
         ensures kept { self.new ≡ record self.old { capacity = self.new.capacity } }
     {
@@ -126,7 +139,8 @@ impl<N, const PREFIX_LEN: usize> Nodes<N, PREFIX_LEN> {
         if PREFIX_LEN >= PREFIX_LEN_LIMIT {
             return Err(AllocError);
         }
-        grow(slab, additional)
+        let wanted = growth(kind, slab.len());
+        grow(slab, additional, wanted)
     }
 
     // There is no room for 2^64 nodes or more. Nothing is done.
@@ -152,19 +166,21 @@ impl<N, const PREFIX_LEN: usize> Nodes<N, PREFIX_LEN> {
         slab.shrink_to_fit();
     }
 
-    // Stores a node, or hands it back where there is no memory.
-    pub(crate) fn insert(&mut self, node: N) -> Result<usize, AllocFailed<N>>
+    // Stores a node of this kind, or hands it back where there is no memory.
+    pub(crate) fn insert(&mut self, kind: NodeType, node: N) -> Result<usize, AllocFailed<N>>
         ensures was_vacant { IfOk result (λ slot. get self.old slot ≡ None) }
         ensures updates { IfOk result (λ slot. Updates self.old self.new slot (Some node)) }
         ensures len { OnOk result (slab_len self.new ≡ slab_len self.old + 1) }
         ensures err { OnErr result (self.new ≡ self.old) }
         ensures handed_back { IfErr result (λ failed. failed.value ≡ node) }
         ensures succeeds { HasRoomFor self.old 1 → IsOk result }
+        ensures few { self.new.capacity
+            ≤ max self.old.capacity (slab_len self.old + max 1 (growth_of kind (slab_len self.old))) }
         ensures capacity { self.old.capacity ≤ self.new.capacity }
         ensures enough { HasRoomFor self.old 1 → self.new.capacity ≡ self.old.capacity }
         ensures below { IfOk result (λ slot. slot < 2 ^ 64 - 1) }
     {
-        if self.reserve(1).is_err() {
+        if self.reserve(kind, 1).is_err() {
             return Err(AllocFailed { value: node });
         }
         Ok(self.slab.insert_reserved(node))

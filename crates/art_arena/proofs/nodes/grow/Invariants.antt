@@ -1,11 +1,10 @@
 use Rattle.std.proofs.Common.{◌≡◌, ◌-◌, ◌≤◌}
-use Rattle.slab.specs.Slab.{slab_len}
 use Rattle.art_arena.proofs.nodes.grow.Given as goal
 
 abbrev pub invariant-halves : goal.invariant-halves
 invariant-halves g l = record {
   kept : l.slab ≡ l.fn.slab;
-  few : l.more ≤ slab_len l.fn.slab;
+  few : l.more ≤ l.fn.wanted;
 }
 
 abbrev pub decreases-halves : goal.decreases-halves
