@@ -73,7 +73,8 @@ module _ {K V : Type 0} {P : ℕ} {M : Type 0} {g : as_bytes.Ghosts K} (e : Pref
     room-shown w = pair-room e.map.now slot (k, v) has w
 
     -- the entry, once the value is written
-    pub shown-stored : ((w : V) → (with_value_at e.map.now slot w).pairs ≡ with_pair_put g.bytes k w e.map.now.pairs) → (w : V) (n : PrefixOccupied K V P M g) → n.map ≡ record e.map { now = with_value_at e.map.now slot w } → n.spot ≡ e.spot → IsShownWritten (occupied_kind e) w (occupied_kind n)
+    pub shown-stored : ((w : V) → (with_value_at e.map.now slot w).pairs ≡ with_pair_put g.bytes k w e.map.now.pairs) → (w : V) (n : PrefixOccupied K V P M g)
+        → n.map ≡ record e.map { now = with_value_at e.map.now slot w } → n.spot ≡ e.spot → IsShownWritten (occupied_kind e) w (occupied_kind n)
     shown-stored written w n map spot =
         let held = held-at e slot is in
         let o = leaf-entry e slot held in
@@ -86,9 +87,11 @@ module _ {K V : Type 0} {P : ℕ} {M : Type 0} {g : as_bytes.Ghosts K} (e : Pref
         (subst (λ d. IsShownWritten (Leaf o) w d) (sym (kind-stored n slot on there)) (subst (λ (m : MutBor (Contents K V)). (h : HasPairUnder m.now slot) → So (record { map = m; leaf = slot; mark = n.mark; held = h })) (sym map) did there))
 
   module _ (k : K) (is : e.spot ≡ New k) where
-    pub shown-new : (n : PrefixOccupied K V P M g) → n.map.ghost_name ≡ e.map.ghost_name → n.spot ≡ e.spot → (w : V) → n.map.now.pairs ≡ set_value (overlaps_query g.bytes (g.bytes k)) e.map.now.pairs w → KeepsAllLeaves g.bytes e.map.now n.map.now → KeepsRoomOf e.map.now.nodes n.map.now.nodes
+    pub shown-new : (n : PrefixOccupied K V P M g) → n.map.ghost_name ≡ e.map.ghost_name → n.spot ≡ e.spot → (w : V)
+        → n.map.now.pairs ≡ set_value (overlaps_query g.bytes (g.bytes k)) e.map.now.pairs w → KeepsAllLeaves g.bytes e.map.now n.map.now → KeepsRoomOf e.map.now.nodes n.map.now.nodes
         → IsShownWritten (occupied_kind e) w (occupied_kind n)
-    shown-new n map spot w pairs names room = subst (λ (p : PrefixOccupiedKind K V P M g × PrefixOccupiedKind K V P M g). IsShownWritten p.0 w p.1) (λ i. (sym (kind-new e k is) i, sym (kind-new n k (spot ∙ is)) i)) (record { same_map = map; key = refl; pairs = pairs; names = names; room = room })
+    shown-new n map spot w pairs names room =
+        subst (λ (p : PrefixOccupiedKind K V P M g × PrefixOccupiedKind K V P M g). IsShownWritten p.0 w p.1) (λ i. (sym (kind-new e k is) i, sym (kind-new n k (spot ∙ is)) i)) (record { same_map = map; key = refl; pairs = pairs; names = names; room = room })
 
 -- where a key has a value, the room that stays is what is left
 pub stored-leaves : {K V : Type 0} (o : Option V) (v : V) (old new : Arena K V) → o ≡ Some v → KeepsRoomOf old new → LeavesRoom o old new

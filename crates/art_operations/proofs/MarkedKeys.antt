@@ -1,10 +1,10 @@
 -- Keys with a mark after some bytes of a query: how they begin, and the longest of them.
-use Rattle.std.proofs.Common.{◌≡◌, ◌≢◌, ◌⊎◌, ℕ, zero, suc, ◌+◌, ◌<◌, ◌≤◌, Bool, true, false, cond, List, [], ◌∷◌, ◌++◌, length, get_or, take, drop, Option, Some, None, refl, sym, ap, ap₂, subst, ◌∙◌, inl, inr, arith, length-append, length-take, length-take-le, append-nil, bytes_eq, take-take, take_all, take_at}
+use Rattle.std.proofs.Common.{◌≡◌, ◌⊎◌, ℕ, zero, suc, ◌+◌, ◌<◌, ◌≤◌, List, [], ◌∷◌, ◌++◌, length, get_or, take, Option, Some, None, refl, sym, ap, ap₂, subst, ◌∙◌, inl, inr, arith, length-append, length-take-le}
 use Rattle.std.proofs.lemmas.Bool.{cases_eq}
 use Rattle.std.proofs.lemmas.Bool.Decides.{eqb_tells}
 use Rattle.art_bytes.proofs.Common.{BeginsWith}
 use Rattle.art_nodes.proofs.Common.{agreeing}
-use Rattle.art_operations.proofs.Terms.{marked_key, option_or, longest_marked, IsMarkedBy, IsMarked, EndsAt}
+use Rattle.art_operations.proofs.Terms.{marked_key, option_or, longest_marked, IsMarkedBy, EndsAt}
 
 -- such a key that begins with a list and goes on: it is the list and the mark, or has the query's next byte after it
 pub key-splits : (q query : List ℕ) (mark n : ℕ) (key : List ℕ) → n ≤ length query → key ≡ marked_key query mark n → BeginsWith q key → length q < length key

@@ -1,12 +1,11 @@
 -- Leaves whose keys are some bytes of a query and a mark: below which branch they stand, and which of them was met.
-use Rattle.std.proofs.Common.{◌≡◌, ◌≢◌, ◌⊎◌, ℕ, zero, suc, ◌+◌, ◌<◌, ◌≤◌, Bool, true, false, List, [], ◌∷◌, ◌++◌, length, get_or, take, Option, Some, None, refl, sym, ap, ap₂, subst, ◌∙◌, inl, inr, arith, length-append, bytes_eq}
+use Rattle.std.proofs.Common.{◌≡◌, ℕ, ◌+◌, ◌≤◌, Bool, true, false, List, [], ◌∷◌, ◌++◌, Some, None, refl, sym, ap, subst, ◌∙◌, inl, inr, arith, bytes_eq}
 use Rattle.std.proofs.lemmas.Bool.Decides.{eqb_tells}
 use Rattle.std.proofs.lemmas.Slice.Eq.{bytes_eq-Decides}
 use Rattle.art_bytes.proofs.Common.{BeginsWith}
-use Rattle.art_nodes.proofs.Common.{child_at, Name}
+use Rattle.art_nodes.proofs.Common.{child_at}
 use Rattle.art_arena.proofs.Common.{IsIn, Shape, Branches, leaf_at, inner_at, no_branch, branch, LeafAt, children_at, join, leaves, leaves_in, IsUnder, AreUnder, leaf_where, all_at, in_cases, in_left, in_right, one_byte, begins_trans, same_key, other_key, leaves-begin, leaves_in-join}
 use Rattle.art_arena.proofs.shapes.Places.{around}
-use Rattle.art_operations.proofs.Terms.{marked_key, longest_marked, IsMarkedBy, IsMarked, EndsAt, EndsAmong, IsMarkedChild, NoneMarked, IsDeepest}
 
 module _ {K V : Type 0} (bytes : K → List ℕ) where
   -- below which branch a leaf stands

@@ -1,11 +1,10 @@
 -- The answer of a search for the longest marked key, by candidates that are met from the deepest on.
-use Rattle.std.proofs.Common.{◌≡◌, ◌≢◌, ◌⊎◌, ℕ, zero, suc, ◌+◌, ◌-◌, ◌<◌, ◌≤◌, Bool, true, false, eqb, leb, IsTrue, List, [], ◌∷◌, ◌++◌, length, get_or, take, Option, Some, None, IsSome, refl, sym, ap, ap₂, subst, ◌∙◌, inl, inr, arith, append-nil, length-append, length-take-le, take-take, bytes_eq}
+use Rattle.std.proofs.Common.{◌≡◌, ℕ, suc, ◌+◌, ◌-◌, ◌<◌, ◌≤◌, Bool, false, eqb, leb, IsTrue, List, [], ◌∷◌, ◌++◌, length, get_or, take, Option, Some, None, IsSome, refl, sym, ap, ap₂, subst, ◌∙◌, inl, inr, arith, append-nil, length-append, length-take-le, take-take, bytes_eq}
 use Rattle.std.proofs.lemmas.Bool.Decides.{eqb_tells, leb_tells}
-use Rattle.art_bytes.proofs.Common.{BeginsWith}
 use Rattle.art_nodes.proofs.Common.{Name, agreeing}
 use Rattle.art_nodes.specs.declared.leaf.LeafNode.{LeafNode}
 use Rattle.art_arena.proofs.Common.{Arena, IsIn, IsSubtree, Shape, LeafAt, leaves, IsUnder, all_at, cell_held, held_at, holds_pair, leaf_held, leaf_name, leaf_where, node_at, pair, leaves_are_held, HoldsPair}
-use Rattle.art_operations.proofs.Terms.{marked_key, longest_marked, IsMarkedBy, IsMarked, EndsAt, NoneMarked, IsDeepest}
+use Rattle.art_operations.proofs.Terms.{marked_key, longest_marked, IsMarkedBy, IsMarked, NoneMarked, IsDeepest}
 use Rattle.art_operations.proofs.MarkedKeys.{agree-take, agree-fronts, take-begins, ends-whole, ends-long, ends-mark, marked-ends, longest-none, longest-some}
 use Rattle.art_operations.proofs.MarkedLeaves.{apart, found-at, found-nowhere}
 

@@ -1,14 +1,13 @@
 -- The way of a query down a tree by lengths alone, and the deepest leaf beside it whose key ends with the mark.
-use Rattle.std.proofs.Common.{◌≡◌, ◌≢◌, ◌⊎◌, ℕ, zero, suc, ◌+◌, ◌<◌, ◌≤◌, List, [], ◌∷◌, ◌++◌, length, get_or, take, Option, Some, None, IsSome, refl, sym, ap, ap₂, subst, ◌∙◌, inl, inr, arith, length-append, length-take-le, append-nil}
+use Rattle.std.proofs.Common.{◌≡◌, ◌⊎◌, ℕ, ◌+◌, ◌<◌, ◌≤◌, List, [], ◌∷◌, ◌++◌, length, get_or, take, Option, Some, None, IsSome, refl, sym, ap, ap₂, subst, ◌∙◌, inl, inr, arith, length-append, append-nil}
 use Rattle.std.specs.Prelude.{MatchOption}
-use Rattle.std.proofs.lemmas.Bool.Decides.{leb_tells}
-use Rattle.art_bytes.proofs.Common.{BeginsWith, begins_append, begins_step}
+use Rattle.art_bytes.proofs.Common.{BeginsWith, begins_step}
 use Rattle.art_nodes.proofs.Common.{InnerNode, child_at, Name}
 use Rattle.art_arena.specs.arena.Descents.{GoesOn, GoesNoFurther}
-use Rattle.art_arena.proofs.Common.{AreHeld, Cell, pair, branches, IsIn, IsSubtree, Shape, Branches, leaf_at, inner_at, no_branch, branch, LeafAt, name_of, cells, children_at, join, leaves, leaves_in, IsUnder, AreUnder, all_at, begins_trans, leaves-begin, leaves_in-begin, subtree-branch}
+use Rattle.art_arena.proofs.Common.{AreHeld, Cell, pair, branches, IsIn, IsSubtree, Shape, Branches, leaf_at, inner_at, LeafAt, name_of, cells, children_at, leaves, leaves_in, IsUnder, AreUnder, all_at, begins_trans, leaves_in-begin, subtree-branch}
 use Rattle.art_arena.proofs.shapes.Subtrees.{subtree-held}
 use Rattle.art_arena.proofs.shapes.Places.{leaf-there, inner-there, split}
-use Rattle.art_operations.proofs.Terms.{marked_key, option_or, IsMarkedBy, IsMarked, EndsAt, EndsAmong, IsMarkedChild, NoneMarked, IsDeepest}
+use Rattle.art_operations.proofs.Terms.{option_or, IsMarkedBy, IsMarked, EndsAt, EndsAmong, IsMarkedChild, NoneMarked, IsDeepest}
 use Rattle.art_operations.proofs.MarkedKeys.{key-splits, ends-long, marked-ends}
 use Rattle.art_operations.proofs.MarkedLeaves.{some-byte, in-this, in-whole, in-none}
 

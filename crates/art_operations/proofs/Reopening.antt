@@ -86,7 +86,8 @@ module _ {K V : Type 0} (bytes : K → List ℕ) where
 
 module _ {K V : Type 0} (bytes : K → List ℕ) (P : ℕ) where
   -- what an arena and a spine with the same nodes and notes have
-  pub opens-same : (old new : Arena K V) (was now : Spine) (part : Name) (leaf : LeafAt K V) (ls : List (LeafAt K V)) → SameNodes old new → now.stack.items ≡ was.stack.items → now.children.items ≡ was.children.items → OpensTo bytes P old was part leaf ls → OpensTo bytes P new now part leaf ls
+  pub opens-same : (old new : Arena K V) (was now : Spine) (part : Name) (leaf : LeafAt K V) (ls : List (LeafAt K V)) → SameNodes old new
+      → now.stack.items ≡ was.stack.items → now.children.items ≡ was.children.items → OpensTo bytes P old was part leaf ls → OpensTo bytes P new now part leaf ls
   opens-same old new was now part leaf ls same stack children is =
       let stands = is.stands in
       record {
@@ -262,7 +263,8 @@ module _ {K V : Type 0} (bytes : K → List ℕ) (P : ℕ) where
           let removed = Holds-remove (node_at arena) (node_at new) part _ (open_cells P levels) (cells_in P inner.kids ++ []) (nodes-update arena new part None frees)
           (subst (λ s. Holds (node_at arena) (open_cells P levels ++ (cells P s ++ []))) inner.shape_is is.stands.holds) in
           let kids_are : cells_in P inner.kids ≡ cells_in P end.others ++ cells P end.child = ap (cells_in P) end.is ∙ cells-after P end.byte end.child end.others in
-          subst (Holds (node_at new)) (ap (λ cs. open_cells P levels ++ (cs ++ [])) kids_are ∙ ap (λ cs. open_cells P levels ++ cs) (append_assoc (cells_in P end.others) (cells P end.child) []) ∙ sym (append_assoc (open_cells P levels) (cells_in P end.others) (cells P end.child ++ []))) removed
+          subst (Holds (node_at new))
+          (ap (λ cs. open_cells P levels ++ (cs ++ [])) kids_are ∙ ap (λ cs. open_cells P levels ++ cs) (append_assoc (cells_in P end.others) (cells P end.child) []) ∙ sym (append_assoc (open_cells P levels) (cells_in P end.others) (cells P end.child ++ []))) removed
 
       -- with places for all leaves its children can be noted
       can-open : HasRoomToOpen arena spine (length ls) → HasSpineRoom arena spine (length (children_at inner.kids))

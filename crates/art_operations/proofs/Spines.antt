@@ -1,5 +1,6 @@
 -- The open nodes of a tree that is built: their lists, and what becomes of them where the last of them is made.
-use Rattle.std.proofs.Common.{◌≡◌, ◌≢◌, ℕ, suc, ◌+◌, ◌-◌, ◌<◌, ◌≤◌, max, List, [], ◌∷◌, ◌++◌, length, take, drop, slice_get, slice_index, Some, Ok, Err, Result, IfOk, OnErr, reverse, refl, sym, ap, ap₂, subst, ◌∙◌, arith, append_assoc, append-nil, zero-le}
+use Rattle.std.proofs.Common.{◌≡◌, ◌≢◌, ℕ, suc, ◌+◌, ◌-◌, ◌<◌, ◌≤◌, max, List, [], ◌∷◌, ◌++◌, length, take, drop, slice_get, slice_index}
+use Rattle.std.proofs.Common.{Some, Ok, Err, Result, IfOk, OnErr, reverse, refl, sym, ap, ap₂, subst, ◌∙◌, arith, append_assoc, append-nil, zero-le}
 use Rattle.std.proofs.lemmas.List.{reverse-append, reverse-reverse}
 use native.Mathlib.Numerals.{unary_clauses}
 use Rattle.std.proofs.Math.Seq.{take-add, take-suc}
@@ -125,7 +126,8 @@ module _ {K V : Type 0} (bytes : K → List ℕ) (P : ℕ) where
               (AreUnder-join bytes (take l.depth key) 0 byte l.kids part no_branch is_open.under is_open.below zero-le part_under tt),
         )
 
-    pub made-holds : (rest : List (Name × Cell K V)) → Holds (node_at old) (open_cells P (l ∷ outer) ++ (cells P part ++ rest)) → Allocates old new node (inner_held (inner_over P prefix (children_at l.kids ++ (byte, root) ∷ []))) → Holds (node_at new) (open_cells P outer ++ (cells P made ++ rest))
+    pub made-holds : (rest : List (Name × Cell K V)) → Holds (node_at old) (open_cells P (l ∷ outer) ++ (cells P part ++ rest)) → Allocates old new node (inner_held (inner_over P prefix (children_at l.kids ++ (byte, root) ∷ [])))
+        → Holds (node_at new) (open_cells P outer ++ (cells P made ++ rest))
     made-holds rest holds allocates =
         let below = cells_in P l.kids ++ (cells P part ++ rest) in
         let added = Holds-add (node_at old) (node_at new) node _ (open_cells P outer) below (nodes-update old new node _ allocates.updates) (ap cell_of allocates.vacant)

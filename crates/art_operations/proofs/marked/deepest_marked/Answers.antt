@@ -1,4 +1,4 @@
-use Rattle.std.proofs.Common.{arith, refl, sym, ap, subst, ◌∙◌, ◌≡◌, Some, []}
+use Rattle.std.proofs.Common.{arith, refl, sym, ap, subst, ◌∙◌}
 use Rattle.art_arena.proofs.Common.{node_at}
 use Rattle.art_arena.proofs.shapes.Subtrees.{subtree-held}
 use Rattle.art_arena.proofs.shapes.Walking.{lent-leaf, lent-inner, node-there}

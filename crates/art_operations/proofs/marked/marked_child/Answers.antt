@@ -1,6 +1,6 @@
-use Rattle.std.proofs.Common.{arith, refl, sym, ap, subst, ◌∙◌, ◌≡◌, Some}
+use Rattle.std.proofs.Common.{arith, refl, sym, ap, ◌∙◌}
 use Rattle.art_nodes.proofs.Common.{child_at}
-use Rattle.art_arena.proofs.Common.{children_at, node_at}
+use Rattle.art_arena.proofs.Common.{node_at}
 use Rattle.art_arena.proofs.shapes.Walking.{lent-leaf, lent-inner, node-there}
 use Rattle.art_operations.proofs.MarkedWays.{no-child, child-held, child-ends, child-other, child-inner}
 use Rattle.art_operations.proofs.marked.marked_child.Goals as goal
