@@ -34,20 +34,33 @@ fn node_over<N: InnerNodeCommon<PREFIX_LEN>, const PREFIX_LEN: usize>(
     node
 }
 
-// Stores an inner node.
-#[inline(always)]
-fn store_inner<
-    K,
+// Stores an inner node of one kind. Each kind has a call of its own: it clears as much of the stack as one node takes.
+#[inline(never)]
+fn store_kind<
+    K: AsBytes,
     V,
     N: StoredInner<K, V, NodeArena<K, V, PREFIX_LEN>, PREFIX_LEN>,
     const PREFIX_LEN: usize,
->(arena: &mut NodeArena<K, V, PREFIX_LEN>, node: N) -> Result<OpaqueNodePtr, AllocError>
-    ensures ok { IfOk result (λ name. (name.kind ≡ N.Kind.TYPE)
-        × Allocates arena.old arena.new name (inner_held (N.inner node))) }
+>(
+    arena: &mut NodeArena<K, V, PREFIX_LEN>,
+    leaf: LeafPtr,
+    from: usize,
+    depth: usize,
+    children: &[(u8, OpaqueNodePtr)],
+) -> Result<OpaqueNodePtr, AllocError>
+    requires leaf { (l : node.LeafNode K V) × HasLeaf arena.old leaf l × (depth ≤ length (K.bytes l.key)) }
+    requires prefix { from ≤ depth }
+    requires ascending { IsAscending children.now }
+    requires room { length children.now ≤ N.room }
+    ensures ok { (l : node.LeafNode K V) → HasLeaf arena.old leaf l
+        → IfOk result (λ name. (name.kind ≡ N.Kind.TYPE) × Allocates arena.old arena.new name
+        (inner_held (inner_over PREFIX_LEN (take (depth - from) (drop from (K.bytes l.key))) children.now))) }
     ensures err { OnErr result (SameNodes arena.old arena.new) }
     ensures succeeds { HasRoomOf arena.old N.Kind.TYPE 1 → IsOk result }
     ensures room { UsesRoomOf N.Kind.TYPE arena.old arena.new }
 {
+    let prefix = &arena.as_key_ref(leaf).as_bytes()[from..depth];
+    let node: N = node_over(prefix, children);
     Ok(arena.allocate_node_ptr(node)?.to_opaque())
 }
 
@@ -78,24 +91,28 @@ pub(super) fn store_over<K: AsBytes, V, const PREFIX_LEN: usize>(
     if !arena.fits_in_memory() {
         return Err(AllocError);
     }
-    let prefix = &arena.as_key_ref(leaf).as_bytes()[from..depth];
     let count = children.len();
     if count <= 4 {
-        let node: InnerNode4<K, V, PREFIX_LEN> = node_over(prefix, children);
-        return store_inner(arena, node);
+        return store_kind::<K, V, InnerNode4<K, V, PREFIX_LEN>, PREFIX_LEN>(
+            arena, leaf, from, depth, children,
+        );
     }
     if count <= 16 {
-        let node: InnerNode16<K, V, PREFIX_LEN> = node_over(prefix, children);
-        return store_inner(arena, node);
+        return store_kind::<K, V, InnerNode16<K, V, PREFIX_LEN>, PREFIX_LEN>(
+            arena, leaf, from, depth, children,
+        );
     }
     if count <= 32 {
-        let node: InnerNode32<K, V, PREFIX_LEN> = node_over(prefix, children);
-        return store_inner(arena, node);
+        return store_kind::<K, V, InnerNode32<K, V, PREFIX_LEN>, PREFIX_LEN>(
+            arena, leaf, from, depth, children,
+        );
     }
     if count <= 48 {
-        let node: InnerNode48<K, V, PREFIX_LEN> = node_over(prefix, children);
-        return store_inner(arena, node);
+        return store_kind::<K, V, InnerNode48<K, V, PREFIX_LEN>, PREFIX_LEN>(
+            arena, leaf, from, depth, children,
+        );
     }
-    let node: InnerNode256<K, V, PREFIX_LEN> = node_over(prefix, children);
-    store_inner(arena, node)
+    store_kind::<K, V, InnerNode256<K, V, PREFIX_LEN>, PREFIX_LEN>(
+        arena, leaf, from, depth, children,
+    )
 }

@@ -1,5 +1,5 @@
-use Rattle.std.proofs.Common.{ℕ, ◌+◌, suc, length, sym, subst, ◌∙◌, arith}
-use Rattle.art_nodes.proofs.Common.{length-ascending}
+use Rattle.std.proofs.Common.{◌≡◌, ℕ, ◌+◌, suc, length, Result, Ok, Err, IfOk, sym, subst, ◌∙◌, arith}
+use Rattle.art_nodes.proofs.Common.{Name, length-ascending}
 use Rattle.art_nodes.specs.declared.kind.NodeType.{NodeType}
 use Rattle.art_nodes.specs.declared.kind.NodeType.TheVariants.{Node4, Node16, Node32, Node48, Node256}
 use Rattle.art_arena.proofs.Common.{Arena, IsKindOf, UsesRoomOf}
@@ -9,54 +9,54 @@ use Rattle.art_operations.proofs.Unmade.{fewer-room, kind-over}
 use Rattle.art_operations.proofs.build.made.store_over.Goals as goal
 
 pub returns-then-count-le4-clause-leaves : goal.returns-then-count-le4-clause-leaves
-returns-then-count-le4-clause-leaves g c = stored-leaves c.args.arena.now c.store_inner.new.arena c.store_inner.result Node4 _ (λ e. cc) c.store_inner.ensures.ok c.store_inner.ensures.err
+returns-then-count-le4-clause-leaves g c = stored-leaves c.args.arena.now c.store_kind.new.arena c.store_kind.result Node4 _ (λ e. cc) (c.store_kind.ensures.ok c.requires.leaf.0 c.requires.leaf.1) c.store_kind.ensures.err
 
 pub returns-then-count-le16-clause-leaves : goal.returns-then-count-le16-clause-leaves
-returns-then-count-le16-clause-leaves g c = stored-leaves c.args.arena.now c.store_inner-then-count-le16.new.arena c.store_inner-then-count-le16.result Node16 _ (λ e. cc) c.store_inner-then-count-le16.ensures.ok c.store_inner-then-count-le16.ensures.err
+returns-then-count-le16-clause-leaves g c = stored-leaves c.args.arena.now c.store_kind-then-count-le16.new.arena c.store_kind-then-count-le16.result Node16 _ (λ e. cc) (c.store_kind-then-count-le16.ensures.ok c.requires.leaf.0 c.requires.leaf.1) c.store_kind-then-count-le16.ensures.err
 
 pub returns-then-count-le32-clause-leaves : goal.returns-then-count-le32-clause-leaves
-returns-then-count-le32-clause-leaves g c = stored-leaves c.args.arena.now c.store_inner-then-count-le32.new.arena c.store_inner-then-count-le32.result Node32 _ (λ e. cc) c.store_inner-then-count-le32.ensures.ok c.store_inner-then-count-le32.ensures.err
+returns-then-count-le32-clause-leaves g c = stored-leaves c.args.arena.now c.store_kind-then-count-le32.new.arena c.store_kind-then-count-le32.result Node32 _ (λ e. cc) (c.store_kind-then-count-le32.ensures.ok c.requires.leaf.0 c.requires.leaf.1) c.store_kind-then-count-le32.ensures.err
 
 pub returns-then-count-le48-clause-leaves : goal.returns-then-count-le48-clause-leaves
-returns-then-count-le48-clause-leaves g c = stored-leaves c.args.arena.now c.store_inner-then-count-le48.new.arena c.store_inner-then-count-le48.result Node48 _ (λ e. cc) c.store_inner-then-count-le48.ensures.ok c.store_inner-then-count-le48.ensures.err
+returns-then-count-le48-clause-leaves g c = stored-leaves c.args.arena.now c.store_kind-then-count-le48.new.arena c.store_kind-then-count-le48.result Node48 _ (λ e. cc) (c.store_kind-then-count-le48.ensures.ok c.requires.leaf.0 c.requires.leaf.1) c.store_kind-then-count-le48.ensures.err
 
-pub node_over-node-requires-2-clause-room : goal.node_over-node-requires-2-clause-room
-node_over-node-requires-2-clause-room g c =
+pub store_kind-requires-2 : goal.store_kind-requires-2
+store_kind-requires-2 g c =
     let few = length-ascending 0 c.args.children.now (omega arith) c.requires.ascending in
-    omega (arith, few)
+    (omega arith, (c.requires.leaf, (c.requires.prefix, (c.requires.ascending, omega (arith, few)))))
 
 pub returns-clause-leaves : goal.returns-clause-leaves
-returns-clause-leaves g c = stored-leaves c.args.arena.now c.store_inner-2.new.arena c.store_inner-2.result Node256 _ (λ e. cc) c.store_inner-2.ensures.ok c.store_inner-2.ensures.err
+returns-clause-leaves g c = stored-leaves c.args.arena.now c.store_kind-2.new.arena c.store_kind-2.result Node256 _ (λ e. cc) (c.store_kind-2.ensures.ok c.requires.leaf.0 c.requires.leaf.1) c.store_kind-2.ensures.err
 
 pub returns-then-count-le4-clause-succeeds : goal.returns-then-count-le4-clause-succeeds
-returns-then-count-le4-clause-succeeds g c = λ more room. c.store_inner.ensures.succeeds (first-room c.args.arena.now Node4 (length c.args.children.now) more (λ e. cc) (omega arith) room)
+returns-then-count-le4-clause-succeeds g c = λ more room. c.store_kind.ensures.succeeds (first-room c.args.arena.now Node4 (length c.args.children.now) more (λ e. cc) (omega arith) room)
 
 pub returns-then-count-le4-clause-room : goal.returns-then-count-le4-clause-room
-returns-then-count-le4-clause-room g c = λ more room. stored c.args.arena.now c.store_inner.new.arena Node4 (length c.args.children.now) more (λ e. cc) (omega arith) c.store_inner.ensures.room room
+returns-then-count-le4-clause-room g c = λ more room. stored c.args.arena.now c.store_kind.new.arena Node4 (length c.args.children.now) more (λ e. cc) (omega arith) c.store_kind.ensures.room room
 
 pub returns-then-count-le16-clause-succeeds : goal.returns-then-count-le16-clause-succeeds
-returns-then-count-le16-clause-succeeds g c = λ more room. c.store_inner-then-count-le16.ensures.succeeds (first-room c.args.arena.now Node16 (length c.args.children.now) more (λ e. cc) (omega arith) room)
+returns-then-count-le16-clause-succeeds g c = λ more room. c.store_kind-then-count-le16.ensures.succeeds (first-room c.args.arena.now Node16 (length c.args.children.now) more (λ e. cc) (omega arith) room)
 
 pub returns-then-count-le16-clause-room : goal.returns-then-count-le16-clause-room
-returns-then-count-le16-clause-room g c = λ more room. stored c.args.arena.now c.store_inner-then-count-le16.new.arena Node16 (length c.args.children.now) more (λ e. cc) (omega arith) c.store_inner-then-count-le16.ensures.room room
+returns-then-count-le16-clause-room g c = λ more room. stored c.args.arena.now c.store_kind-then-count-le16.new.arena Node16 (length c.args.children.now) more (λ e. cc) (omega arith) c.store_kind-then-count-le16.ensures.room room
 
 pub returns-then-count-le32-clause-succeeds : goal.returns-then-count-le32-clause-succeeds
-returns-then-count-le32-clause-succeeds g c = λ more room. c.store_inner-then-count-le32.ensures.succeeds (first-room c.args.arena.now Node32 (length c.args.children.now) more (λ e. cc) (omega arith) room)
+returns-then-count-le32-clause-succeeds g c = λ more room. c.store_kind-then-count-le32.ensures.succeeds (first-room c.args.arena.now Node32 (length c.args.children.now) more (λ e. cc) (omega arith) room)
 
 pub returns-then-count-le32-clause-room : goal.returns-then-count-le32-clause-room
-returns-then-count-le32-clause-room g c = λ more room. stored c.args.arena.now c.store_inner-then-count-le32.new.arena Node32 (length c.args.children.now) more (λ e. cc) (omega arith) c.store_inner-then-count-le32.ensures.room room
+returns-then-count-le32-clause-room g c = λ more room. stored c.args.arena.now c.store_kind-then-count-le32.new.arena Node32 (length c.args.children.now) more (λ e. cc) (omega arith) c.store_kind-then-count-le32.ensures.room room
 
 pub returns-then-count-le48-clause-succeeds : goal.returns-then-count-le48-clause-succeeds
-returns-then-count-le48-clause-succeeds g c = λ more room. c.store_inner-then-count-le48.ensures.succeeds (first-room c.args.arena.now Node48 (length c.args.children.now) more (λ e. cc) (omega arith) room)
+returns-then-count-le48-clause-succeeds g c = λ more room. c.store_kind-then-count-le48.ensures.succeeds (first-room c.args.arena.now Node48 (length c.args.children.now) more (λ e. cc) (omega arith) room)
 
 pub returns-then-count-le48-clause-room : goal.returns-then-count-le48-clause-room
-returns-then-count-le48-clause-room g c = λ more room. stored c.args.arena.now c.store_inner-then-count-le48.new.arena Node48 (length c.args.children.now) more (λ e. cc) (omega arith) c.store_inner-then-count-le48.ensures.room room
+returns-then-count-le48-clause-room g c = λ more room. stored c.args.arena.now c.store_kind-then-count-le48.new.arena Node48 (length c.args.children.now) more (λ e. cc) (omega arith) c.store_kind-then-count-le48.ensures.room room
 
 pub returns-clause-succeeds : goal.returns-clause-succeeds
-returns-clause-succeeds g c = λ more room. c.store_inner-2.ensures.succeeds (first-room c.args.arena.now Node256 (length c.args.children.now) more (λ e. cc) (omega arith) room)
+returns-clause-succeeds g c = λ more room. c.store_kind-2.ensures.succeeds (first-room c.args.arena.now Node256 (length c.args.children.now) more (λ e. cc) (omega arith) room)
 
 pub returns-clause-room : goal.returns-clause-room
-returns-clause-room g c = λ more room. stored c.args.arena.now c.store_inner-2.new.arena Node256 (length c.args.children.now) more (λ e. cc) (omega arith) c.store_inner-2.ensures.room room
+returns-clause-room g c = λ more room. stored c.args.arena.now c.store_kind-2.new.arena Node256 (length c.args.children.now) more (λ e. cc) (omega arith) c.store_kind-2.ensures.room room
 
 pub returns-then-not-fits_in_memory-clause-succeeds : goal.returns-then-not-fits_in_memory-clause-succeeds
 returns-then-not-fits_in_memory-clause-succeeds g c = λ more room.
@@ -79,26 +79,41 @@ returns-then-not-fits_in_memory-clause-uses g c = λ kind is. no-room-used c.arg
 
 pub returns-then-count-le4-clause-uses : goal.returns-then-count-le4-clause-uses
 returns-then-count-le4-clause-uses g c = λ kind is.
-    stored-kind c.args.arena.now c.store_inner.new.arena Node4 kind (length c.args.children.now) (record { two = c.requires.two; fewest = c.requires.two; most = omega arith }) is c.store_inner.ensures.room
+    stored-kind c.args.arena.now c.store_kind.new.arena Node4 kind (length c.args.children.now) (record { two = c.requires.two; fewest = c.requires.two; most = omega arith }) is c.store_kind.ensures.room
 
 pub returns-then-count-le16-clause-uses : goal.returns-then-count-le16-clause-uses
 returns-then-count-le16-clause-uses g c = λ kind is.
-    stored-kind c.args.arena.now c.store_inner-then-count-le16.new.arena Node16 kind (length c.args.children.now) (record { two = c.requires.two; fewest = omega arith; most = omega arith }) is c.store_inner-then-count-le16.ensures.room
+    stored-kind c.args.arena.now c.store_kind-then-count-le16.new.arena Node16 kind (length c.args.children.now) (record { two = c.requires.two; fewest = omega arith; most = omega arith }) is c.store_kind-then-count-le16.ensures.room
 
 pub returns-then-count-le32-clause-uses : goal.returns-then-count-le32-clause-uses
 returns-then-count-le32-clause-uses g c = λ kind is.
-    stored-kind c.args.arena.now c.store_inner-then-count-le32.new.arena Node32 kind (length c.args.children.now) (record { two = c.requires.two; fewest = omega arith; most = omega arith }) is c.store_inner-then-count-le32.ensures.room
+    stored-kind c.args.arena.now c.store_kind-then-count-le32.new.arena Node32 kind (length c.args.children.now) (record { two = c.requires.two; fewest = omega arith; most = omega arith }) is c.store_kind-then-count-le32.ensures.room
 
 pub returns-then-count-le48-clause-uses : goal.returns-then-count-le48-clause-uses
 returns-then-count-le48-clause-uses g c = λ kind is.
-    stored-kind c.args.arena.now c.store_inner-then-count-le48.new.arena Node48 kind (length c.args.children.now) (record { two = c.requires.two; fewest = omega arith; most = omega arith }) is c.store_inner-then-count-le48.ensures.room
+    stored-kind c.args.arena.now c.store_kind-then-count-le48.new.arena Node48 kind (length c.args.children.now) (record { two = c.requires.two; fewest = omega arith; most = omega arith }) is c.store_kind-then-count-le48.ensures.room
 
 pub returns-clause-uses : goal.returns-clause-uses
 returns-clause-uses g c = λ kind is.
-    stored-kind c.args.arena.now c.store_inner-2.new.arena Node256 kind (length c.args.children.now)
+    stored-kind c.args.arena.now c.store_kind-2.new.arena Node256 kind (length c.args.children.now)
     (record {
       two = c.requires.two;
       fewest = omega arith;
       most
           = (let few = length-ascending 0 c.args.children.now (omega arith) c.requires.ascending in omega (arith, few));
-    }) is c.store_inner-2.ensures.room
+    }) is c.store_kind-2.ensures.room
+
+-- a kind that has room for so many children is that of a node that is stored of it
+kind-stored : {E : Type 0} (C : Name → Type 0) (r : Result Name E) (kind : NodeType) (count : ℕ) → IsKindOf kind count → IfOk r (λ name. (name.kind ≡ kind) × C name) → IfOk r (λ name. IsKindOf name.kind count)
+kind-stored C (Ok name) kind count is made = subst (λ k. IsKindOf k count) (sym made.0) is
+kind-stored C (Err e) kind count is made = tt
+
+pub returns-clause-kind : goal.returns-clause-kind
+returns-clause-kind g c =
+    kind-stored _ c.store_kind-2.result Node256 (length c.args.children.now)
+    (record {
+      two = c.requires.two;
+      fewest = omega arith;
+      most
+          = (let few = length-ascending 0 c.args.children.now (omega arith) c.requires.ascending in omega (arith, few));
+    }) (c.store_kind-2.ensures.ok c.requires.leaf.0 c.requires.leaf.1)
