@@ -38,7 +38,7 @@ impl<K: AsBytes, V, const PREFIX_LEN: usize> TreeMap<K, V, PREFIX_LEN> {
     ///
     /// If few leave, they move one by one. If many do, all leaves that go are moved along their list, and the inner
     /// nodes of both maps are made anew. So the cost never goes by more than the pairs of the map. The others keep
-    /// their leaves. If all leave, the nodes go with them, and all room.
+    /// their leaves. If all leave, the nodes go with them, and all room. If none do, all room stays, in an empty map too.
     ///
     /// A pair that leaves gives room for a leaf back. Of each other kind it uses room for four nodes at most.
     ///
@@ -71,22 +71,21 @@ impl<K: AsBytes, V, const PREFIX_LEN: usize> TreeMap<K, V, PREFIX_LEN> {
             → FreesLeaves (length off.pairs) self.old.nodes self.new.nodes) }
         ensures room { IfOk result (λ off. self.new.pairs ≢ []
             → UsesRoom (4 * length off.pairs) self.old.nodes self.new.nodes) }
-        ensures nothing { IfOk result (λ off. off.pairs ≡ [] → self.new.pairs ≢ []
-            → (self.new ≡ self.old) × HasNoRoom off.nodes) }
-        ensures swapped { IfOk result (λ off. self.new.pairs ≡ []
+        ensures nothing { IfOk result (λ off. off.pairs ≡ [] → (self.new ≡ self.old) × HasNoRoom off.nodes) }
+        ensures swapped { IfOk result (λ off. self.new.pairs ≡ [] → off.pairs ≢ []
             → (off ≡ self.old) × HasNoRoom self.new.nodes) }
     {
         if !nodes_fit::<PREFIX_LEN>() {
             return Err(AllocError);
         }
         let count = self.count_from(key.as_bytes());
+        if count == 0 {
+            return Ok(TreeMap::with_prefix_len(self.alloc));
+        }
         if count == self.len() {
             let mut off = TreeMap::with_prefix_len(self.alloc);
             mem::swap(self, &mut off);
             return Ok(off);
-        }
-        if count == 0 {
-            return Ok(TreeMap::with_prefix_len(self.alloc));
         }
         self.name_leaves();
         let off = self.split_last(count)?;

@@ -16,7 +16,8 @@ use std::alloc::AllocError;
 
 impl<K: AsBytes, const PREFIX_LEN: usize> TreeSet<K, PREFIX_LEN> {
     /// Moves the keys whose bytes are not less than the query's into a set of their own, and returns that set. The
-    /// others keep their leaves. If all leave, the nodes go with them, and all room.
+    /// others keep their leaves. If all leave, the nodes go with them, and all room. If none do, all room stays, in an
+    /// empty set too.
     ///
     /// A key that leaves gives room for a leaf back. Of each other kind it uses room for four nodes at most.
     ///
@@ -48,9 +49,8 @@ impl<K: AsBytes, const PREFIX_LEN: usize> TreeSet<K, PREFIX_LEN> {
             → FreesLeaves (length off.keys) self.old.nodes self.new.nodes) }
         ensures room { IfOk result (λ off. self.new.keys ≢ []
             → UsesRoom (4 * length off.keys) self.old.nodes self.new.nodes) }
-        ensures nothing { IfOk result (λ off. off.keys ≡ [] → self.new.keys ≢ []
-            → (self.new ≡ self.old) × HasNoRoom off.nodes) }
-        ensures swapped { IfOk result (λ off. self.new.keys ≡ []
+        ensures nothing { IfOk result (λ off. off.keys ≡ [] → (self.new ≡ self.old) × HasNoRoom off.nodes) }
+        ensures swapped { IfOk result (λ off. self.new.keys ≡ [] → off.keys ≢ []
             → (off ≡ self.old) × HasNoRoom self.new.nodes) }
     {
         let alloc = self.alloc;

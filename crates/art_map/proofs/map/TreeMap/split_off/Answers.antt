@@ -64,10 +64,15 @@ pub returns-then-count-len-clause-room : goal.returns-then-count-len-clause-room
 returns-then-count-len-clause-room g c = λ some. absurd (some (ap (λ m. m.pairs) c.swap.ensures.x_after ∙ c.with_prefix_len-off.ensures.pairs))
 
 pub returns-then-count-len-clause-nothing : goal.returns-then-count-len-clause-nothing
-returns-then-count-len-clause-nothing g c = λ none some. absurd (some (ap (λ m. m.pairs) c.swap.ensures.x_after ∙ c.with_prefix_len-off.ensures.pairs))
+returns-then-count-len-clause-nothing g c = λ none.
+    let some = c.if-count-eq0.false in
+    let same : c.count_from-count.result ≡ c.len.result = omega (arith, nat_tests, c.if-count-len.true) in
+    let len = c.len.ensures in
+    let gone = sym (ap (λ m. length m.pairs) c.swap.ensures.y_after) ∙ ap length none in
+    absurd (omega (arith, nat_tests, some, same, len, gone))
 
 pub returns-then-count-len-clause-swapped : goal.returns-then-count-len-clause-swapped
-returns-then-count-len-clause-swapped g c = λ none. (c.swap.ensures.y_after, subst (λ m. HasNoRoom m.nodes) (sym c.swap.ensures.x_after) c.with_prefix_len-off.ensures.no_room)
+returns-then-count-len-clause-swapped g c = λ none some. (c.swap.ensures.y_after, subst (λ m. HasNoRoom m.nodes) (sym c.swap.ensures.x_after) c.with_prefix_len-off.ensures.no_room)
 
 -- where none are taken
 pub returns-then-count-eq0-clause-off : goal.returns-then-count-eq0-clause-off
@@ -94,14 +99,10 @@ pub returns-then-count-eq0-clause-room : goal.returns-then-count-eq0-clause-room
 returns-then-count-eq0-clause-room g c = λ some. none-used-of c.args.self.now.nodes _
 
 pub returns-then-count-eq0-clause-nothing : goal.returns-then-count-eq0-clause-nothing
-returns-then-count-eq0-clause-nothing g c = λ none some. (refl, c.with_prefix_len.ensures.no_room)
+returns-then-count-eq0-clause-nothing g c = λ none. (refl, c.with_prefix_len.ensures.no_room)
 
 pub returns-then-count-eq0-clause-swapped : goal.returns-then-count-eq0-clause-swapped
-returns-then-count-eq0-clause-swapped g c = λ none.
-    let gone = ap length none in
-    let zero = c.if-count-eq0.true in
-    let len = c.len.ensures in
-    absurd (omega (arith, nat_tests, c.if-count-len.false, zero, len, gone))
+returns-then-count-eq0-clause-swapped g c = λ none some. absurd (some c.with_prefix_len.ensures.pairs)
 
 pub returns-clause-leaf_room : goal.returns-clause-leaf_room
 returns-clause-leaf_room g c = λ some. subst (λ n. FreesLeaves n c.args.self.now.nodes c.split_last.new.self.nodes) (sym (long-off g (goal.at.returns-clause-leaf_room g c).In_ok-off)) c.in_ok-off.ensures.leaf_room
@@ -110,13 +111,13 @@ pub returns-clause-room : goal.returns-clause-room
 returns-clause-room g c = λ some. subst (λ n. UsesRoom (4 * n) c.args.self.now.nodes c.split_last.new.self.nodes) (sym (long-off g (goal.at.returns-clause-room g c).In_ok-off)) c.in_ok-off.ensures.room
 
 pub returns-clause-nothing : goal.returns-clause-nothing
-returns-clause-nothing g c = λ none some.
+returns-clause-nothing g c = λ none.
     let long = long-off g (goal.at.returns-clause-nothing g c).In_ok-off in
     let gone = ap length none in
     absurd (omega (arith, nat_tests, c.if-count-eq0.false, long, gone))
 
 pub returns-clause-swapped : goal.returns-clause-swapped
-returns-clause-swapped g c = λ none.
+returns-clause-swapped g c = λ none some.
     let count = c.count_from-count in
     let parts = parts-long g.K.AsBytes.bytes c.as_bytes.result.now c.args.self.now.pairs count.ensures.ordered in
     let counted = count.ensures.count in

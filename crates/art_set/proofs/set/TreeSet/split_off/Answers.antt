@@ -28,10 +28,10 @@ returns-clause-room g c = rw (← c.self.view_is)
     (λ some. subst (λ n. UsesRoom (4 * n) c.self.inside.map.nodes c.split_off.new.self.nodes) (sym (length-map c.in_ok-map.map.pairs (λ p. p.0))) (c.in_ok-map.ensures.room (λ e. some (ap keys_of e))))
 
 pub returns-clause-nothing : goal.returns-clause-nothing
-returns-clause-nothing g c = rw (← c.self.view_is) (λ none some. let left = c.in_ok-map.ensures.nothing (no-pair c.in_ok-map.map.pairs none) (λ e. some (ap keys_of e)) in (ap members left.0, left.1))
+returns-clause-nothing g c = rw (← c.self.view_is) (λ none. let left = c.in_ok-map.ensures.nothing (no-pair c.in_ok-map.map.pairs none) in (ap members left.0, left.1))
 
 pub returns-clause-swapped : goal.returns-clause-swapped
-returns-clause-swapped g c = rw (← c.self.view_is) (λ none. let swapped = c.in_ok-map.ensures.swapped (no-pair c.split_off.new.self.pairs none) in (ap members swapped.0, swapped.1))
+returns-clause-swapped g c = rw (← c.self.view_is) (λ none some. let swapped = c.in_ok-map.ensures.swapped (no-pair c.split_off.new.self.pairs none) (λ e. some (ap keys_of e)) in (ap members swapped.0, swapped.1))
 
 pub returns-in_err-map-clause-free : goal.returns-in_err-map-clause-free
 returns-in_err-map-clause-free g c = rw (← c.self.view_is)
