@@ -18,6 +18,7 @@ pub mod Overwritten
 pub mod Extractions
 pub mod Asks
 pub mod Ranges
+pub mod LeafRuns
 pub mod PrefixEntries
 pub mod Audits
 pub mod Clones

@@ -1,9 +1,9 @@
 -- The walk over the pairs of a map whose keys pass a test: their leaves are a run of neighbours.
 use Rattle.std.proofs.Common.{◌≡◌, ℕ, Bool, filter, List, [], ◌∷◌, Option, Some, None, refl, sym, ap, subst}
 use Rattle.art_nodes.proofs.Common.{Name}
-use Rattle.art_arena.proofs.Common.{Arena, node_at, links_at, passing, AreLinked, Shape, leaves, pairs_of, Stores, StoresOnly, nodes-subtree}
+use Rattle.art_arena.proofs.Common.{Arena, node_at, links_at, passing, AreLinked, Shape, LeafAt, leaves, pairs_of, Stores, StoresOnly, nodes-subtree}
 use Rattle.art_operations.proofs.Common.{AreEndsWhere, HasPairs, tree_ascends, IsConvex, stretch}
-use Rattle.art_map.proofs.Terms.{contents, IsMap, pairs_from, IsRun, pairs_between, IsWalkOf}
+use Rattle.art_map.proofs.Terms.{contents, AreLeaves, IsMap, pairs_from, IsRun, pairs_between, IsWalkOf}
 use Rattle.std.specs.declared.ops.Bound.TheVariants.{Unbounded}
 use Rattle.art_walks.proofs.Common.{Ends, ends-walk, span-in}
 use Rattle.art_walks.proofs.MapReads.{no-span}
@@ -59,6 +59,17 @@ module _ {K V : Type 0} (bytes : K → List ℕ) (is_key : K → Type 0) (P : �
   walk-nowhere root keep is map =
       let span = no-span arena [] refl keep in
       subst (λ r. IsWalkOf arena None (filter keep (pairs_from arena r))) (sym is) (record { run = span.run; pairs_are = span.pairs_are })
+
+  -- by whatever leaves the map has
+  pub walk-by-leaves : (root : Option Name) → IsMap bytes is_key P arena root → (test : List ℕ → Bool) → IsConvex test → (ends : Ends) → ((ls : List (LeafAt K V)) → AreLeaves bytes P (contents arena root) ls → AreEndsWhere bytes test ls ends)
+      → IsWalkOf arena ends (filter (λ p. test (bytes p.0)) (pairs_from arena root))
+  walk-by-leaves None map test convex ends answer = here ends (answer [] (map-leaves bytes P arena None [] (refl, map.has.1)))
+    where
+      here : (e : Ends) → AreEndsWhere {K = K} {V = V} bytes test [] e → IsWalkOf arena e (filter (λ p. test (bytes p.0)) (pairs_from arena None))
+      here None is = walk-nowhere None (λ p. test (bytes p.0)) refl map
+      here (Some e) is = let none = is.0 in absurd (cc)
+  walk-by-leaves (Some top) map test convex ends answer =
+      let s = map.has.0 in walk-in top s (pairs_from arena (Some top)) map.has.1 map.has.2 test convex ends (answer (leaves s) (map-leaves bytes P arena (Some top) (leaves s) (s, map.has.1, refl)))
 
 -- where neither bound is named, all are between
 pub all-between : {K V : Type 0} (bytes : K → List ℕ) (pairs : List (K × V)) → pairs_between bytes Unbounded Unbounded pairs ≡ pairs

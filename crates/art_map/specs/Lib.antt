@@ -16,6 +16,7 @@ pub mod Walked
 pub mod Ranges
 pub mod Leaves
 pub mod LeafNames
+pub mod LeafRuns
 pub mod Entries
 pub mod Extractions
 pub mod Asked

@@ -21,6 +21,7 @@ pub use map::entry::{Entry, OccupiedEntry, VacantEntry};
 pub use map::extract_if::ExtractIf;
 pub use map::extraction::Extraction;
 pub use map::iter_mut::{IterMut, ValuesMut};
+pub use map::leaf_run::{LeafRun, RunHint};
 pub use map::prefix_entry::lone::LonePairMut;
 pub use map::prefix_entry::{
     InnerOccupiedEntry, LonePair, PrefixEntry, PrefixOccupied, PrefixOccupiedKind,

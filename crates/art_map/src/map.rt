@@ -21,6 +21,7 @@ mod into_walks;
 pub mod iter_mut;
 mod joins;
 mod leaf_names;
+pub mod leaf_run;
 mod lookups;
 pub mod prefix_entry;
 pub mod prefix_removal;

@@ -51,14 +51,21 @@ impl<K: AsBytes, V, const PREFIX_LEN: usize> TreeMap<K, V, PREFIX_LEN> {
         }
     }
 
-    // The run of the leaves whose keys begin with these bytes.
-    pub(super) fn walk_with_prefix(&self, prefix: &[u8]) -> RawIterator
+    // The ends of the run of the leaves whose keys begin with these bytes.
+    pub(super) fn ends_with_prefix(&self, prefix: &[u8]) -> Option<(LeafPtr, LeafPtr)>
         ensures { IsWalkOf self.now.nodes result (with_front (key_of K.bytes) prefix.now self.now.pairs) }
     {
         match self.root {
-            Some(root) => walk_of(find_prefix_segment(&self.arena, root, prefix)),
-            None => RawIterator::empty(),
+            Some(root) => find_prefix_segment(&self.arena, root, prefix),
+            None => None,
         }
+    }
+
+    // The run of these leaves.
+    pub(super) fn walk_with_prefix(&self, prefix: &[u8]) -> RawIterator
+        ensures { IsWalkOf self.now.nodes result (with_front (key_of K.bytes) prefix.now self.now.pairs) }
+    {
+        walk_of(self.ends_with_prefix(prefix))
     }
 
     /// Returns an iterator over the pairs whose keys are between two bounds, by their bytes. It ascends, and gives
