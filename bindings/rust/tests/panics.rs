@@ -172,14 +172,14 @@ fn a_closure() {
 
 #[test]
 fn an_iterator() {
-    for stop in [1, 2, 255, 256, 257, 700] {
+    for stop in [1, 2, 700, 4095, 4096, 4097] {
         for order in [0, 1] {
             let state: Rc<State> = Rc::default();
             let pairs = |start: u32| {
                 let state = &state;
-                (0..1000).map(move |at| {
+                (0..5000).map(move |at| {
                     assert!(at != stop, "at its end");
-                    let number = if order == 0 { start + at } else { start + at * 7919 % 1000 };
+                    let number = if order == 0 { start + at } else { start + at * 7919 % 5000 };
                     (number, Trap::new(number, state))
                 })
             };

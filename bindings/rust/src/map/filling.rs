@@ -2,6 +2,7 @@
 use crate::Key;
 use crate::error::{AllocError, TryInsertError};
 use crate::ffi::{From, Pair, Stop, To, Words};
+use crate::key::sealed::Sealed;
 use crate::map::{ArtMap, CHANGED, word_of};
 use crate::parted::Parted;
 use crate::view::index_of;
@@ -9,8 +10,9 @@ use crate::walk::Way;
 use std::iter::Map;
 use std::vec;
 
-/// How many pairs go in at once, and how many bytes of keys, at most, but for a single one.
-const PAIRS: usize = 256;
+/// How many pairs go in at once, and how many bytes of keys, at most, but for a single one. (The first few of a run are
+/// inserted, and so cost more.)
+const PAIRS: usize = 4096;
 const BYTES: usize = 1 << 15;
 
 /// Keys that ascend, with their words.
@@ -26,11 +28,13 @@ impl Run {
         Run { bytes: Vec::new(), end: 0, pairs: Vec::new() }
     }
 
+    #[inline]
     pub(super) fn is_full(&self) -> bool {
         self.pairs.len() == PAIRS || self.end >= BYTES
     }
 
     /// Copies the bytes of the next key, and makes room for its word.
+    #[inline]
     pub(super) fn tell(&mut self, key: &[u8]) -> Result<(), AllocError> {
         self.bytes.truncate(self.end);
         self.bytes.try_reserve(key.len())?;
@@ -40,11 +44,13 @@ impl Run {
     }
 
     /// Takes the key that was told on, with its word.
+    #[inline]
     pub(super) fn push(&mut self, word: u64) {
         self.pairs.push(Pair { key_len: self.bytes.len() - self.end, word });
         self.end = self.bytes.len();
     }
 
+    #[inline]
     fn last(&self) -> Option<&[u8]> {
         let len = self.pairs.last()?.key_len;
         Some(&self.bytes[self.end - len..self.end])
@@ -81,12 +87,41 @@ pub(super) struct Filling<'a, K: Key, V> {
 }
 
 /// Where a key stands.
+#[derive(Clone, Copy)]
 enum Place {
     /// After all others.
     AtEnd,
     /// After the greatest one, which begins it.
     Under,
     Elsewhere,
+}
+
+/// The first eight bytes as a number, or all of them where there are fewer.
+#[inline]
+fn eight(bytes: &[u8]) -> u64 {
+    match bytes.first_chunk() {
+        Some(eight) => u64::from_be_bytes(*eight),
+        None => bytes.iter().fold(0, |number, byte| number << 8 | u64::from(*byte)),
+    }
+}
+
+impl Place {
+    /// Where a key stands that comes to the greatest one.
+    #[inline]
+    fn after(greatest: &[u8], key: &[u8]) -> Place {
+        let len = greatest.len().min(key.len());
+        let mut at = 0;
+        while at < len {
+            // (the last eight may have some of those before them)
+            let from = at.min(len.saturating_sub(8));
+            let (one, other) = (eight(&greatest[from..len]), eight(&key[from..len]));
+            if one != other {
+                return if one < other { Place::AtEnd } else { Place::Elsewhere };
+            }
+            at += 8;
+        }
+        if len < key.len() { Place::Under } else { Place::Elsewhere }
+    }
 }
 
 impl<'a, K: Key, V> Filling<'a, K, V> {
@@ -109,22 +144,18 @@ impl<'a, K: Key, V> Filling<'a, K, V> {
         Ok(())
     }
 
+    #[inline]
     fn place(&self, key: &[u8]) -> Place {
         let greatest = match self.run.last() {
             Some(last) => last,
             None if self.map.slab.len() == 0 => return Place::AtEnd,
             None => &self.greatest,
         };
-        if key <= greatest {
-            Place::Elsewhere
-        } else if key.starts_with(greatest) {
-            Place::Under
-        } else {
-            Place::AtEnd
-        }
+        Place::after(greatest, key)
     }
 
     /// Takes a pair on, or stores it. What it would stand in the place of is dropped.
+    #[inline]
     fn push(&mut self, key: K, value: V) -> Result<(), TryInsertError<K, V>> {
         match self.wait(&key) {
             Ok(Place::AtEnd) => {
@@ -132,34 +163,35 @@ impl<'a, K: Key, V> Filling<'a, K, V> {
                 self.run.push(word_of(index));
                 Ok(())
             }
-            Ok(Place::Under) => {
-                self.flush()?;
-                Err(TryInsertError::Prefix { key, value })
-            }
-            Ok(Place::Elsewhere) => {
-                self.flush()?;
-                self.map.try_insert(key, value).map(drop)
-            }
-            Err(AllocError) => {
-                self.flush()?;
-                Err(TryInsertError::Memory { key, value })
-            }
+            place => self.store(place, key, value),
+        }
+    }
+
+    /// Stores a pair that doesn't wait.
+    #[inline(never)]
+    fn store(&mut self, place: Result<Place, AllocError>, key: K, value: V) -> Result<(), TryInsertError<K, V>> {
+        self.flush()?;
+        match place {
+            Ok(Place::Under) => Err(TryInsertError::Prefix { key, value }),
+            Ok(_) => self.map.try_insert(key, value).map(drop),
+            Err(AllocError) => Err(TryInsertError::Memory { key, value }),
         }
     }
 
     /// Has the bytes of a key wait that stands after all others, with room for its pair.
+    #[inline]
     fn wait(&mut self, key: &K) -> Result<Place, AllocError> {
         if self.run.pairs.is_empty() {
             self.know()?;
         }
-        let bytes = key.to_bytes()?;
-        let bytes = bytes.as_ref();
-        let place = self.place(bytes);
-        if let Place::AtEnd = place {
-            self.map.slab.next_index()?;
-            self.run.tell(bytes)?;
-        }
-        Ok(place)
+        key.with_bytes(Sealed, |bytes| {
+            let place = self.place(bytes);
+            if let Place::AtEnd = place {
+                self.map.slab.next_index()?;
+                self.run.tell(bytes)?;
+            }
+            Ok(place)
+        })?
     }
 
     /// Puts what waits into the tree. Tells why not all went in, and what was refused.
