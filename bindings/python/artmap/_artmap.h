@@ -124,6 +124,13 @@ static inline PyObject *kept(PyObject *it) {
     return it;
 }
 
+/* Eight bytes as a number, the most significant first. (The library is for x86-64.) */
+static inline uint64_t number_at(const uint8_t *bytes) {
+    uint64_t number;
+    memcpy(&number, bytes, 8);
+    return __builtin_bswap64(number);
+}
+
 /* _keys.c. A Key that was made is ended, whatever key_of returned. */
 Place key_slowly(Codec codec, PyObject *it, bool is_prefix, Key *key);
 PyObject *key_object(Codec codec, const uint8_t *bytes, size_t len);

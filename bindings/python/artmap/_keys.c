@@ -67,7 +67,11 @@ static Place ended_key(PyObject *it, bool is_prefix, Key *key) {
 
 /* The bytes of code points, without an end mark. Returns their end. */
 static uint8_t *text_bytes(const Py_UCS4 *chars, size_t count, uint8_t *to) {
-    for (const Py_UCS4 *at = chars; at < chars + count; at++) {
+    for (const Py_UCS4 *at = chars, *end = chars + count; at < end; at++) {
+        while (*at - 2 < 0x7E) { /* (most are one byte, as they are) */
+            *to++ = (uint8_t)*at++;
+            if (at == end) return to;
+        }
         Py_UCS4 it = *at;
         if (it < 2) *to++ = 1, *to++ = (uint8_t)(it + 1);
         else if (it < 0x80) *to++ = (uint8_t)it;
@@ -106,14 +110,15 @@ static Place text_key(PyObject *it, bool is_prefix, Key *key) {
 
 static Place number_key(PyObject *it, Key *key) {
     int beyond = 0;
-    PyObject *number = PyLong_CheckExact(it) ? kept(it) : PyNumber_Index(it);
+    bool is_number = PyLong_CheckExact(it);
+    PyObject *number = is_number ? it : PyNumber_Index(it);
     if (!number) return PyErr_ExceptionMatches(PyExc_TypeError) ? PyErr_Clear(), refused(OF_INT, it) : FAILED;
     long long value = PyLong_AsLongLongAndOverflow(number, &beyond);
-    Py_DECREF(number);
+    if (!is_number) Py_DECREF(number);
     if (beyond) return beyond > 0 ? ABOVE : BELOW;
     if (value == -1 && PyErr_Occurred()) return FAILED;
-    uint64_t bits = (uint64_t)value ^ (uint64_t)1 << 63;
-    for (int at = 7; at >= 0; at--, bits >>= 8) key->room[at] = (uint8_t)bits;
+    uint64_t bits = __builtin_bswap64((uint64_t)value ^ (uint64_t)1 << 63);
+    memcpy(key->room, &bits, 8);
     key->bytes = key->room, key->len = 8;
     return WITHIN;
 }

@@ -107,7 +107,7 @@ artmap_code store_take(Art *map, const Key *key, PyObject **value) {
 }
 
 /* Puts in pairs whose keys ascend and are above all that are stored: else ARTMAP_NOT_ABOVE, and none goes in. `taken`
- * tells how many went in. */
+ * tells how many went in. Their values were the caller's, and are the map's then. */
 artmap_code store_load(Art *map, Codec codec, const uint8_t *keys, size_t len, artmap_words_pair *pairs,
                        PyObject **values, size_t count, size_t *taken) {
     artmap_code code = ARTMAP_NO_MEMORY;
@@ -124,7 +124,8 @@ artmap_code store_load(Art *map, Codec codec, const uint8_t *keys, size_t len, a
         else {
             for (size_t at = 0; at < count; at++) pairs[at].word = store->used + at;
             code = artmap_words_load(&store->tree, keys, len, pairs, count, taken);
-            for (size_t at = 0; at < *taken; at++) store->slots[store->used++] = kept(values[at]);
+            if (*taken) memcpy(store->slots + store->used, values, *taken * sizeof *values);
+            store->used += *taken;
             map->changes += *taken > 0;
         }
     }

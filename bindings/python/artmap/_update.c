@@ -2,18 +2,20 @@
  * above all that is stored. */
 #include "_artmap.h"
 
-enum { MANY = 256, REST = 64 };
+/* So many pairs go in together, or as many as have so many bytes. (The first few of them are inserted, and so cost
+ * more.) So often they do until other threads may run. */
+enum { FIRST = 64, MANY = 4096, BYTES = 1 << 15, REST = 4 };
 
-/* Pairs that ascend, which go in together. The first `before` bytes of `keys` are the key of the last pair that went
- * in, if `has_before` is. */
+/* Pairs that ascend, which go in together: `most` have room. The first `before` bytes of `keys` are the key of the last
+ * pair that went in, if `has_before` is. */
 typedef struct Bulk {
     Art *map;
     Codec codec;
     bool must_ascend, has_before;
-    size_t count, before, len, places, flushed;
+    size_t count, most, before, len, places, flushed;
     uint8_t *keys;
-    artmap_words_pair pairs[MANY];
-    PyObject *values[MANY];
+    artmap_words_pair *pairs;
+    PyObject **values;
 } Bulk;
 
 static int raise_with(PyObject *type, PyObject *text, PyObject *key, PyObject *stored) {
@@ -117,6 +119,8 @@ static int flush(Bulk *bulk) {
     if (!count) return 0;
     artmap_code code =
         store_load(bulk->map, bulk->codec, keys, bulk->len - bulk->before, bulk->pairs, bulk->values, count, &taken);
+    /* (the map has the values of those that went in) */
+    size_t given = taken;
     if (code == ARTMAP_NOT_ABOVE && !taken) code = put_each(bulk, keys, &taken);
     for (size_t passed = 0; passed < taken; passed++) at += bulk->pairs[passed].key_len;
     int status = code == ARTMAP_DONE ? 0 : raise_of(bulk, code, at, bulk->pairs[taken].key_len);
@@ -124,7 +128,7 @@ static int flush(Bulk *bulk) {
     size_t last = bulk->pairs[count - 1].key_len;
     memmove(bulk->keys, bulk->keys + bulk->len - last, last);
     bulk->before = bulk->len = last, bulk->has_before = true;
-    for (size_t it = 0; it < count; it++) Py_DECREF(bulk->values[it]);
+    for (size_t it = given; it < count; it++) Py_DECREF(bulk->values[it]);
     if (++bulk->flushed % REST == 0) {
         Py_BEGIN_ALLOW_THREADS
         Py_END_ALLOW_THREADS
@@ -136,11 +140,28 @@ static int flush(Bulk *bulk) {
 static bool is_above(const Bulk *bulk, const Key *key) {
     size_t before = bulk->count ? bulk->pairs[bulk->count - 1].key_len : bulk->before;
     if (!bulk->count && !bulk->has_before) return true;
-    int order = memcmp(bulk->keys + bulk->len - before, key->bytes, before < key->len ? before : key->len);
+    const uint8_t *one = bulk->keys + bulk->len - before, *other = key->bytes;
+    size_t both = before < key->len ? before : key->len, at = 0;
+    for (; both - at >= 8; at += 8) {
+        uint64_t this = number_at(one + at), next = number_at(other + at);
+        if (this != next) return this < next;
+    }
+    int order = at < both ? memcmp(one + at, other + at, both - at) : 0;
     return order < 0 || (order == 0 && before < key->len);
 }
 
+/* Makes room for more pairs. */
+static bool is_larger(Bulk *bulk) {
+    size_t most = bulk->most ? 2 * bulk->most : FIRST;
+    artmap_words_pair *pairs = PyMem_Realloc(bulk->pairs, most * sizeof *pairs);
+    if (pairs) bulk->pairs = pairs;
+    PyObject **values = pairs ? PyMem_Realloc(bulk->values, most * sizeof *values) : NULL;
+    if (values) bulk->values = values, bulk->most = most;
+    return values;
+}
+
 static int keep(Bulk *bulk, const Key *key, PyObject *value) {
+    if (bulk->count == bulk->most && !is_larger(bulk)) return PyErr_NoMemory(), -1;
     size_t len = bulk->len + key->len;
     if (len >= bulk->places) {
         uint8_t *keys = PyMem_Realloc(bulk->keys, len + len / 2 + 4096);
@@ -168,7 +189,7 @@ static int add(Bulk *bulk, PyObject *it, PyObject *value) {
     Place place = key_of(bulk->codec, it, &key);
     if (place == WITHIN) {
         bool above = is_above(bulk, &key);
-        if ((above && bulk->count < MANY) || !(status = flush(bulk))) {
+        if ((above && bulk->count < MANY && bulk->len < BYTES) || !(status = flush(bulk))) {
             status = above || !bulk->must_ascend
                          ? keep(bulk, &key, value)
                          : raise_with(bulk->map->state->not_above_error,
@@ -190,22 +211,24 @@ static int bulk_end(Bulk *bulk, int status) {
         Py_XDECREF(trace);
     } else if (status) PyErr_Restore(type, why, trace);
     PyMem_Free(bulk->keys);
+    PyMem_Free(bulk->pairs);
+    PyMem_Free(bulk->values);
     return status;
 }
 
-/* A pair of a sequence, as its two parts: 0, or -1 with the exception set. */
-static int parted(PyObject *pair, size_t at, PyObject **key, PyObject **value) {
-    PyObject *parts = PyTuple_CheckExact(pair) ? kept(pair) : PySequence_Tuple(pair);
-    if (!parts) {
-        if (PyErr_ExceptionMatches(PyExc_TypeError))
+/* The two parts of a pair of a sequence, as a tuple, in the place of the pair; NULL with the exception set. */
+static PyObject *parts_of(PyObject *pair, size_t at) {
+    PyObject *parts = pair;
+    if (!PyTuple_CheckExact(pair)) {
+        parts = PySequence_Tuple(pair);
+        Py_DECREF(pair);
+        if (!parts && PyErr_ExceptionMatches(PyExc_TypeError))
             PyErr_Format(PyExc_TypeError, "element #%zu is no pair, and can't be made a sequence", at);
-        return -1;
     }
-    Py_ssize_t size = PyTuple_Size(parts);
-    if (size == 2) *key = kept(PyTuple_GetItem(parts, 0)), *value = kept(PyTuple_GetItem(parts, 1));
-    else PyErr_Format(PyExc_ValueError, "element #%zu has length %zd; 2 is required", at, size);
+    if (!parts || PyTuple_Size(parts) == 2) return parts;
+    PyErr_Format(PyExc_ValueError, "element #%zu has length %zd; 2 is required", at, PyTuple_Size(parts));
     Py_DECREF(parts);
-    return size == 2 ? 0 : -1;
+    return NULL;
 }
 
 /* Puts in the pairs of an iterable. Without `bulk` each goes in before the next is asked for. */
@@ -213,14 +236,13 @@ static int add_pairs(Art *map, PyObject *pairs, Bulk *bulk) {
     PyObject *walk = PyObject_GetIter(pairs), *pair;
     int status = walk ? 0 : -1;
     for (size_t at = 0; !status && (pair = PyIter_Next(walk)); at++) {
-        PyObject *key, *value;
         if (bulk && !bulk->must_ascend && !PyTuple_CheckExact(pair)) status = flush(bulk);
-        if (!status) status = parted(pair, at, &key, &value);
-        Py_DECREF(pair);
+        if (status) Py_DECREF(pair);
+        else if (!(pair = parts_of(pair, at))) status = -1;
         if (status) break;
+        PyObject *key = PyTuple_GetItem(pair, 0), *value = PyTuple_GetItem(pair, 1);
         status = bulk ? add(bulk, key, value) : put_object(map, key, value);
-        Py_DECREF(key);
-        Py_DECREF(value);
+        Py_DECREF(pair);
     }
     Py_XDECREF(walk);
     return status || PyErr_Occurred() ? -1 : 0;
