@@ -101,7 +101,7 @@ impl<K: Key, V> ArtMap<K, V> {
     }
 
     /// A map of these pairs, whose types of keys may have prefixes. Those that ascend go in many at once. Others are put in
-    /// order at the end, as by [`compact`](Self::compact), if there is memory.
+    /// order at the end, as by [`compact`](Self::compact), if there is memory. The tree keeps no memory that no node uses.
     ///
     /// ```
     /// let map = artmap::ArtMap::try_from_iter([(vec![2], 'b'), (vec![1], 'a')]).unwrap();
@@ -112,9 +112,12 @@ impl<K: Key, V> ArtMap<K, V> {
     ///
     /// At the first pair that is refused, as [`try_insert`](Self::try_insert) does, and it hands that one back.
     pub fn try_from_iter<I: IntoIterator<Item = (K, V)>>(pairs: I) -> Result<Self, TryInsertError<K, V>> {
-        let mut made = Self::new();
+        let (mut made, pairs) = (Self::new(), pairs.into_iter());
+        // (where there is no memory for so many at once, they may have it one by one)
+        _ = made.slab.reserve_exact(pairs.size_hint().0);
         made.try_extend(pairs)?;
         made.lay_out();
+        made.words.shrink();
         Ok(made)
     }
 

@@ -28,6 +28,13 @@ impl Run {
         Run { bytes: Vec::new(), end: 0, pairs: Vec::new() }
     }
 
+    /// Makes room for so many pairs, or for as many as go in at once. Where there is no memory for them, each may have it.
+    fn reserve(&mut self, pairs: usize) {
+        let pairs = pairs.min(PAIRS);
+        _ = self.pairs.try_reserve_exact(pairs);
+        _ = self.bytes.try_reserve_exact(8 * pairs);
+    }
+
     #[inline]
     pub(super) fn is_full(&self) -> bool {
         self.pairs.len() == PAIRS || self.end >= BYTES
@@ -233,6 +240,8 @@ impl<'a, K: Key, V> Filling<'a, K, V> {
     }
 
     pub(super) fn fill(mut self, pairs: impl IntoIterator<Item = (K, V)>) -> Result<(), TryInsertError<K, V>> {
+        let pairs = pairs.into_iter();
+        self.run.reserve(pairs.size_hint().0);
         for (key, value) in pairs {
             self.push(key, value)?;
             if self.run.is_full() {
