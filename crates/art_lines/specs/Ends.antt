@@ -1,5 +1,5 @@
 -- What the ends of a run hold: a reader as a source, a writer as a sink, and a sink that gathers before another one.
-use Rattle.std.specs.Prelude.{ℕ, Bool, List, length}
+use Rattle.std.specs.Prelude.{◌≡◌, ◌≢◌, ℕ, Bool, true, List, [], length}
 use Rattle.std.specs.List.{between}
 use Rattle.art_lines.specs.declared.from_reader.FromReader.{FromReader}
 use Rattle.art_lines.specs.declared.to_writer.ToWriter.{ToWriter}
@@ -60,6 +60,10 @@ held_back s = between s.from s.to s.room.items
 
 abbrev pub has_stopped : {S : Type 0} {of : sink.Ghosts S} → Buffered S of → Bool
 has_stopped s = s.failed
+
+-- where the inner sink has failed, what it failed to take is held back
+abbrev pub HoldsWhatFailed : {S : Type 0} {of : sink.Ghosts S} → Buffered S of → Type 0
+HoldsWhatFailed {S} {of} s = of.has_failed (inner_sink s) ≡ true → held_back s ≢ []
 
 -- the tenant whose lines a head begins
 abbrev pub tenant_of_head : Head → ℕ

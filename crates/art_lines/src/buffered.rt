@@ -1,5 +1,6 @@
 //! A sink that gathers what it takes, so that it leaves in large writes.
-ghost use Rattle.std.specs.Prelude.{◌≡◌, ◌<◌, ◌≤◌, ◌++◌, ◌⊎◌, [], length, take, false, true, IfOk};
+ghost use Rattle.std.specs.Prelude.{◌≡◌, ◌<◌, ◌≤◌, ◌++◌, ◌⊎◌, [], length, take, false, true, is_err};
+ghost use Rattle.std.specs.Prelude.{IfOk, IsErr, IsTrue, OnErr};
 ghost use Rattle.std.specs.List.{between};
 
 use crate::room::put_text;
@@ -45,7 +46,7 @@ pub struct Buffered<S: Sink> {
 }
 
 impl<S: Sink> Buffered<S> {
-    ghost use Rattle.art_lines.specs.Ends.{held_back, inner_sink};
+    ghost use Rattle.art_lines.specs.Ends.{held_back, inner_sink, HoldsWhatFailed};
 
     /// Makes a sink in front of this one, which holds nothing. The room must not be empty.
     ///
@@ -78,6 +79,7 @@ impl<S: Sink> Buffered<S> {
             ≡ S.taken self.old.sink ++ between self.old.from self.old.to self.old.room.items }
         ensures out { S.has_failed self.new.sink ≡ false → self.new.to ≡ 0 }
         ensures kept { self.new.failed ≡ self.old.failed }
+        ensures holds { HoldsWhatFailed self.old → HoldsWhatFailed self.new }
     {
         let part = &self.room.as_slice()[self.from..self.to];
         self.from += write_to(&mut self.sink, part);
@@ -103,6 +105,7 @@ impl<S: Sink> Buffered<S> {
         ensures exact { S.has_failed (inner_sink self.new) ≡ false → result ≡ true }
         ensures stopped { ⟦<Buffered<S> as Sink>⟧.has_failed self.old ≡ true → result ≡ false }
         ensures sent { S.has_failed (inner_sink self.new) ≡ false → held_back self.new ≡ [] }
+        ensures holds { HoldsWhatFailed self.old → HoldsWhatFailed self.new }
     {
         self.write_out();
         !self.sink.failed()
@@ -124,7 +127,7 @@ impl<S: Sink> Buffered<S> {
 }
 
 impl<S: Sink> Sink for Buffered<S> {
-    ghost use Rattle.art_lines.specs.Ends.{inner_sink, held_back, has_stopped};
+    ghost use Rattle.art_lines.specs.Ends.{inner_sink, held_back, has_stopped, HoldsWhatFailed};
 
     ghost taken = { λ s. S.taken (inner_sink s) ++ held_back s };
 
@@ -132,7 +135,17 @@ impl<S: Sink> Sink for Buffered<S> {
 
     ghost is_out = { λ s. (S.has_failed (inner_sink s) ≡ false → held_back s ≡ []) × S.is_out (inner_sink s) };
 
-    fn write(&mut self, piece: &[u8]) -> Result<usize, WriteFailed> {
+    fn write(&mut self, piece: &[u8]) -> Result<usize, WriteFailed>
+        ensures bound { IfOk result (λ n. n ≤ length piece.now) }
+        ensures some { IfOk result (λ n. 0 < length piece.now → 0 < n) }
+        ensures takes { IfOk result (λ n. S.taken (inner_sink self.new) ++ held_back self.new
+            ≡ (S.taken (inner_sink self.old) ++ held_back self.old) ++ take n piece.now) }
+        ensures takes_none { OnErr result (S.taken (inner_sink self.new) ++ held_back self.new
+            ≡ S.taken (inner_sink self.old) ++ held_back self.old) }
+        ensures failed { is_err result ≡ has_stopped self.new }
+        ensures stays_failed { IsTrue (has_stopped self.old) → IsErr result }
+        ensures holds { HoldsWhatFailed self.old → HoldsWhatFailed self.new }
+    {
         if self.to == self.room.len() {
             self.write_out();
         }
@@ -152,6 +165,7 @@ impl<S: Sink> Sink for Buffered<S> {
         ensures sent { S.has_failed (inner_sink self.new) ≡ false → held_back self.new ≡ [] }
         ensures out { (S.has_failed (inner_sink self.new) ≡ false → held_back self.new ≡ [])
             × S.is_out (inner_sink self.new) }
+        ensures holds { HoldsWhatFailed self.old → HoldsWhatFailed self.new }
     {
         self.write_out();
         self.sink.send();
@@ -168,6 +182,8 @@ fn write_to<S: Sink>(sink: &mut S, bytes: &[u8]) -> usize
     ensures output { S.taken sink.new ≡ S.taken sink.old ++ take result bytes.now }
     ensures all { S.has_failed sink.new ≡ false → result ≡ length bytes.now }
     ensures stays { S.has_failed sink.old ≡ true → S.has_failed sink.new ≡ true }
+    ensures none { S.has_failed sink.old ≡ true → result ≡ 0 }
+    ensures fewer { S.has_failed sink.old ≡ false → S.has_failed sink.new ≡ true → result < length bytes.now }
 {
     let mut at = 0;
     while at < bytes.len() {
