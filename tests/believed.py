@@ -17,15 +17,16 @@ A claim of README.md rests on the clauses that it names, on what their calls req
 in their heads, and on all definitions that these reach. They are told in reading order, each after those that it names,
 down to the words of the kit. What all claims rest on together, with what the program adds (PROGRAM_ADDS: its ends and
 main.rt), is one number. It has to stand in README.md and in docs/PROOFS.md as 'N lines to believe'. The files that can
-touch a map are told after it; tests/holders.py checks that no other does.
+touch a map of an index are told after it: those of the module RECORDS, by its privacy. `Index` lends its maps to others,
+and is looked at here: no other file of the engine or the program names the calls that LEND them.
 Budgets stand in docs/PROOFS.md, under the heading 'Budget of lines to believe', in a table | row | lines | .. |.
 """
 import os
 import re
 import sys
+from glob import glob
 
 import cases
-import holders
 from contracts import CRATES, SPECS, Source, closure, counted, read_specs, words_in
 
 PROGRAM, HEADLINE = "art_index", "run"
@@ -34,6 +35,9 @@ ENGINE, LANGUAGE = "art_engine", "art_lines"
 TIED = {(LANGUAGE, "Reading", "command_of"): (LANGUAGE, "Commands", "Spells")}
 PAGE, HEADING = "docs/PROOFS.md", "Budget of lines to believe"
 README = "README.md"
+# The module whose files alone can touch a map of an index, and the calls by which an index lends one.
+RECORDS, INDEX = "crates/art_engine/src/records", "crates/art_engine/src/index.rt"
+LEND = re.compile(r"\b(?:byte_map|number_map)\b")
 # What stands between `run` and the program's ends: the calls of its crates, beside those that claims name.
 PROGRAM_ADDS = {"run_buffered", "flushed", "report", "Buffered", "FromReader", "ToWriter", "Source", "Sink"}
 
@@ -142,8 +146,20 @@ def in_order(reached):
     return order, kit
 
 
+def record_files():
+    """The files that can touch a map of an index."""
+    return [f"{RECORDS}.rt", *sorted(glob(f"{RECORDS}/**/*.rt", recursive=True))]
+
+
+def lent_aside():
+    """Which other files name a call that lends a map of an index, comments aside."""
+    may = {INDEX, *record_files()}
+    found = [it for name in (ENGINE, PROGRAM) for it in glob(f"crates/{name}/src/**/*.rt", recursive=True)]
+    return [it for it in sorted(found) if it not in may and LEND.search(re.sub(r"//[^\n]*", "", cases.read(it)))]
+
+
 def tell_claims(listing):
-    """Prints what each claim rests on. Returns the lines of all of them together, with the program and its holders."""
+    """Prints what each claim rests on. Returns the lines of all of them together, with the program."""
     sources, union, clauses = [Source(it) for it in CRATES], set(), []
     rows = [*claims(), ("The program adds", None)]
     print("\n| Claim | Lines to believe | Definitions | Clauses | Words of the kit |\n|---|---:|---:|---:|---:|")
@@ -168,8 +184,9 @@ def tell_claims(listing):
     size = sum(counted(SPECS[it[:2]].lines[it[2]])[0] for it in union) + sum(counted(it[2])[0] for it in clauses)
     size += lines_of(f"crates/{PROGRAM}/src/main.rt")
     print(f"\nAll claims and the program, main.rt among it: {size} lines.")
-    print("That all reads are counted rests also on these files, which alone can touch a map:")
-    for path in holders.files():
+    files = record_files()
+    print(f"That all reads are counted rests also on these {sum(map(lines_of, files))} lines, which alone can touch a map:")
+    for path in files:
         print(f"    {lines_of(path):3} lines: {path}")
     return size
 
@@ -202,9 +219,9 @@ def main():
         is_told = f"{number:,} lines to believe" in cases.read(page)
         passed += is_told
         faults += [] if is_told else [f"{page}: it doesn't say '{number:,} lines to believe'"]
-    kept, broken = holders.check()
-    passed += kept
-    faults += broken
+    aside = lent_aside()
+    passed += not aside
+    faults += [f"{path}: it names what lends a map of an index" for path in aside]
     faults += [f"{name}: {PAGE} has a budget for it, and it is no row here" for name in sorted({*(limits or ())} - seen)]
     told = cases.Tally()
     told.passed = passed if limits is not None else 1

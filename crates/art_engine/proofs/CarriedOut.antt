@@ -13,7 +13,7 @@ use Rattle.art_lines.specs.declared.command.word.Whole.TheVariants as whole
 use Rattle.art_lines.specs.Reading.{command_of}
 use Rattle.art_engine.specs.declared.change.Changed.{Changed}
 use Rattle.art_engine.specs.declared.drop_tenant.Dropped.{Dropped}
-use Rattle.art_engine.specs.declared.survey.Survey.{Survey}
+use Rattle.art_engine.specs.declared.records.survey.Survey.{Survey}
 use Rattle.art_engine.specs.Survey.{IsSurvey, survey_words, survey_is_memory}
 use Rattle.art_engine.specs.Dropped.{IsDropDone, dropped_words, drop_is_memory, drop_visits}
 use Rattle.art_engine.proofs.Terms.{AreRecords, IsLineAnswered, IsChangeDone, IsAnswerCut, IsShort, IsWithin, LineMayRefuse, MayRefuse, ReadsOwnPath, Records, State, changed_words, command_reply, exactly, change_is_memory, line_visits, visits_of}

@@ -10,8 +10,8 @@ use Rattle.art_engine.specs.Dropped.{IsDropDone, dropped_words, drop_is_memory, 
 use Rattle.art_engine.specs.Survey.{IsSurvey, survey_words, survey_is_memory}
 use Rattle.art_engine.specs.declared.drop_tenant.Dropped.{Dropped}
 use Rattle.art_engine.specs.declared.drop_tenant.Dropped.TheVariants as dropped
-use Rattle.art_engine.specs.declared.survey.Survey.{Survey}
-use Rattle.art_engine.specs.declared.survey.Survey.TheVariants as survey
+use Rattle.art_engine.specs.declared.records.survey.Survey.{Survey}
+use Rattle.art_engine.specs.declared.records.survey.Survey.TheVariants as survey
 use Rattle.art_engine.specs.declared.change.Changed.{Changed}
 use Rattle.art_engine.specs.declared.change.Changed.TheVariants as changed
 

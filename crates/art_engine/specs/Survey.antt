@@ -1,7 +1,7 @@
 -- What is told of all records, once it is asked for.
 use Rattle.std.specs.Prelude.{◌≡◌, Bool, true, false, List, [], ◌∷◌, codes, Some}
-use Rattle.art_engine.specs.declared.survey.Survey.{Survey}
-use Rattle.art_engine.specs.declared.survey.Survey.TheVariants as survey
+use Rattle.art_engine.specs.declared.records.survey.Survey.{Survey}
+use Rattle.art_engine.specs.declared.records.survey.Survey.TheVariants as survey
 use Rattle.art_lines.specs.Words.{Word, name}
 use Rattle.art_lines.specs.Commands.{Command}
 use Rattle.art_engine.specs.Records.{Records}

@@ -6,7 +6,7 @@ ghost use Rattle.art_engine.specs.Replies.{count_words};
 ghost use Rattle.art_lines.specs.Writes.{Writes};
 ghost use Rattle.art_lines.specs.Gathered.{Puts};
 ghost use Rattle.art_engine.specs.Survey.{survey_words};
-ghost use Rattle.art_engine.specs.declared.survey.Survey.TheVariants.{Counts};
+ghost use Rattle.art_engine.specs.declared.records.survey.Survey.TheVariants.{Counts};
 
 use art_lines::reply::write_piece;
 use art_lines::room::{put_number, put_text};

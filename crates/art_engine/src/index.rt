@@ -1,5 +1,4 @@
-//! An index. It alone holds the two maps: what it lends are readers that count, what it makes are changes. So it can be
-//! read whole what touches a map.
+//! An index: the records, and for proofs alone what its lines have read.
 ghost use Rattle.std.specs.Prelude.{◌≡◌, ◌⊎◌, ◌+◌, ◌≤◌, ◌∷◌, [], ◌++◌, List, ℕ, map, OnOk, IfErr, Some, false};
 ghost use Rattle.std.specs.Prelude.{flat_map};
 ghost use Rattle.art_lines.specs.Commands.{Spells};
@@ -19,12 +18,12 @@ ghost use Rattle.art_engine.specs.Stored.{all_records_of, ArePairs, AreNumberPai
 ghost use Rattle.art_engine.specs.Survey.{IsSurvey, survey_words};
 ghost use Rattle.art_engine.specs.ReadAhead.{to_come, read_of, texts_of};
 
-use crate::change::{Changed, change};
-use crate::drop_tenant::{Dropped, drop_tenant};
+use crate::change::Changed;
+use crate::drop_tenant::Dropped;
 use crate::handling::RunFault;
-use crate::read_ahead::{MIN_RECORDS, PathReader, ReadAhead};
-use crate::readers::Readers;
-use crate::survey::{Survey, take_survey, write_survey};
+use crate::read_ahead::ReadAhead;
+use crate::records::Records;
+use crate::records::survey::Survey;
 use art_bytes::{Count, History};
 use art_lines::command::fields::{Fields, NUMBER_KEY};
 use art_lines::command::word::{Change, LookUp, Whole};
@@ -45,9 +44,7 @@ use std::marker::Model;
 /// ```
 #[derive(Drop)]
 pub struct Index<const PREFIX_LEN: usize> {
-    alloc: Global,
-    keys: TreeMap<Vec<u8>, Vec<u8>, PREFIX_LEN>,
-    numbers: TreeMap<[u8; NUMBER_KEY], Vec<u8>, PREFIX_LEN>,
+    records: Records<PREFIX_LEN>,
     reads: History,
     ahead: History,
     prefetched: History,
@@ -58,16 +55,12 @@ impl<const PREFIX_LEN: usize> Model for Index<PREFIX_LEN> {
 
     ghost Value = { State };
 
-    ghost use Rattle.art_engine.specs.Stored.{all_records_of, ArePairs, AreNumberPairs};
-
     ghost view = { λ s. record {
-      records = all_records_of s.keys.pairs s.numbers.pairs;
+      records = s.records;
       reads = s.reads.items;
       ahead = s.ahead.items;
       prefetched = s.prefetched.items;
     } };
-
-    ghost invariant = { λ s. ArePairs s.keys.pairs × AreNumberPairs s.numbers.pairs };
 }
 
 impl<const PREFIX_LEN: usize> Index<PREFIX_LEN> {
@@ -83,9 +76,7 @@ impl<const PREFIX_LEN: usize> Index<PREFIX_LEN> {
         ensures { result ≡ unread no_records }
     {
         Index {
-            alloc,
-            keys: TreeMap::with_prefix_len(alloc),
-            numbers: TreeMap::with_prefix_len(alloc),
+            records: Records::new(alloc),
             reads: History::new(),
             ahead: History::new(),
             prefetched: History::new(),
@@ -113,9 +104,7 @@ impl<const PREFIX_LEN: usize> Index<PREFIX_LEN> {
         ensures { result ≡ unread (all_records_of byte_map.entry.pairs number_map.entry.pairs) }
     {
         Index {
-            alloc,
-            keys: byte_map,
-            numbers: number_map,
+            records: Records::from_maps(alloc, byte_map, number_map),
             reads: History::new(),
             ahead: History::new(),
             prefetched: History::new(),
@@ -124,7 +113,7 @@ impl<const PREFIX_LEN: usize> Index<PREFIX_LEN> {
 
     /// The allocator that it uses.
     pub(crate) fn alloc(&self) -> Global {
-        self.alloc
+        self.records.alloc()
     }
 
     /// A law, which does nothing: what an index holds are records in order, without conflicts, each of bytes and no
@@ -132,7 +121,7 @@ impl<const PREFIX_LEN: usize> Index<PREFIX_LEN> {
     pub fn holds_records(&self)
         ensures { AreRecords self.now.records }
     {
-        let _records = &self.keys;
+        self.records.are_records();
     }
 
     /// Returns the records under keys, each value under its full key: four bytes of the tenant, the highest first, and
@@ -147,7 +136,7 @@ impl<const PREFIX_LEN: usize> Index<PREFIX_LEN> {
     pub fn byte_map(&self) -> &TreeMap<Vec<u8>, Vec<u8>, PREFIX_LEN>
         ensures { map (λ p. (p.0.items, p.1.items)) result.now.pairs ≡ map full_pair self.now.records.keys }
     {
-        &self.keys
+        self.records.byte_map()
     }
 
     /// Returns the records under numbers, each value under twelve bytes: four of the tenant, the highest first, and
@@ -162,7 +151,7 @@ impl<const PREFIX_LEN: usize> Index<PREFIX_LEN> {
     pub fn number_map(&self) -> &TreeMap<[u8; NUMBER_KEY], Vec<u8>, PREFIX_LEN>
         ensures { map (λ p. (p.0, p.1.items)) result.now.pairs ≡ map number_pair self.now.records.numbers }
     {
-        &self.numbers
+        self.records.number_map()
     }
 
     /// Executes a look-up through a reader of each map. Also returns how many nodes both have read, whatever became of
@@ -186,8 +175,7 @@ impl<const PREFIX_LEN: usize> Index<PREFIX_LEN> {
             × (self.new.prefetched ≡ self.old.prefetched) }
         ensures are { AreRecords self.old.records }
     {
-        let readers = Readers::new(&self.keys, &self.numbers);
-        let executed = readers.execute(word, fields, sink);
+        let executed = self.records.look_up(word, fields, sink);
         self.count(executed.1);
         executed
     }
@@ -225,7 +213,7 @@ impl<const PREFIX_LEN: usize> Index<PREFIX_LEN> {
         ensures kept { (self.new.records ≡ self.old.records) × (self.new.reads ≡ self.old.reads)
             × (self.new.ahead ≡ self.old.ahead) }
     {
-        if read_ahead.should_read(self.keys.len().max(self.numbers.len())) {
+        if read_ahead.should_read(self.records.larger_len()) {
             self.prefetch_now(read_ahead, text);
         }
     }
@@ -238,13 +226,9 @@ impl<const PREFIX_LEN: usize> Index<PREFIX_LEN> {
         ensures kept { (self.new.records ≡ self.old.records) × (self.new.reads ≡ self.old.reads)
             × (self.new.ahead ≡ self.old.ahead) }
     {
-        let mut keys = PathReader::new(&self.keys);
-        let mut numbers = PathReader::new(&self.numbers);
-        read_ahead.read_maps(&mut keys, &mut numbers, MIN_RECORDS, text);
-        let of_keys = Count { number: keys.end() };
-        let of_numbers = Count {
-            number: numbers.end(),
-        };
+        let (keys, numbers) = self.records.prefetch(read_ahead, text);
+        let of_keys = Count { number: keys };
+        let of_numbers = Count { number: numbers };
         self.prefetched = self.prefetched.then_count(&of_keys).then_count(&of_numbers);
     }
 
@@ -255,7 +239,7 @@ impl<const PREFIX_LEN: usize> Index<PREFIX_LEN> {
         ensures kept { (self.new.reads ≡ self.old.reads) × (self.new.ahead ≡ self.old.ahead)
             × (self.new.prefetched ≡ self.old.prefetched) }
     {
-        change(self.alloc, &mut self.keys, &mut self.numbers, word, fields)
+        self.records.change(word, fields)
     }
 
     /// Removes all records of the tenant that was read. If it is out of memory, nothing is changed.
@@ -264,14 +248,14 @@ impl<const PREFIX_LEN: usize> Index<PREFIX_LEN> {
         ensures kept { (self.new.reads ≡ self.old.reads) × (self.new.ahead ≡ self.old.ahead)
             × (self.new.prefetched ≡ self.old.prefetched) }
     {
-        drop_tenant(&mut self.keys, &mut self.numbers, fields)
+        self.records.drop_tenant(fields)
     }
 
     /// Surveys all records.
     pub(crate) fn survey(&self, word: Whole) -> Survey
         ensures { IsSurvey result (asks_all word) self.now.records }
     {
-        take_survey(&self.keys, &self.numbers, word)
+        self.records.survey(word)
     }
 
     /// Writes a survey of all records.
@@ -284,6 +268,6 @@ impl<const PREFIX_LEN: usize> Index<PREFIX_LEN> {
         ensures { Writes result (W.taken sink.old) (W.taken sink.new)
             (flat_map line_of (survey_words found self.now.records)) (W.has_failed sink.new) }
     {
-        write_survey(&self.keys, &self.numbers, found, sink)
+        self.records.write_survey(found, sink)
     }
 }

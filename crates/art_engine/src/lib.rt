@@ -10,19 +10,17 @@
 mod audit;
 mod change;
 mod drop_tenant;
-mod dump;
+mod full_key;
 mod handling;
 mod index;
 pub mod laws;
 mod listing;
 mod lookup;
-mod maps;
 mod pair_batch;
 mod piece;
 pub mod read_ahead;
-mod readers;
+mod records;
 mod running;
-mod survey;
 
 pub use art_lines::{
     Command, FromReader, ReadFailed, Sink, Source, ToWriter, WriteFailed, parse_line,
@@ -30,5 +28,5 @@ pub use art_lines::{
 pub use handling::{Handled, RunFault};
 pub use index::Index;
 pub use lookup::{look, look_up};
-pub use maps::are_records;
+pub use records::are_records;
 pub use running::{flushed, run};

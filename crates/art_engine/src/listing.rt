@@ -20,7 +20,7 @@ ghost use Rattle.art_engine.specs.Stored.{Pair, NumberPair, records_of, number_r
 ghost use Rattle.art_engine.specs.Spans.{span_pairs, own_pair, IsListed, ReadsRecords};
 ghost use Rattle.art_engine.specs.Spans.{own_number, IsNumbered, ReadsNumbers};
 
-use crate::change::numbers::split_number_key;
+use crate::full_key::split_number_key;
 use crate::pair_batch::PairBatch;
 use art_bytes::{AsBytes, SliceKey};
 use art_lines::command::fields::{Fields, NUMBER_KEY};

@@ -20,9 +20,9 @@ ghost use Rattle.art_engine.specs.ReadAhead.{ahead_now, fields_now, line_now, to
 ghost use Rattle.art_engine.specs.ReadAhead.{IsAtStart, IsDescended, IsOnOwnWay};
 
 mod line;
-mod names;
-mod path_reader;
+pub(crate) mod names;
 
+pub use crate::records::PathReader;
 use art_bytes::AsBytes;
 use art_lines::command::fields::{Fields, NUMBER_KEY};
 use art_lines::command::read_line;
@@ -30,7 +30,6 @@ use art_lines::command::word::Word;
 use art_nodes::{LeafNode, OpaqueNodePtr};
 use line::{KEY, Line, SHORT};
 use memchr::memchr;
-pub use path_reader::PathReader;
 use std::alloc::Global;
 
 /// How many lines are read ahead together, at most.

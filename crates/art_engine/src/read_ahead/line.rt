@@ -12,8 +12,7 @@ ghost use Rattle.art_nodes.specs.Name.{Name};
 ghost use Rattle.art_engine.specs.Ahead.{path_ahead, most_ahead, is_in_numbers, passing_ahead, IsWayAhead, IsStepAhead};
 
 use crate::read_ahead::names::Names;
-use crate::read_ahead::path_reader::PathReader;
-use crate::read_ahead::{ParsedLine, Roots};
+use crate::read_ahead::{ParsedLine, PathReader, Roots};
 use arrayvec::ArrayVec;
 use art_arena::{InnerRef, NextStep, Passing};
 use art_lines::command::fields::Fields;

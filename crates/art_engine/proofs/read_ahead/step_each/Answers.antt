@@ -3,7 +3,7 @@ use Rattle.std.specs.List.{AllZip}
 use Rattle.std.proofs.lemmas.List.Sums.{sum_by-set}
 use Rattle.art_arena.proofs.Common.{count_of}
 use Rattle.art_engine.specs.declared.read_ahead.line.Line.{Line}
-use Rattle.art_engine.specs.declared.read_ahead.path_reader.PathReader.{PathReader}
+use Rattle.art_engine.specs.declared.records.path_reader.PathReader.{PathReader}
 use Rattle.art_engine.proofs.Terms.{read_of, texts_of}
 use Rattle.art_engine.specs.ReadAhead.{IsDescended}
 use Rattle.art_engine.proofs.LinesAhead.{texts_kept}

@@ -1,7 +1,0 @@
-use Rattle.std.proofs.Common.{map, ap, ◌∙◌}
-use Rattle.art_engine.proofs.Terms.{full_pair, State}
-use Rattle.art_engine.proofs.Placing.{pairs_are}
-use Rattle.art_engine.proofs.index.Index.byte_map.Goals as goal
-
-pub returns : goal.returns
-returns g c = pairs_are c.self.inside.keys.pairs c.self.invariant.0.stand.full ∙ ap (λ (s : State). map full_pair s.records.keys) c.self.view_is

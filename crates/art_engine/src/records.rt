@@ -1,0 +1,194 @@
+//! The records of all tenants: both maps, and all that touches them. No file outside this module can name a map of an
+//! index, or a function that takes one. So what is told of reads is believed of this module's files, and of no other.
+ghost use Rattle.std.specs.Prelude.{◌≡◌, ◌+◌, ◌≤◌, List, ℕ, length, map, max, flat_map, OnOk, IfErr, Some, false};
+ghost use Rattle.art_lines.specs.Commands.{Spells};
+ghost use Rattle.art_lines.specs.Parsed.{asks_all, changes, looks_up, tenant_in_place};
+ghost use Rattle.art_lines.specs.Words.{line_of};
+ghost use Rattle.art_lines.specs.Writes.{Writes};
+ghost use Rattle.art_engine.specs.Ahead.{AreNext};
+ghost use Rattle.art_engine.specs.Changed.{IsChangeDone};
+ghost use Rattle.art_engine.specs.Counts.{IsWithin, visits_of};
+ghost use Rattle.art_engine.specs.Dropped.{IsDropDone};
+ghost use Rattle.art_engine.specs.Keys.{full_pair, number_pair};
+ghost use Rattle.art_engine.specs.OwnAhead.{AreReadAhead};
+ghost use Rattle.art_engine.specs.ReadAhead.{to_come, read_of, texts_of};
+ghost use Rattle.art_engine.specs.Records.{AreRecords, no_records};
+ghost use Rattle.art_engine.specs.Replies.{command_reply};
+ghost use Rattle.art_engine.specs.Stored.{all_records_of, ArePairs, AreNumberPairs};
+ghost use Rattle.art_engine.specs.Survey.{IsSurvey, survey_words};
+
+mod change;
+mod drop_tenant;
+mod dump;
+mod maps;
+mod path_reader;
+mod readers;
+pub(crate) mod survey;
+
+use crate::change::Changed;
+use crate::drop_tenant::Dropped;
+use crate::handling::RunFault;
+use crate::read_ahead::{MIN_RECORDS, ReadAhead};
+use art_lines::command::fields::{Fields, NUMBER_KEY};
+use art_lines::command::word::{Change, LookUp, Whole};
+use art_lines::{Sink, WriteFailed};
+use art_map::TreeMap;
+pub use maps::are_records;
+pub use path_reader::PathReader;
+use readers::Readers;
+use std::alloc::Global;
+use std::marker::Model;
+use survey::{Survey, take_survey, write_survey};
+
+/// The records of all tenants: those under keys in one map, and those under numbers in the other.
+#[derive(Drop)]
+pub(crate) struct Records<const PREFIX_LEN: usize> {
+    alloc: Global,
+    keys: TreeMap<Vec<u8>, Vec<u8>, PREFIX_LEN>,
+    numbers: TreeMap<[u8; NUMBER_KEY], Vec<u8>, PREFIX_LEN>,
+}
+
+impl<const PREFIX_LEN: usize> Model for Records<PREFIX_LEN> {
+    ghost use Rattle.art_engine.specs.Records.{Records};
+
+    ghost Value = { Records };
+
+    ghost use Rattle.art_engine.specs.Stored.{all_records_of, ArePairs, AreNumberPairs};
+
+    ghost view = { λ s. all_records_of s.keys.pairs s.numbers.pairs };
+
+    ghost invariant = { λ s. ArePairs s.keys.pairs × AreNumberPairs s.numbers.pairs };
+}
+
+impl<const PREFIX_LEN: usize> Records<PREFIX_LEN> {
+    /// No records.
+    pub(crate) fn new(alloc: Global) -> Self
+        ensures { result ≡ no_records }
+    {
+        Records {
+            alloc,
+            keys: TreeMap::with_prefix_len(alloc),
+            numbers: TreeMap::with_prefix_len(alloc),
+        }
+    }
+
+    /// Those that two maps stand for.
+    pub(crate) fn from_maps(
+        alloc: Global,
+        byte_map: TreeMap<Vec<u8>, Vec<u8>, PREFIX_LEN>,
+        number_map: TreeMap<[u8; NUMBER_KEY], Vec<u8>, PREFIX_LEN>,
+    ) -> Self
+        requires keys { ArePairs byte_map.pairs }
+        requires numbers { AreNumberPairs number_map.pairs }
+        ensures { result ≡ all_records_of byte_map.entry.pairs number_map.entry.pairs }
+    {
+        Records {
+            alloc,
+            keys: byte_map,
+            numbers: number_map,
+        }
+    }
+
+    /// The allocator that is used for them.
+    pub(crate) fn alloc(&self) -> Global {
+        self.alloc
+    }
+
+    /// A law, which does nothing: they are records in order, without conflicts, each of bytes and no longer than a
+    /// line.
+    pub(crate) fn are_records(&self)
+        ensures { AreRecords self.now }
+    {
+        let _records = &self.keys;
+    }
+
+    /// The map of those under keys, for callers of an index.
+    pub(crate) fn byte_map(&self) -> &TreeMap<Vec<u8>, Vec<u8>, PREFIX_LEN>
+        ensures { map (λ p. (p.0.items, p.1.items)) result.now.pairs ≡ map full_pair self.now.keys }
+    {
+        &self.keys
+    }
+
+    /// The map of those under numbers, for callers of an index.
+    pub(crate) fn number_map(&self) -> &TreeMap<[u8; NUMBER_KEY], Vec<u8>, PREFIX_LEN>
+        ensures { map (λ p. (p.0, p.1.items)) result.now.pairs ≡ map number_pair self.now.numbers }
+    {
+        &self.numbers
+    }
+
+    /// How many records the larger of both maps has.
+    pub(crate) fn larger_len(&self) -> usize
+        ensures { result ≡ max (length self.now.keys) (length self.now.numbers) }
+    {
+        self.keys.len().max(self.numbers.len())
+    }
+
+    /// Executes a look-up through a reader of each map. Also returns how many nodes both have read, whatever became of
+    /// the reply.
+    pub(crate) fn look_up<W: Sink>(
+        &self,
+        word: LookUp,
+        fields: &Fields,
+        sink: &mut W,
+    ) -> (Result<(), RunFault>, u64)
+        requires open { W.has_failed sink.old ≡ false }
+        ensures output { Writes result.0 (W.taken sink.old) (W.taken sink.new)
+            (flat_map line_of (command_reply (Some (looks_up word fields.now)) self.now))
+            (W.has_failed sink.new) }
+        ensures err { IfErr result.0 (λ fault. fault ≡ RunFault.Write) }
+        ensures visits { OnOk result.0 (IsWithin (visits_of (Some (looks_up word fields.now)) self.now) result.1) }
+        ensures few { result.1 ≤ (visits_of (Some (looks_up word fields.now)) self.now).most }
+        ensures are { AreRecords self.now }
+    {
+        let readers = Readers::new(&self.keys, &self.numbers);
+        readers.execute(word, fields, sink)
+    }
+
+    /// Prefetches for the next lines of a text through a reader of each map, and returns how many nodes each has read.
+    /// What was read ahead of each line are the first nodes of the path of its own full key.
+    pub(crate) fn prefetch(&self, read_ahead: &mut ReadAhead, text: &[u8]) -> (u64, u64)
+        ensures comes { AreNext (texts_of (to_come read_ahead.new)) text.now }
+        ensures counted { result.0 + result.1 ≡ read_of (to_come read_ahead.new) }
+        ensures ahead { AreReadAhead PREFIX_LEN self.now (to_come read_ahead.new) }
+    {
+        let mut keys = PathReader::new(&self.keys);
+        let mut numbers = PathReader::new(&self.numbers);
+        read_ahead.read_maps(&mut keys, &mut numbers, MIN_RECORDS, text);
+        (keys.end(), numbers.end())
+    }
+
+    /// Makes a change, and returns how it went. If it was out of memory, nothing is changed.
+    pub(crate) fn change(&mut self, word: Change, fields: &Fields) -> Changed
+        requires spelled { (line : List ℕ) × Spells line (changes word fields.now) }
+        ensures { IsChangeDone result (changes word fields.now) self.old self.new }
+    {
+        change::change(self.alloc, &mut self.keys, &mut self.numbers, word, fields)
+    }
+
+    /// Removes all records of the tenant that was read. If it is out of memory, nothing is changed.
+    pub(crate) fn drop_tenant(&mut self, fields: &Fields) -> Dropped
+        ensures { IsDropDone result (tenant_in_place fields.now) self.old self.new }
+    {
+        drop_tenant::drop_tenant(&mut self.keys, &mut self.numbers, fields)
+    }
+
+    /// Surveys all records.
+    pub(crate) fn survey(&self, word: Whole) -> Survey
+        ensures { IsSurvey result (asks_all word) self.now }
+    {
+        take_survey(&self.keys, &self.numbers, word)
+    }
+
+    /// Writes a survey of all records.
+    pub(crate) fn write_survey<W: Sink>(
+        &self,
+        found: Survey,
+        sink: &mut W,
+    ) -> Result<(), WriteFailed>
+        requires { W.has_failed sink.old ≡ false }
+        ensures { Writes result (W.taken sink.old) (W.taken sink.new)
+            (flat_map line_of (survey_words found self.now)) (W.has_failed sink.new) }
+    {
+        write_survey(&self.keys, &self.numbers, found, sink)
+    }
+}
