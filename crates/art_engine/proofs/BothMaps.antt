@@ -6,7 +6,7 @@ use Rattle.art_engine.specs.declared.change.Changed.TheVariants as changed
 use Rattle.art_lines.proofs.Common.{put, over, del, nput, ndel, of_tenant}
 use Rattle.art_engine.proofs.Terms.{KeyRecord, NumberRecord, InOrder, KeyComesBefore, NumberComesBefore, own, with_own, value_at, has_conflict, with_pair, with_value_over, without_at, puts, with_changed, Pair, NumberPair, record_of, number_record_of, records_of, number_records_of}
 use Rattle.art_engine.proofs.Terms.{all_records_of, IsChangeDone}
-use Rattle.art_engine.proofs.OwnLaws.{key_part, key_made, key_ascends, number_part, number_made, number_ascends, in_place, records_from_lists}
+use Rattle.art_engine.proofs.OwnLaws.{key_ascends, number_ascends, in_place, records_from_lists}
 use Rattle.std.specs.Str.{bytes_eq}
 use Rattle.std.specs.Ordering.{int_eq}
 use Rattle.art_bytes.proofs.Common.{is_below}
@@ -16,7 +16,7 @@ module _ (ps new : List Pair) (ns : List NumberPair) (order : InOrder NumberCome
   keys_changed : (t : ℕ) (ks : List (List ℕ × List ℕ)) → records_of new ≡ with_own t (record { keys = ks; numbers = (own t (records_of ps)).numbers }) (records_of ps)
       → all_records_of new ns ≡ with_own t (record { keys = ks; numbers = (own t (all_records_of ps ns)).numbers }) (all_records_of ps ns)
   keys_changed t ks h = records_from_lists _ _ _ _ (ap (λ r. r.keys) h)
-      (sym (in_place (λ (x : NumberRecord). x.tenant) number_part number_made (λ t p. refl) (λ t p. refl) (λ x. refl) t (map number_record_of ns) (number_ascends (map number_record_of ns) order)))
+      (sym (in_place t (map number_record_of ns) (number_ascends (map number_record_of ns) order)))
 
   keys_maybe : (b : Bool) (t : ℕ) (ks : List (List ℕ × List ℕ)) → records_of new ≡ with_changed t (cond b (Some (record { keys = ks; numbers = (own t (records_of ps)).numbers })) None) (records_of ps)
       → all_records_of new ns ≡ with_changed t (cond b (Some (record { keys = ks; numbers = (own t (all_records_of ps ns)).numbers })) None) (all_records_of ps ns)
@@ -46,7 +46,7 @@ module _ (ps : List Pair) (ns new : List NumberPair) (order : InOrder KeyComesBe
   numbers_changed : (t : ℕ) (ms : List (ℤ × List ℕ)) → number_records_of new ≡ with_own t (record { keys = (own t (number_records_of ns)).keys; numbers = ms }) (number_records_of ns)
       → all_records_of ps new ≡ with_own t (record { keys = (own t (all_records_of ps ns)).keys; numbers = ms }) (all_records_of ps ns)
   numbers_changed t ms h = records_from_lists _ _ _ _
-      (sym (in_place (λ (x : KeyRecord). x.tenant) key_part key_made (λ t p. refl) (λ t p. refl) (λ x. refl) t (map record_of ps) (key_ascends (map record_of ps) order)))
+      (sym (in_place t (map record_of ps) (key_ascends (map record_of ps) order)))
       (ap (λ r. r.numbers) h)
 
   same_numbers : number_records_of new ≡ number_records_of ns → all_records_of ps new ≡ all_records_of ps ns

@@ -1,67 +1,54 @@
 -- A full key is blocked among those of an index exactly where its key conflicts with one of its tenant's.
-use Rattle.std.proofs.Common.{◌≡◌, ℕ, ◌<◌, ◌^◌, List, [], ◌∷◌, map, refl, sym, ◌∙◌, Bool, true, false, cond, subst, inl, inr}
-use Rattle.std.specs.Prelude.{◌==◌, ◌||◌, ◌&&◌, filter}
-use Rattle.std.specs.List.{AllByRecursion}
-use Rattle.std.proofs.lemmas.Bool.{eqb-true, eq-eqb, or_left, or_right, or_cases, and_from, and_parts}
-use Rattle.art_bytes.proofs.Common.{Conflict, conflicts, conflict_told, told_conflict}
+use Rattle.std.proofs.Common.{◌≡◌, ℕ, ◌<◌, ◌^◌, List, [], ◌∷◌, map, filter, refl, ap, sym, ◌∙◌, Bool, true, false, inl, inr}
+use Rattle.std.specs.Prelude.{◌||◌, ◌&&◌}
+use Rattle.std.specs.List.{list_any}
+use Rattle.std.proofs.lemmas.Bool.{cond_both, false_from_ne_true, or_cases, or_left, or_right}
+use Rattle.art_bytes.proofs.Common.{conflicts, conflict_told, told_conflict}
+use Rattle.art_arena.proofs.Common.{IsIn}
 use Rattle.art_operations.proofs.Common.{IsBlocked}
 use Rattle.art_lines.proofs.Common.{full_key}
-use Rattle.art_engine.proofs.Terms.{KeyRecord, has_conflict, Pair, record_of, IsFull, IsOfTenant}
-use Rattle.art_engine.proofs.FullKeys.{full_keys_keep_conflicts}
-use Rattle.art_engine.proofs.OwnLaws.{key_part}
-use Rattle.art_engine.proofs.Putting.{pairs_of_tenant}
+use Rattle.art_engine.proofs.FullKeys.{eq_turned, full_keys_keep_conflicts}
+use Rattle.art_engine.proofs.KeyKinds.{keys_stand, under_keys}
+use Rattle.art_engine.proofs.OwnLaws.{part_of}
+use Rattle.art_engine.proofs.TenantKeys.{IsTest, passing}
+use Rattle.art_engine.proofs.Terms.{AreFull, has_conflict, own, Pair, record_of, records_of}
+pub use Rattle.art_engine.proofs.KeyKinds.{bytes_of}
 
--- the bytes of a pair's key
-abbrev pub bytes_of : Pair → List ℕ
-bytes_of p = p.0.items
+module _ {X : Type 0} where
+  abbrev some : List X → Bool
+  some [] = false
+  some (x ∷ xs) = true
 
--- a record is the tenant's, and its key conflicts with a key
-abbrev stands_against : ℕ → List ℕ → KeyRecord → Bool
-stands_against t k r = (r.tenant == t) && conflicts k r.key
+  -- whether one passes
+  any-some : (p : X → Bool) (xs : List X) → list_any p xs ≡ some (filter p xs)
+  any-some p [] = refl
+  any-some p (x ∷ xs) = let ih = any-some p xs in cond_both (p x) (x ∷ filter p xs) (filter p xs) (λ l. (p x || list_any p xs) ≡ some l) (λ e. rw e refl) (λ e. rw e ih)
 
-has_conflict-cons : (t : ℕ) (k : List ℕ) (r : KeyRecord) (rs : List KeyRecord) → has_conflict k (pairs_of_tenant t (r ∷ rs)) ≡ (stands_against t k r || has_conflict k (pairs_of_tenant t rs))
-has_conflict-cons t k r rs = go (r.tenant == t)
-  where
-    go : (b : Bool) → has_conflict k (map key_part (cond b (r ∷ filter (λ s. s.tenant == t) rs) (filter (λ s. s.tenant == t) rs))) ≡ ((b && conflicts k r.key) || has_conflict k (pairs_of_tenant t rs))
-    go true = refl
-    go false = refl
+  any_in : (p : X → Bool) (x : X) (xs : List X) → IsIn x xs → p x ≡ true → list_any p xs ≡ true
+  any_in p x [] i h = absurd i
+  any_in p x (y ∷ ys) (inl e) h = or_left _ _ (ap p e ∙ h)
+  any_in p x (y ∷ ys) (inr i) h = or_right (p y) _ (any_in p x ys i h)
 
-module _ (t : ℕ) (k : List ℕ) (small : t < 2 ^ 32) where
-  against : (p : Pair) → IsFull p → IsOfTenant (record_of p) → Conflict (full_key t k) (bytes_of p) → stands_against t k (record_of p) ≡ true
-  against p full fits c =
-      let r = record_of p in
-      let whole : conflicts (full_key t k) (full_key r.tenant r.key) ≡ true = conflict_told (full_key t k) (full_key r.tenant r.key) (subst (Conflict (full_key t k)) full c) in
-      let both = and_parts _ _ (sym (full_keys_keep_conflicts t r.tenant k r.key small fits) ∙ whole) in
-      and_from _ _ (eq-eqb r.tenant t (sym (eqb-true t r.tenant both.0))) both.1
+  in_any : (p : X → Bool) (xs : List X) → list_any p xs ≡ true → (x : X) × IsIn x xs × (p x ≡ true)
+  in_any p [] h = absurd (cc)
+  in_any p (x ∷ xs) h = elim (or_cases _ _ h) [ inl here ↦ (x, inl refl, here) | inr later ↦ let b = in_any p xs later in (b.0, inr b.1, b.2) ]
 
-  in_conflict : (p : Pair) → IsFull p → IsOfTenant (record_of p) → stands_against t k (record_of p) ≡ true → Conflict (full_key t k) (bytes_of p)
-  in_conflict p full fits h =
-      let r = record_of p in
-      let both = and_parts _ _ h in
-      let whole = full_keys_keep_conflicts t r.tenant k r.key small fits ∙ and_from _ _ (eq-eqb t r.tenant (sym (eqb-true r.tenant t both.0))) both.1 in
-      subst (Conflict (full_key t k)) (sym full) (told_conflict (full_key t k) (full_key r.tenant r.key) whole)
+some-map : {X Y : Type 0} (f : X → Y) (xs : List X) → some (map f xs) ≡ some xs
+some-map f [] = refl
+some-map f (x ∷ xs) = refl
 
-  pub blocked_told : (ps : List Pair) → AllByRecursion IsFull ps → AllByRecursion IsOfTenant (map record_of ps) → IsBlocked bytes_of (full_key t k) ps
-      → has_conflict k (pairs_of_tenant t (map record_of ps)) ≡ true
-  blocked_told [] full fits (x, i, c) = absurd i
-  blocked_told (p ∷ ps) full fits (x, inl same, c) =
-      has_conflict-cons t k (record_of p) (map record_of ps) ∙ or_left _ _ (against p full.0 fits.0 (subst (λ q. Conflict (full_key t k) (bytes_of q)) (sym same) c))
-  blocked_told (p ∷ ps) full fits (x, inr i, c) =
-      has_conflict-cons t k (record_of p) (map record_of ps) ∙ or_right _ _ (blocked_told ps full.1 fits.1 (x, i, c))
+module _ (t : ℕ) (k : List ℕ) (small : t < 2 ^ 32) (ps : List Pair) (are : AreFull ps) where
+  abbrev blocks : Pair → Bool
+  blocks p = conflicts (full_key t k) (bytes_of p)
 
-  told_blocked : (ps : List Pair) → AllByRecursion IsFull ps → AllByRecursion IsOfTenant (map record_of ps) → has_conflict k (pairs_of_tenant t (map record_of ps)) ≡ true
-      → IsBlocked bytes_of (full_key t k) ps
-  told_blocked [] full fits h = absurd (cc)
-  told_blocked (p ∷ ps) full fits h =
-      elim (or_cases _ _ (sym (has_conflict-cons t k (record_of p) (map record_of ps)) ∙ h)) [
-        | inl first ↦ (p, inl refl, in_conflict p full.0 fits.0 first)
-        | inr later ↦ let b = told_blocked ps full.1 fits.1 later in (b.0, inr b.1, b.2)
-      ]
+  told : has_conflict k (own t (records_of ps)).keys ≡ list_any blocks ps
+  told =
+      let tests : IsTest under_keys t (λ u. false) (conflicts (full_key t k)) (conflicts k) = λ u j s f. full_keys_keep_conflicts t u k j small s ∙ ap (λ b. b && conflicts k j) (eq_turned t u) in
+      any-some (λ p. conflicts k p.0) (own t (records_of ps)).keys ∙ ap some (sym (passing under_keys t (conflicts (full_key t k)) (conflicts k) tests ps (keys_stand ps are.full are.tenants)))
+      ∙ some-map part_of (map record_of (filter blocks ps)) ∙ some-map record_of (filter blocks ps) ∙ sym (any-some blocks ps)
 
-  pub free_told : (ps : List Pair) → AllByRecursion IsFull ps → AllByRecursion IsOfTenant (map record_of ps) → (IsBlocked bytes_of (full_key t k) ps → ⊥)
-      → has_conflict k (pairs_of_tenant t (map record_of ps)) ≡ false
-  free_told ps full fits free = go (has_conflict k (pairs_of_tenant t (map record_of ps))) refl
-    where
-      go : (b : Bool) → has_conflict k (pairs_of_tenant t (map record_of ps)) ≡ b → b ≡ false
-      go true e = absurd (free (told_blocked ps full fits e))
-      go false e = refl
+  pub blocked_told : IsBlocked bytes_of (full_key t k) ps → has_conflict k (own t (records_of ps)).keys ≡ true
+  blocked_told b = told ∙ any_in blocks b.0 ps b.1 (conflict_told (full_key t k) (bytes_of b.0) b.2)
+
+  pub free_told : (IsBlocked bytes_of (full_key t k) ps → ⊥) → has_conflict k (own t (records_of ps)).keys ≡ false
+  free_told free = false_from_ne_true _ (λ e. let i = in_any blocks ps (sym told ∙ e) in free (i.0, i.1, told_conflict (full_key t k) (bytes_of i.0) i.2))

@@ -1,32 +1,29 @@
 -- All that a tenant has is dropped: how that is answered, what it leaves, and when it may find no memory.
-use Rattle.std.proofs.Common.{◌≡◌, ◌≢◌, ℕ, ℤ, ◌+◌, ◌-◌, ◌<◌, ◌≤◌, ◌^◌, min, List, [], ◌∷◌, ◌++◌, length, map, refl, ap, ap₂, sym, ◌∙◌, subst, true, not, arith, inl, inr}
+use Rattle.std.proofs.Common.{◌≡◌, ◌≢◌, ℕ, ℤ, ◌+◌, ◌-◌, ◌<◌, ◌≤◌, ◌^◌, min, List, [], ◌∷◌, ◌++◌, length, map, refl, ap, ap₂, sym, ◌∙◌, subst, Bool, true, not, arith, inl, inr}
 use Rattle.std.specs.Prelude.{◌==◌, ◌&&◌, nat_lt, filter, codes}
 use Rattle.std.specs.Int.{w64}
 use Rattle.std.specs.List.{AllByRecursion}
 use Rattle.art_bytes.proofs.Common.{BeginsWith, common_prefix, pair_key, big_endian, flipped}
-use Rattle.art_arena.proofs.Common.{IsLimit, begins_with, with_front, without_front, in_map, in_unmap, all_weaker}
+use Rattle.art_arena.proofs.Common.{AscendsByKey, IsLimit, begins_with, with_front, without_front, in_map, in_unmap, all_weaker}
 use Rattle.art_map.proofs.Common.{ascends-filter, cut_visits}
 use Rattle.art_operations.proofs.Common.{node_count, OpeningReads, ShrinksWithout, width_of-map, without-shrinks}
 use Rattle.art_operations.proofs.NodeCounts.{counted-map}
 use Rattle.art_engine.specs.declared.drop_tenant.Dropped.{Dropped}
 use Rattle.art_engine.specs.declared.drop_tenant.Dropped.TheVariants as dropped
 use Rattle.art_lines.proofs.Common.{name, natural, full_key}
-use Rattle.art_engine.proofs.Terms.{longest, dropping, IsWithin, full_key_of, number_key_of, Own, KeyFits, KeyRecord, NumberFits, NumberRecord, Records, own, with_own, Pair, NumberPair, record_of, number_record_of, all_records_of, IsFull, IsOfTenant, IsNumberPair, ArePairs, AreNumberPairs}
+use Rattle.art_engine.proofs.Terms.{longest, dropping, IsWithin, full_key_of, number_key_of, Own, KeyFits, KeyRecord, NumberFits, NumberRecord, Record, Records, own, own_part, with_own, with_part, Pair, NumberPair, record_of, number_record_of, all_records_of, IsFull, IsOfTenant, IsNumberPair, ArePairs, AreNumberPairs}
 use Rattle.art_engine.specs.Dropped.{IsDropDone}
 use Rattle.art_engine.proofs.Changing.{itself, keys_are}
 use Rattle.art_engine.proofs.Conflicts.{bytes_of}
-use Rattle.art_engine.proofs.Dropping.{All-left_out}
-use Rattle.art_engine.proofs.Filters.{filter-alike}
+use Rattle.art_engine.proofs.Filters.{All-left_out}
 use Rattle.art_walks.proofs.Common.{all-filter}
 use Rattle.std.proofs.lemmas.List.{length-map, nil_from_length}
-use Rattle.art_engine.proofs.FullTests.{begins_full}
 use Rattle.art_engine.proofs.Listings.{longest_by_keys, within_longest}
-use Rattle.art_engine.proofs.NumberKeys.{HaveBytes}
-use Rattle.art_engine.proofs.NumberPlaces.{number_bytes, number_keys_are, StandsUnder, stand_all, numbers_without}
-use Rattle.art_engine.proofs.OwnPrefixes.{begin_keys, begin_numbers, own_is_under_prefix}
-use Rattle.art_engine.proofs.OwnLaws.{key_made, number_made, records_from_lists}
-use Rattle.art_engine.proofs.Putting.{pairs_of_tenant}
-use Rattle.art_engine.proofs.Removing.{IsFullTest, without_keeps, without_is}
+use Rattle.art_engine.proofs.KeyKinds.{are_full, keys_ascend, keys_stand, numbers_stand, under_keys, under_numbers}
+use Rattle.art_engine.proofs.NumberPlaces.{number_bytes, number_keys_are}
+use Rattle.art_engine.proofs.OwnPrefixes.{front_tests, own_front}
+use Rattle.art_engine.proofs.OwnLaws.{mine, part_of, records_from_lists}
+use Rattle.art_engine.proofs.TenantKeys.{Held, Kind, Stands, key_in, keys_are as pairs_keys, record_in, whole_of, without}
 
 -- where all pass, none is left
 none_left : {X : Type 0} (xs : List X) → filter (λ (x : X). not true) xs ≡ []
@@ -74,19 +71,27 @@ root_read : {X Y : Type 0} (f : X → Y) (xs : List X) (reads : ℕ) → (xs ≢
 root_read f [] reads some = omega arith
 root_read f (x ∷ xs) reads some = let read = some (λ e. cc) in omega arith
 
--- the full keys of a tenant are those that begin with its four bytes
-full_after : (t : ℕ) → t < 2 ^ 32 → (ps : List Pair) → AllByRecursion IsFull ps → AllByRecursion IsOfTenant (map record_of ps)
-    → map full_key_of (filter (λ (r : KeyRecord). r.tenant == t) (map record_of ps)) ≡ map bytes_of (with_front bytes_of (full_key t []) ps)
-full_after t small ps full fits =
-    filter-alike full_key_of record_of bytes_of (λ p. begins_with (full_key t []) p.0.items) (λ r. r.tenant == t) ps
-    (begin_keys t small ps full fits) (all_weaker IsFull (λ p. full_key_of (record_of p) ≡ bytes_of p) (λ p e. sym e) ps full)
+-- what begins with a tenant's four bytes is its own
+module _ {K M : Type 0} {bytes : M → List ℕ} {rest : K → List ℕ} {back : List ℕ → K} {Fits : K → Type 0} {lt same : K → K → Bool} {Before : Record K → Record K → Type 0}
+    (kind : Kind bytes rest back Fits lt same Before) (t : ℕ) (small : t < 2 ^ 32) (ps : List (Held kind)) (stand : AllByRecursion (Stands kind) ps) where
+  abbrev own_pairs : List (Held kind)
+  own_pairs = with_front (key_in kind) (full_key t []) ps
 
--- and so are the bytes of its numbers
-numbers_after : (t : ℕ) → t < 2 ^ 32 → (ns : List NumberPair) → AllByRecursion StandsUnder ns
-    → map number_key_of (filter (λ (r : NumberRecord). r.tenant == t) (map number_record_of ns)) ≡ map number_bytes (with_front number_bytes (full_key t []) ns)
-numbers_after t small ns stand =
-    filter-alike number_key_of number_record_of number_bytes (λ p. begins_with (full_key t []) p.0) (λ r. r.tenant == t) ns
-    (begin_numbers t small ns stand) (all_weaker StandsUnder (λ p. number_key_of (number_record_of p) ≡ number_bytes p) (λ p under. sym under.key) ns stand)
+  counted : length (own_part t (map (record_in kind) ps)) ≡ length own_pairs
+  counted = ap (λ l. length (map part_of l)) (sym (own_front kind t small ps stand)) ∙ length-map (map (record_in kind) own_pairs) part_of ∙ length-map own_pairs (record_in kind)
+
+  -- so the nodes below it are given by the tenant's records
+  freed : node_count (key_in kind) own_pairs ≡ node_count (whole_of kind) (mine t (map (record_in kind) ps))
+  freed =
+      counted-map (key_in kind) own_pairs
+      ∙ ap (node_count itself) (pairs_keys kind own_pairs (all-filter (Stands kind) (λ p. begins_with (full_key t []) (key_in kind p)) ps stand) ∙ ap (map (whole_of kind)) (own_front kind t small ps stand))
+      ∙ sym (counted-map (whole_of kind) (mine t (map (record_in kind) ps)))
+
+  -- and the others are of the records where the tenant has nothing
+  left : AscendsByKey (key_in kind) ps → map (record_in kind) (without_front (key_in kind) (full_key t []) ps) ≡ with_part t [] (map (record_in kind) ps)
+  left up =
+      without kind t (begins_with (full_key t [])) (λ k. true) (front_tests kind t small) ps stand up
+      ∙ ap (λ l. with_part t l (map (record_in kind) ps)) (none_left (own_part t (map (record_in kind) ps)))
 
 -- no bytes of a number are longer than the longest of the records
 pub all_numbers_within : (ns : List NumberPair) → AllByRecursion IsNumberPair ns → AllByRecursion (λ p. length p.0 ≤ longest number_key_of (map number_record_of ns)) ns
@@ -107,43 +112,39 @@ module _ (t : ℕ) (small : t < 2 ^ 32) (ps : List Pair) (ns : List NumberPair) 
   abbrev old : Records
   old = all_records_of ps ns
 
-  tests : IsFullTest t (begins_with front) (λ j. true)
-  tests u j fits = begins_full t u [] j small fits
+  key_stand : AllByRecursion (Stands under_keys) ps
+  key_stand = keys_stand ps are.stand.full are.stand.tenants
 
-  number_tests : (u : ℕ) (m : ℤ) → HaveBytes u m → begins_with front (pair_key (u, m)) ≡ ((u == t) && true)
-  number_tests u m h = begins_full t u [] (big_endian 8 (flipped w64 m)) small h.0
+  stand : AllByRecursion (Stands under_numbers) ns
+  stand = numbers_stand ns nums.stand nums.fit
 
-  stand : AllByRecursion StandsUnder ns
-  stand = stand_all ns nums.stand nums.fit
+  abbrev apart : List ℕ → Bool
+  apart k = not (begins_with front k)
 
   -- they are as an index holds them
   pub keys_kept : ArePairs keys_left
   keys_kept = record {
-    stand = without_keeps t (begins_with front) (λ j. true) tests ps are.stand;
-    fit = All-left_out KeyFits record_of (λ p. not (begins_with front (bytes_of p))) ps are.fit;
+    stand = are_full keys_left (all-filter (Stands under_keys) (λ p. apart (bytes_of p)) ps key_stand) (ascends-filter bytes_of (λ p. apart (bytes_of p)) ps (keys_ascend ps are.stand));
+    fit = All-left_out KeyFits record_of (λ p. apart (bytes_of p)) ps are.fit;
   }
 
   pub numbers_kept : AreNumberPairs numbers_left
   numbers_kept = record {
-    stand = all-filter IsNumberPair (λ p. not (begins_with front p.0)) ns nums.stand;
-    ascend = ascends-filter number_bytes (λ p. not (begins_with front p.0)) ns nums.ascend;
-    fit = All-left_out NumberFits number_record_of (λ p. not (begins_with front p.0)) ns nums.fit;
+    stand = all-filter IsNumberPair (λ p. apart p.0) ns nums.stand;
+    ascend = ascends-filter number_bytes (λ p. apart p.0) ns nums.ascend;
+    fit = All-left_out NumberFits number_record_of (λ p. apart p.0) ns nums.fit;
   }
 
   -- and their records are those where the tenant has nothing
   records_left : all_records_of keys_left numbers_left ≡ with_own t (record { keys = []; numbers = [] }) old
-  records_left = records_from_lists _ _ _ _
-      (without_is t (begins_with front) (λ j. true) tests ps are.stand
-      ∙ ap (λ l. filter (λ r. nat_lt r.tenant t) (map record_of ps) ++ map (key_made t) l ++ filter (λ r. nat_lt t r.tenant) (map record_of ps)) (none_left (pairs_of_tenant t (map record_of ps))))
-      (numbers_without t (begins_with front) (λ m. true) number_tests ns stand nums.ascend
-      ∙ ap (λ l. filter (λ r. nat_lt r.tenant t) (map number_record_of ns) ++ map (number_made t) l ++ filter (λ r. nat_lt t r.tenant) (map number_record_of ns)) (none_left (own t old).numbers))
+  records_left = records_from_lists _ _ _ _ (left under_keys t small ps key_stand (keys_ascend ps are.stand)) (left under_numbers t small ns stand nums.ascend)
 
   -- the tenant has as many as begin so
   keys_counted : length (own t old).keys ≡ length (with_front bytes_of front ps)
-  keys_counted = ap (λ (o : Own). length o.keys) (own_is_under_prefix t ps ns small are.stand nums) ∙ length-map (with_front bytes_of front ps) _
+  keys_counted = counted under_keys t small ps key_stand
 
   numbers_counted : length (own t old).numbers ≡ length (with_front number_bytes front ns)
-  numbers_counted = ap (λ (o : Own). length o.numbers) (own_is_under_prefix t ps ns small are.stand nums) ∙ length-map (with_front number_bytes front ns) _
+  numbers_counted = counted under_numbers t small ns stand
 
   module _ (new_ps : List Pair) (new_ns : List NumberPair) where
     pub drop_done : (k n v : ℕ) → new_ps ≡ keys_left → new_ns ≡ numbers_left → k ≡ length (with_front bytes_of front ps) → n ≡ length (with_front number_bytes front ns)
@@ -169,14 +170,10 @@ module _ (t : ℕ) (small : t < 2 ^ 32) (ps : List Pair) (ns : List NumberPair) 
 
   -- the nodes below the prefix are given by the tenant's records
   keys_freed : node_count bytes_of (with_front bytes_of front ps) ≡ node_count full_key_of (filter (λ (r : KeyRecord). r.tenant == t) (map record_of ps))
-  keys_freed =
-      counted-map bytes_of (with_front bytes_of front ps) ∙ ap (node_count itself) (sym (full_after t small ps are.stand.full are.stand.tenants))
-      ∙ sym (counted-map full_key_of (filter (λ (r : KeyRecord). r.tenant == t) (map record_of ps)))
+  keys_freed = freed under_keys t small ps key_stand
 
   numbers_freed : node_count number_bytes (with_front number_bytes front ns) ≡ node_count number_key_of (filter (λ (r : NumberRecord). r.tenant == t) (map number_record_of ns))
-  numbers_freed =
-      counted-map number_bytes (with_front number_bytes front ns) ∙ ap (node_count itself) (sym (numbers_after t small ns stand))
-      ∙ sym (counted-map number_key_of (filter (λ (r : NumberRecord). r.tenant == t) (map number_record_of ns)))
+  numbers_freed = freed under_numbers t small ns stand
 
   -- so many nodes are read to find what begins so, r in the one tree and s in the other, and those after are freed
   pub drop_counts : (x y r s v : ℕ) → x ≡ min (r + node_count bytes_of (with_front bytes_of front ps)) (2 ^ 64 - 1) → y ≡ min (s + node_count number_bytes (with_front number_bytes front ns)) (2 ^ 64 - 1)

@@ -1,5 +1,5 @@
 -- What is found by a front of a full key.
-use Rattle.std.proofs.Common.{◌≡◌, ℕ, ◌<◌, ◌^◌, List, [], ◌∷◌, drop, ap, sym, ◌∙◌, subst, Bool, Some}
+use Rattle.std.proofs.Common.{◌≡◌, ℕ, ◌<◌, ◌^◌, List, [], ◌∷◌, drop, ap, sym, ◌∙◌, subst, Bool, false, Some}
 use Rattle.std.specs.Prelude.{◌&&◌, option_map}
 use Rattle.std.proofs.lemmas.Bool.{cond_both}
 use Rattle.std.specs.List.{AllByRecursion}
@@ -10,8 +10,9 @@ use Rattle.art_engine.proofs.Terms.{own, front_at, Pair, record_of, records_of, 
 use Rattle.art_engine.proofs.Changing.{option_map-map}
 use Rattle.art_engine.proofs.FullKeys.{eq_turned}
 use Rattle.art_engine.proofs.FullTests.{begins_full}
+use Rattle.art_engine.proofs.KeyKinds.{keys_stand, under_keys}
 use Rattle.art_engine.proofs.OwnLaws.{key_part}
-use Rattle.art_engine.proofs.Removing.{IsFullTest, first_passing}
+use Rattle.art_engine.proofs.TenantKeys.{IsTest, first_passing}
 
 -- what holds of all holds of what is found
 pub all_found : {K V : Type 0} (P : K × V → Type 0) (T : K → Bool) (ps : List (K × V)) (p : K × V) → Some p ≡ lookup_entry T ps → AllByRecursion P ps → P p
@@ -25,6 +26,6 @@ pub front_found : (t : ℕ) (k q : List ℕ) → t < 2 ^ 32 → q ≡ full_key t
     → option_map (λ p. (drop 4 p.0.items, p.1.items)) (lookup_entry (λ j. begins_with j.items q) ps) ≡ front_at k (own t (records_of ps)).keys
 front_found t k q small same ps are =
     let T : List ℕ → Bool = λ j. begins_with j (full_key t k) in
-    let tests : IsFullTest t T (λ j. begins_with j k) = λ u j s. begins_full u t j k s small ∙ ap (λ b. b && begins_with j k) (eq_turned t u) in
+    let tests : IsTest under_keys t (λ u. false) T (λ j. begins_with j k) = λ u j s f. begins_full u t j k s small ∙ ap (λ b. b && begins_with j k) (eq_turned t u) in
     ap (λ f. option_map (λ (p : Pair). (drop 4 p.0.items, p.1.items)) (lookup_entry (λ j. begins_with j.items f) ps)) same
-    ∙ sym (option_map-map key_part record_of (lookup_entry (λ j. T j.items) ps)) ∙ first_passing t T (λ j. begins_with j k) tests ps are
+    ∙ sym (option_map-map key_part record_of (lookup_entry (λ j. T j.items) ps)) ∙ first_passing under_keys t T (λ j. begins_with j k) tests ps (keys_stand ps are.full are.tenants)

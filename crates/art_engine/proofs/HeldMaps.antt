@@ -19,33 +19,9 @@ use Rattle.art_engine.proofs.Conflicts.{bytes_of}
 use Rattle.hex.specs.Hex.{lower_digits}
 use Rattle.hex.proofs.HexLemmas.{length-encode_with}
 use Rattle.art_arena.proofs.tree.Paths.{all_map}
-use Rattle.art_engine.proofs.FullKeys.{full_keys_keep_order, full_keys_keep_conflicts}
+use Rattle.art_engine.proofs.KeyKinds.{are_full, keys_stand}
 use Rattle.art_engine.proofs.NumberKeys.{flip_back}
 use Rattle.art_lines.proofs.FullKeys.{full_key_again, tenant_small, front_small}
-
--- records are in order where their full keys are
-comes_before : (r s : KeyRecord) → IsOfTenant r → IsOfTenant s → IsBefore (full_key_of r) (full_key_of s) → KeyComesBefore r s
-comes_before r s rs ss before =
-    let lex = (order_is_lexicographic (full_key_of r) (full_key_of s)).0 before in
-    let below : is_below (full_key_of r) (full_key_of s) ≡ true = ap is_lt lex.0 in
-    let free : conflicts (full_key_of r) (full_key_of s) ≡ false = false_from_ne_true _ (λ e. lex.1 (told_conflict (full_key_of r) (full_key_of s) e)) in
-    go (or_cases _ _ (sym (full_keys_keep_order r.tenant s.tenant r.key s.key rs ss) ∙ below)) (sym (full_keys_keep_conflicts r.tenant s.tenant r.key s.key rs ss) ∙ free)
-  where
-    go : (nat_lt r.tenant s.tenant ≡ true) ⊎ (((r.tenant == s.tenant) && is_below r.key s.key) ≡ true) → ((r.tenant == s.tenant) && conflicts r.key s.key) ≡ false → KeyComesBefore r s
-    go (inl low) free = inl (ltb-true r.tenant s.tenant low)
-    go (inr same) free =
-        let p = and_parts _ _ same in
-        inr (eqb-true r.tenant s.tenant p.0, p.1, (let e = p.0 in rw e at free))
-
-after_first : (p : Pair) (ps : List Pair) → IsFull p → IsOfTenant (record_of p) → AllByRecursion IsFull ps → AllByRecursion IsOfTenant (map record_of ps)
-    → AllByRecursion (λ q. IsBefore (bytes_of p) (bytes_of q)) ps → AllByRecursion (KeyComesBefore (record_of p)) (map record_of ps)
-after_first p [] full fits fulls small order = tt
-after_first p (q ∷ qs) full fits fulls small order =
-    (comes_before (record_of p) (record_of q) fits small.0 (subst (λ k. IsBefore k (full_key_of (record_of q))) full (subst (IsBefore (bytes_of p)) fulls.0 order.0)), after_first p qs full fits fulls.1 small.1 order.1)
-
-records_in_order : (ps : List Pair) → AllByRecursion IsFull ps → AllByRecursion IsOfTenant (map record_of ps) → AscendsByKey bytes_of ps → InOrder KeyComesBefore (map record_of ps)
-records_in_order [] full small order = tt
-records_in_order (p ∷ ps) full small order = (after_first p ps full.0 small.0 full.1 small.1 order.0, records_in_order ps full.1 small.1 order.1)
 
 -- a pair under a full key, whose record fits
 abbrev pub IsRecord : Pair → Type 0
@@ -56,7 +32,7 @@ are_pairs ps order all =
     let full = all_weaker IsRecord IsFull (λ p h. h.0) ps all in
     let fit = all_map record_of KeyFits ps (all_weaker IsRecord (λ p. KeyFits (record_of p)) (λ p h. h.1) ps all) in
     let small = all_weaker KeyFits IsOfTenant (λ r fits. fits.tenant_fits) (map record_of ps) fit in
-    record { stand = record { full = full; in_order = records_in_order ps full small order; tenants = small }; fit = fit }
+    record { stand = are_full ps (keys_stand ps full small) order; fit = fit }
 
 -- bytes after a tenant's four
 after_small : (n : ℕ) (xs : List ℕ) → ((i : ℕ) → get_or xs i 0 < 256) → (i : ℕ) → get_or (drop n xs) i 0 < 256

@@ -10,14 +10,14 @@ pub mod Dumping
 pub mod DumpReplies
 pub mod FullKeys
 pub mod FieldLengths
+pub mod KeyOrder
+pub mod TenantKeys
+pub mod KeyKinds
 pub mod Placing
-pub mod Putting
-pub mod Standing
 pub mod Filters
 pub mod OwnLaws
 pub mod Conflicts
 pub mod FullTests
-pub mod Dropping
 pub mod Removing
 pub mod Overwriting
 pub mod Changing

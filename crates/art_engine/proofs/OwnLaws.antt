@@ -1,144 +1,148 @@
 -- What a tenant holds, in the flat lists of all records.
-use Rattle.art_engine.proofs.Terms.{OwnReadsBack, OthersAreUntouched, OwnIsInPlace, Own, KeyRecord, NumberRecord, Records, with_own, InOrder, KeyComesBefore, NumberComesBefore}
+use Rattle.art_engine.proofs.Terms.{OwnReadsBack, OthersAreUntouched, OwnIsInPlace, Own, Record, KeyRecord, NumberRecord, Records, own_part, with_own, with_part, InOrder, KeyComesBefore, NumberComesBefore}
 use Rattle.std.proofs.Common.{◌≡◌, ◌≢◌, ℕ, ℤ, ◌<◌, ◌≤◌, List, [], ◌∷◌, ◌++◌, refl, ap, ap₂, sym, ◌∙◌, Bool, true, false, arith, append-nil, inl, inr}
 use Rattle.std.specs.Prelude.{◌==◌, nat_lt, map, filter}
-use Rattle.std.proofs.lemmas.Bool.{cond_both, eq-eqb, ne_eqb, eqb-true, ltb-true, lt-ltb, le-ltb, cases_lt}
+use Rattle.std.proofs.lemmas.Bool.{cond_both, eq-eqb, ne_eqb, eqb-true, ltb-true, lt-ltb, le-ltb, cases_lt, cases_order}
 use Rattle.std.proofs.lemmas.List.Elements.{filter-append}
-use Rattle.art_engine.proofs.Filters.{filter-apart, filter-within, All-each}
+use Rattle.art_engine.proofs.Filters.{filter-apart, filter-within}
 use Rattle.art_arena.proofs.tree.Filters.{filter_none}
 use Rattle.art_arena.proofs.Common.{all_weaker}
-use Rattle.art_arena.proofs.tree.Paths.{all_map}
 
--- a list of records as it is for each kind: with its tenant, its own part, and back
-module _ {X P : Type 0} (tenant_of : X → ℕ) (part_of : X → P) (made : ℕ → P → X)
-    (makes_tenant : (t : ℕ) (p : P) → tenant_of (made t p) ≡ t) (makes_part : (t : ℕ) (p : P) → part_of (made t p) ≡ p)
-    (made_again : (x : X) → made (tenant_of x) (part_of x) ≡ x) where
-  abbrev mine : ℕ → List X → List X
-  mine t xs = filter (λ x. tenant_of x == t) xs
+-- how two tenants stand, as tests
+pub lower_other : (t u : ℕ) → nat_lt u t ≡ true → (u == t) ≡ false
+lower_other t u h = let lt = ltb-true u t h in ne_eqb u t (λ e. omega arith)
 
-  abbrev before : ℕ → List X → List X
-  before t xs = filter (λ x. nat_lt (tenant_of x) t) xs
+pub higher_other : (t u : ℕ) → nat_lt t u ≡ true → (u == t) ≡ false
+higher_other t u h = let lt = ltb-true t u h in ne_eqb u t (λ e. omega arith)
 
-  abbrev following : ℕ → List X → List X
-  following t xs = filter (λ x. nat_lt t (tenant_of x)) xs
+pub not_both : (t u : ℕ) → nat_lt t u ≡ true → nat_lt u t ≡ false
+not_both t u h = let lt = ltb-true t u h in le-ltb u t (omega arith)
 
-  abbrev put_back : ℕ → List P → List X → List X
-  put_back t ps xs = before t xs ++ map (made t) ps ++ following t xs
+pub not_lower : (t : ℕ) → nat_lt t t ≡ false
+not_lower t = le-ltb t t (omega arith)
 
-  made_mine : (t : ℕ) (ps : List P) → mine t (map (made t) ps) ≡ map (made t) ps
-  made_mine t [] = refl
-  made_mine t (p ∷ ps) = rw (eq-eqb (tenant_of (made t p)) t (makes_tenant t p)) (ap (λ l. made t p ∷ l) (made_mine t ps))
+module _ {K : Type 0} where
+  -- a record without its tenant, and back
+  abbrev pub part_of : Record K → K × List ℕ
+  part_of r = (r.key, r.value)
 
-  none_made : (p : X → Bool) (t : ℕ) → ((q : P) → p (made t q) ≡ false) → (qs : List P) → filter p (map (made t) qs) ≡ []
-  none_made p t none qs = filter_none p (map (made t) qs) (all_map (made t) (λ x. p x ≡ false) qs (All-each (λ q. p (made t q) ≡ false) none qs))
+  abbrev pub made : ℕ → K × List ℕ → Record K
+  made t p = record { tenant = t; key = p.0; value = p.1 }
 
-  made_other : (s t : ℕ) → s ≢ t → (ps : List P) → mine s (map (made t) ps) ≡ []
-  made_other s t apart ps = none_made (λ x. tenant_of x == s) t (λ p. ne_eqb (tenant_of (made t p)) s (λ e. apart (sym e ∙ makes_tenant t p))) ps
+  -- a tenant's records, and those of lower and of higher tenants
+  abbrev pub mine : ℕ → List (Record K) → List (Record K)
+  mine t rs = filter (λ r. r.tenant == t) rs
 
-  parts_made : (t : ℕ) (ps : List P) → map part_of (map (made t) ps) ≡ ps
+  abbrev pub lower : ℕ → List (Record K) → List (Record K)
+  lower t rs = filter (λ r. nat_lt r.tenant t) rs
+
+  abbrev pub higher : ℕ → List (Record K) → List (Record K)
+  higher t rs = filter (λ r. nat_lt t r.tenant) rs
+
+  -- what passes a test of tenants, where a tenant's own is put in place
+  module _ (q : ℕ → Bool) (t : ℕ) where
+    abbrev passes : List (Record K) → List (Record K)
+    passes rs = filter (λ r. q r.tenant) rs
+
+    all_made : q t ≡ true → (ps : List (K × List ℕ)) → passes (map (made t) ps) ≡ map (made t) ps
+    all_made e [] = refl
+    all_made e (p ∷ ps) = rw e (ap (λ l. made t p ∷ l) (all_made e ps))
+
+    none_made : q t ≡ false → (ps : List (K × List ℕ)) → passes (map (made t) ps) ≡ []
+    none_made e [] = refl
+    none_made e (p ∷ ps) = rw e (none_made e ps)
+
+    three_passes : (ps : List (K × List ℕ)) (rs : List (Record K)) → passes (with_part t ps rs) ≡ passes (lower t rs) ++ passes (map (made t) ps) ++ passes (higher t rs)
+    three_passes ps rs =
+        filter-append (λ r. q r.tenant) (lower t rs ++ map (made t) ps) (higher t rs)
+        ∙ ap (λ l. l ++ passes (higher t rs)) (filter-append (λ r. q r.tenant) (lower t rs) (map (made t) ps))
+
+  parts_made : (t : ℕ) (ps : List (K × List ℕ)) → map part_of (map (made t) ps) ≡ ps
   parts_made t [] = refl
-  parts_made t (p ∷ ps) = rw (makes_part t p) (ap (λ l. p ∷ l) (parts_made t ps))
+  parts_made t (p ∷ ps) = ap (λ l. p ∷ l) (parts_made t ps)
 
-  pub reads_back : (t : ℕ) (ps : List P) (xs : List X) → map part_of (mine t (put_back t ps xs)) ≡ ps
-  reads_back t ps xs =
-      let low : mine t (before t xs) ≡ [] = filter-apart (λ x. tenant_of x == t) (λ x. nat_lt (tenant_of x) t) (λ x h. let lt = ltb-true (tenant_of x) t h in ne_eqb (tenant_of x) t (λ e. omega arith)) xs in
-      let high : mine t (following t xs) ≡ [] = filter-apart (λ x. tenant_of x == t) (λ x. nat_lt t (tenant_of x)) (λ x h. let lt = ltb-true t (tenant_of x) h in ne_eqb (tenant_of x) t (λ e. omega arith)) xs in
-      let all : mine t (put_back t ps xs) ≡ map (made t) ps =
-      filter-append (λ x. tenant_of x == t) (before t xs ++ map (made t) ps) (following t xs)
-      ∙ ap (λ l. l ++ mine t (following t xs)) (filter-append (λ x. tenant_of x == t) (before t xs) (map (made t) ps))
-      ∙ rw (low, high, made_mine t ps) (append-nil (map (made t) ps)) in
-      ap (map part_of) all ∙ parts_made t ps
+  pub reads_back : (t : ℕ) (ps : List (K × List ℕ)) (rs : List (Record K)) → own_part t (with_part t ps rs) ≡ ps
+  reads_back t ps rs =
+      let low : mine t (lower t rs) ≡ [] = filter-apart (λ r. r.tenant == t) (λ r. nat_lt r.tenant t) (λ r. lower_other t r.tenant) rs in
+      let high : mine t (higher t rs) ≡ [] = filter-apart (λ r. r.tenant == t) (λ r. nat_lt t r.tenant) (λ r. higher_other t r.tenant) rs in
+      ap (map part_of) (three_passes (λ u. u == t) t ps rs ∙ rw (low, high, all_made (λ u. u == t) t (eq-eqb t t refl) ps) (append-nil (map (made t) ps))) ∙ parts_made t ps
 
-  pub untouched : (s t : ℕ) (ps : List P) (xs : List X) → s ≢ t → mine s (put_back t ps xs) ≡ mine s xs
-  untouched s t ps xs apart =
-      let all : mine s (put_back t ps xs) ≡ mine s (before t xs) ++ mine s (following t xs) =
-      filter-append (λ x. tenant_of x == s) (before t xs ++ map (made t) ps) (following t xs)
-      ∙ ap (λ l. l ++ mine s (following t xs)) (filter-append (λ x. tenant_of x == s) (before t xs) (map (made t) ps))
-      ∙ rw (made_other s t apart ps) (ap (λ l. l ++ mine s (following t xs)) (append-nil (mine s (before t xs)))) in
-      elim (cases_lt s t) [
+  pub untouched : (s t : ℕ) (ps : List (K × List ℕ)) (rs : List (Record K)) → s ≢ t → own_part s (with_part t ps rs) ≡ own_part s rs
+  untouched s t ps rs apart =
+      ap (map part_of)
+      (three_passes (λ u. u == s) t ps rs
+      ∙ rw (none_made (λ u. u == s) t (ne_eqb t s (λ e. apart (sym e))) ps) (ap (λ l. l ++ mine s (higher t rs)) (append-nil (mine s (lower t rs))) ∙ both))
+    where
+      both : mine s (lower t rs) ++ mine s (higher t rs) ≡ mine s rs
+      both = elim (cases_lt s t) [
         | inl low ↦
-            let kept : mine s (before t xs) ≡ mine s xs = filter-within (λ x. tenant_of x == s) (λ x. nat_lt (tenant_of x) t) (λ x h. let e = eqb-true (tenant_of x) s h in lt-ltb (tenant_of x) t (omega arith)) xs in
-            let none : mine s (following t xs) ≡ [] = filter-apart (λ x. tenant_of x == s) (λ x. nat_lt t (tenant_of x)) (λ x h. let lt = ltb-true t (tenant_of x) h in ne_eqb (tenant_of x) s (λ e. omega arith)) xs in
-            all ∙ rw (kept, none) (append-nil (mine s xs))
+            let kept : mine s (lower t rs) ≡ mine s rs = filter-within (λ r. r.tenant == s) (λ r. nat_lt r.tenant t) (λ r h. let e = eqb-true r.tenant s h in lt-ltb r.tenant t (omega arith)) rs in
+            let none : mine s (higher t rs) ≡ [] = filter-apart (λ r. r.tenant == s) (λ r. nat_lt t r.tenant) (λ r h. let lt = ltb-true t r.tenant h in ne_eqb r.tenant s (λ e. omega arith)) rs in
+            rw (kept, none) (append-nil (mine s rs))
         | inr high ↦
             let above : t < s = omega (arith, apart) in
-            let kept : mine s (following t xs) ≡ mine s xs = filter-within (λ x. tenant_of x == s) (λ x. nat_lt t (tenant_of x)) (λ x h. let e = eqb-true (tenant_of x) s h in lt-ltb t (tenant_of x) (omega arith)) xs in
-            let none : mine s (before t xs) ≡ [] = filter-apart (λ x. tenant_of x == s) (λ x. nat_lt (tenant_of x) t) (λ x h. let lt = ltb-true (tenant_of x) t h in ne_eqb (tenant_of x) s (λ e. omega arith)) xs in
-            all ∙ rw (kept, none) refl
+            let kept : mine s (higher t rs) ≡ mine s rs = filter-within (λ r. r.tenant == s) (λ r. nat_lt t r.tenant) (λ r h. let e = eqb-true r.tenant s h in lt-ltb t r.tenant (omega arith)) rs in
+            let none : mine s (lower t rs) ≡ [] = filter-apart (λ r. r.tenant == s) (λ r. nat_lt r.tenant t) (λ r h. let lt = ltb-true r.tenant t h in ne_eqb r.tenant s (λ e. omega arith)) rs in
+            rw (kept, none) refl
       ]
 
-  made_not_before : (t : ℕ) (ps : List P) → before t (map (made t) ps) ≡ []
-  made_not_before t ps = none_made (λ x. nat_lt (tenant_of x) t) t (λ p. let is = makes_tenant t p in le-ltb (tenant_of (made t p)) t (omega arith)) ps
+  lower_again : (t : ℕ) (ps : List (K × List ℕ)) (rs : List (Record K)) → lower t (with_part t ps rs) ≡ lower t rs
+  lower_again t ps rs =
+      let low : lower t (lower t rs) ≡ lower t rs = filter-within (λ r. nat_lt r.tenant t) (λ r. nat_lt r.tenant t) (λ r h. h) rs in
+      let high : lower t (higher t rs) ≡ [] = filter-apart (λ r. nat_lt r.tenant t) (λ r. nat_lt t r.tenant) (λ r. not_both t r.tenant) rs in
+      three_passes (λ u. nat_lt u t) t ps rs ∙ rw (low, high, none_made (λ u. nat_lt u t) t (not_lower t) ps) (append-nil (lower t rs ++ []) ∙ append-nil (lower t rs))
 
-  made_not_after : (t : ℕ) (ps : List P) → following t (map (made t) ps) ≡ []
-  made_not_after t ps = none_made (λ x. nat_lt t (tenant_of x)) t (λ p. let is = makes_tenant t p in le-ltb t (tenant_of (made t p)) (omega arith)) ps
+  higher_again : (t : ℕ) (ps : List (K × List ℕ)) (rs : List (Record K)) → higher t (with_part t ps rs) ≡ higher t rs
+  higher_again t ps rs =
+      let low : higher t (lower t rs) ≡ [] = filter-apart (λ r. nat_lt t r.tenant) (λ r. nat_lt r.tenant t) (λ r. not_both r.tenant t) rs in
+      let high : higher t (higher t rs) ≡ higher t rs = filter-within (λ r. nat_lt t r.tenant) (λ r. nat_lt t r.tenant) (λ r h. h) rs in
+      three_passes (λ u. nat_lt t u) t ps rs ∙ rw (low, high, none_made (λ u. nat_lt t u) t (not_lower t) ps) refl
 
-  before_again : (t : ℕ) (ps : List P) (xs : List X) → before t (put_back t ps xs) ≡ before t xs
-  before_again t ps xs =
-      let low : before t (before t xs) ≡ before t xs = filter-within (λ x. nat_lt (tenant_of x) t) (λ x. nat_lt (tenant_of x) t) (λ x h. h) xs in
-      let high : before t (following t xs) ≡ [] = filter-apart (λ x. nat_lt (tenant_of x) t) (λ x. nat_lt t (tenant_of x)) (λ x h. let lt = ltb-true t (tenant_of x) h in le-ltb (tenant_of x) t (omega arith)) xs in
-      filter-append (λ x. nat_lt (tenant_of x) t) (before t xs ++ map (made t) ps) (following t xs)
-      ∙ ap (λ l. l ++ before t (following t xs)) (filter-append (λ x. nat_lt (tenant_of x) t) (before t xs) (map (made t) ps))
-      ∙ rw (low, high, made_not_before t ps) (append-nil (before t xs ++ []) ∙ append-nil (before t xs))
+  pub put_back_again : (t : ℕ) (ps qs : List (K × List ℕ)) (rs : List (Record K)) → with_part t qs (with_part t ps rs) ≡ with_part t qs rs
+  put_back_again t ps qs rs = ap₂ (λ low high. low ++ map (made t) qs ++ high) (lower_again t ps rs) (higher_again t ps rs)
 
-  after_again : (t : ℕ) (ps : List P) (xs : List X) → following t (put_back t ps xs) ≡ following t xs
-  after_again t ps xs =
-      let low : following t (before t xs) ≡ [] = filter-apart (λ x. nat_lt t (tenant_of x)) (λ x. nat_lt (tenant_of x) t) (λ x h. let lt = ltb-true (tenant_of x) t h in le-ltb t (tenant_of x) (omega arith)) xs in
-      let high : following t (following t xs) ≡ following t xs = filter-within (λ x. nat_lt t (tenant_of x)) (λ x. nat_lt t (tenant_of x)) (λ x h. h) xs in
-      filter-append (λ x. nat_lt t (tenant_of x)) (before t xs ++ map (made t) ps) (following t xs)
-      ∙ ap (λ l. l ++ following t (following t xs)) (filter-append (λ x. nat_lt t (tenant_of x)) (before t xs) (map (made t) ps))
-      ∙ rw (low, high, made_not_after t ps) refl
-
-  pub put_back_again : (t : ℕ) (ps qs : List P) (xs : List X) → put_back t qs (put_back t ps xs) ≡ put_back t qs xs
-  put_back_again t ps qs xs = ap₂ (λ low high. low ++ map (made t) qs ++ high) (before_again t ps xs) (after_again t ps xs)
-
-  pub made_from_mine : (t : ℕ) (xs : List X) → map (made t) (map part_of (mine t xs)) ≡ mine t xs
+  pub made_from_mine : (t : ℕ) (rs : List (Record K)) → map (made t) (own_part t rs) ≡ mine t rs
   made_from_mine t [] = refl
-  made_from_mine t (x ∷ xs) =
-      let ih = made_from_mine t xs in
-      cond_both (tenant_of x == t) (x ∷ mine t xs) (mine t xs) (λ l. map (made t) (map part_of l) ≡ l)
-      (λ e. ap₂ (λ y ys. y ∷ ys) (ap (λ s. made s (part_of x)) (sym (eqb-true (tenant_of x) t e)) ∙ made_again x) ih) (λ e. ih)
+  made_from_mine t (r ∷ rs) =
+      let ih = made_from_mine t rs in
+      cond_both (r.tenant == t) (r ∷ mine t rs) (mine t rs) (λ l. map (made t) (map part_of l) ≡ l) (λ e. ap₂ (λ s l. s ∷ l) (ap (λ u. made u (part_of r)) (sym (eqb-true r.tenant t e))) ih) (λ e. ih)
 
   -- tenants ascend
-  abbrev pub Ascends : List X → Type 0
-  Ascends xs = InOrder (λ x y. tenant_of x ≤ tenant_of y) xs
+  abbrev pub Ascends : List (Record K) → Type 0
+  Ascends rs = InOrder (λ r s. r.tenant ≤ s.tenant) rs
 
-  pub three_parts : (t : ℕ) (xs : List X) → Ascends xs → before t xs ++ mine t xs ++ following t xs ≡ xs
+  pub tenants_ascend : (Before : Record K → Record K → Type 0) → ((r s : Record K) → Before r s → r.tenant ≤ s.tenant) → (rs : List (Record K)) → InOrder Before rs → Ascends rs
+  tenants_ascend Before step [] h = tt
+  tenants_ascend Before step (r ∷ rs) h = (all_weaker (Before r) (λ s. r.tenant ≤ s.tenant) (step r) rs h.0, tenants_ascend Before step rs h.1)
+
+  three_parts : (t : ℕ) (rs : List (Record K)) → Ascends rs → lower t rs ++ mine t rs ++ higher t rs ≡ rs
   three_parts t [] h = refl
-  three_parts t (x ∷ xs) h = go (nat_lt (tenant_of x) t) (tenant_of x == t) refl refl (three_parts t xs h.1)
+  three_parts t (r ∷ rs) h = elim (cases_order r.tenant t) [
+    | inl same ↦ rw (le-ltb r.tenant t (omega arith), eq-eqb r.tenant t same, le-ltb t r.tenant (omega arith), none_lower (omega arith)) (ap (λ l. r ∷ l) (rw (none_lower (omega arith)) at (three_parts t rs h.1)))
+    | inr (inl low) ↦ rw (lt-ltb r.tenant t low, ne_eqb r.tenant t (λ e. omega arith), le-ltb t r.tenant (omega arith)) (ap (λ l. r ∷ l) (three_parts t rs h.1))
+    | inr (inr high) ↦
+        let none : lower t rs ≡ [] = none_lower (omega arith) in
+        let no_mine : mine t rs ≡ [] = filter_none (λ s. s.tenant == t) rs (all_weaker (λ s. r.tenant ≤ s.tenant) (λ s. (s.tenant == t) ≡ false) (λ s le. ne_eqb s.tenant t (λ k. omega arith)) rs h.0) in
+        rw (le-ltb r.tenant t (omega arith), ne_eqb r.tenant t (λ e. omega arith), lt-ltb t r.tenant high, none, no_mine) (ap (λ l. r ∷ l) (rw (none, no_mine) at (three_parts t rs h.1)))
+  ]
     where
-      go : (a b : Bool) → nat_lt (tenant_of x) t ≡ a → (tenant_of x == t) ≡ b → before t xs ++ mine t xs ++ following t xs ≡ xs
-          → before t (x ∷ xs) ++ mine t (x ∷ xs) ++ following t (x ∷ xs) ≡ x ∷ xs
-      go true b e f ih =
-          let low = ltb-true (tenant_of x) t e in
-          let other : (tenant_of x == t) ≡ false = ne_eqb (tenant_of x) t (λ k. omega arith) in
-          let under : nat_lt t (tenant_of x) ≡ false = le-ltb t (tenant_of x) (omega arith) in
-          rw (e, other, under) (ap (λ l. x ∷ l) ih)
-      go false true e f ih =
-          let same = eqb-true (tenant_of x) t f in
-          let under : nat_lt t (tenant_of x) ≡ false = le-ltb t (tenant_of x) (omega arith) in
-          let none : before t xs ≡ [] = filter_none (λ y. nat_lt (tenant_of y) t) xs (all_weaker (λ y. tenant_of x ≤ tenant_of y) (λ y. nat_lt (tenant_of y) t ≡ false) (λ y le. le-ltb (tenant_of y) t (omega arith)) xs h.0) in
-          rw (e, f, under, none) (ap (λ l. x ∷ l) (rw none at ih))
-      go false false e f ih =
-          let above : t < tenant_of x = elim (cases_lt t (tenant_of x)) [ inl lt ↦ lt | inr ge ↦ elim (cases_lt (tenant_of x) t) [ inl lt ↦ let g = sym (lt-ltb (tenant_of x) t lt) ∙ e in cc | inr le ↦ let g = sym (eq-eqb (tenant_of x) t (omega arith)) ∙ f in cc ] ] in
-          let none : before t xs ≡ [] = filter_none (λ y. nat_lt (tenant_of y) t) xs (all_weaker (λ y. tenant_of x ≤ tenant_of y) (λ y. nat_lt (tenant_of y) t ≡ false) (λ y le. le-ltb (tenant_of y) t (omega arith)) xs h.0) in
-          let no_mine : mine t xs ≡ [] = filter_none (λ y. tenant_of y == t) xs (all_weaker (λ y. tenant_of x ≤ tenant_of y) (λ y. (tenant_of y == t) ≡ false) (λ y le. ne_eqb (tenant_of y) t (λ k. omega arith)) xs h.0) in
-          rw (e, f, lt-ltb t (tenant_of x) above, none, no_mine) (ap (λ l. x ∷ l) (rw (none, no_mine) at ih))
+      none_lower : t ≤ r.tenant → lower t rs ≡ []
+      none_lower ge = filter_none (λ s. nat_lt s.tenant t) rs (all_weaker (λ s. r.tenant ≤ s.tenant) (λ s. nat_lt s.tenant t ≡ false) (λ s le. le-ltb s.tenant t (omega arith)) rs h.0)
 
-  pub in_place : (t : ℕ) (xs : List X) → Ascends xs → put_back t (map part_of (mine t xs)) xs ≡ xs
-  in_place t xs h = rw (made_from_mine t xs) (three_parts t xs h)
+  pub in_place : (t : ℕ) (rs : List (Record K)) → Ascends rs → with_part t (own_part t rs) rs ≡ rs
+  in_place t rs h = rw (made_from_mine t rs) (three_parts t rs h)
 
 abbrev pub key_part : KeyRecord → List ℕ × List ℕ
 key_part r = (r.key, r.value)
 
-abbrev pub key_made : ℕ → List ℕ × List ℕ → KeyRecord
-key_made t p = record { tenant = t; key = p.0; value = p.1 }
-
 abbrev pub number_part : NumberRecord → ℤ × List ℕ
 number_part r = (r.key, r.value)
 
-abbrev pub number_made : ℕ → ℤ × List ℕ → NumberRecord
-number_made t p = record { tenant = t; key = p.0; value = p.1 }
+pub key_ascends : (rs : List KeyRecord) → InOrder KeyComesBefore rs → Ascends rs
+key_ascends = tenants_ascend KeyComesBefore (λ r s b. elim b [ inl lt ↦ omega arith | inr same ↦ let e = same.0 in omega arith ])
+
+pub number_ascends : (rs : List NumberRecord) → InOrder NumberComesBefore rs → Ascends rs
+number_ascends = tenants_ascend NumberComesBefore (λ r s b. elim b [ inl lt ↦ omega arith | inr same ↦ let e = same.0 in omega arith ])
 
 pub own_from : (k k' : List (List ℕ × List ℕ)) (n n' : List (ℤ × List ℕ)) → k ≡ k' → n ≡ n'
     → (let o : Own = record { keys = k; numbers = n } in o) ≡ (let o : Own = record { keys = k'; numbers = n' } in o)
@@ -149,30 +153,15 @@ pub records_from_lists : (k k' : List KeyRecord) (n n' : List NumberRecord) → 
 records_from_lists k k' n n' e f = rw (e, f) refl
 
 pub own_reads_back : OwnReadsBack
-own_reads_back t mine r = own_from _ _ _ _
-    (reads_back (λ (x : KeyRecord). x.tenant) key_part key_made (λ t p. refl) (λ t p. refl) (λ x. refl) t mine.keys r.keys)
-    (reads_back (λ (x : NumberRecord). x.tenant) number_part number_made (λ t p. refl) (λ t p. refl) (λ x. refl) t mine.numbers r.numbers)
+own_reads_back t mine r = own_from _ _ _ _ (reads_back t mine.keys r.keys) (reads_back t mine.numbers r.numbers)
 
 -- what is put in place later counts
 pub with_own_again : (t : ℕ) (first later : Own) (r : Records) → with_own t later (with_own t first r) ≡ with_own t later r
-with_own_again t first later r = records_from_lists _ _ _ _
-    (put_back_again (λ (x : KeyRecord). x.tenant) key_part key_made (λ t p. refl) (λ t p. refl) (λ x. refl) t first.keys later.keys r.keys)
-    (put_back_again (λ (x : NumberRecord). x.tenant) number_part number_made (λ t p. refl) (λ t p. refl) (λ x. refl) t first.numbers later.numbers r.numbers)
+with_own_again t first later r = records_from_lists _ _ _ _ (put_back_again t first.keys later.keys r.keys) (put_back_again t first.numbers later.numbers r.numbers)
 
 pub others_are_untouched : OthersAreUntouched
-others_are_untouched s t mine r apart = own_from _ _ _ _
-    (ap (map key_part) (untouched (λ (x : KeyRecord). x.tenant) key_part key_made (λ t p. refl) (λ t p. refl) (λ x. refl) s t mine.keys r.keys apart))
-    (ap (map number_part) (untouched (λ (x : NumberRecord). x.tenant) number_part number_made (λ t p. refl) (λ t p. refl) (λ x. refl) s t mine.numbers r.numbers apart))
-
-pub key_ascends : (rs : List KeyRecord) → InOrder KeyComesBefore rs → InOrder (λ (x y : KeyRecord). x.tenant ≤ y.tenant) rs
-key_ascends [] h = tt
-key_ascends (r ∷ rs) h = (all_weaker (KeyComesBefore r) (λ s. r.tenant ≤ s.tenant) (λ s b. elim b [ inl lt ↦ omega arith | inr same ↦ let e = same.0 in omega arith ]) rs h.0, key_ascends rs h.1)
-
-pub number_ascends : (rs : List NumberRecord) → InOrder NumberComesBefore rs → InOrder (λ (x y : NumberRecord). x.tenant ≤ y.tenant) rs
-number_ascends [] h = tt
-number_ascends (r ∷ rs) h = (all_weaker (NumberComesBefore r) (λ s. r.tenant ≤ s.tenant) (λ s b. elim b [ inl lt ↦ omega arith | inr same ↦ let e = same.0 in omega arith ]) rs h.0, number_ascends rs h.1)
+others_are_untouched s t mine r apart = own_from _ _ _ _ (untouched s t mine.keys r.keys apart) (untouched s t mine.numbers r.numbers apart)
 
 pub own_is_in_place : OwnIsInPlace
 own_is_in_place t r are = records_from_lists _ _ _ _
-    (in_place (λ (x : KeyRecord). x.tenant) key_part key_made (λ t p. refl) (λ t p. refl) (λ x. refl) t r.keys (key_ascends r.keys are.keys_in_order))
-    (in_place (λ (x : NumberRecord). x.tenant) number_part number_made (λ t p. refl) (λ t p. refl) (λ x. refl) t r.numbers (number_ascends r.numbers are.numbers_in_order))
+    (in_place t r.keys (key_ascends r.keys are.keys_in_order)) (in_place t r.numbers (number_ascends r.numbers are.numbers_in_order))

@@ -1,94 +1,79 @@
--- A list by tenants, cut within one tenant's part.
-use Rattle.std.proofs.Common.{◌≡◌, ℕ, ◌≤◌, List, [], ◌∷◌, ◌++◌, refl, ap, sym, ◌∙◌, Bool, true, false, arith, append-nil, append_assoc}
+-- A list by tenants, of which a test passes all that some tenants have, and of one tenant what passes.
+use Rattle.std.proofs.Common.{◌≡◌, ℕ, List, [], ◌∷◌, ◌++◌, refl, ap, sym, ◌∙◌, Bool, true, false, not, append-nil}
 use Rattle.std.specs.Prelude.{◌==◌, ◌||◌, ◌&&◌, nat_lt, map, filter}
-use Rattle.std.proofs.lemmas.Bool.{ne_eqb, eqb-true, ltb-true, le-ltb, or_left}
+use Rattle.std.specs.List.{AllByRecursion}
+use Rattle.std.proofs.Math.Bool.{and-true, and-false}
+use Rattle.std.proofs.lemmas.Bool.{both_ways, eq-eqb, eqb-true, false_from_ne_true, or_left}
 use Rattle.std.proofs.lemmas.List.{map-append}
-use Rattle.art_engine.proofs.Filters.{All-each, filter-apart, filter-both, filter-same, filter-within, map-filter}
-use Rattle.art_engine.proofs.Dropping.{InOrder-filter}
-use Rattle.art_engine.proofs.OwnLaws.{Ascends, in_place}
+use Rattle.std.proofs.lemmas.List.Elements.{filter-append}
+use Rattle.art_arena.proofs.Common.{all_weaker}
+use Rattle.art_arena.proofs.tree.Filters.{filter_none}
+use Rattle.art_engine.proofs.Filters.{InOrder-filter, filter-both, filter-inside, filter-same, map-filter}
+use Rattle.art_engine.proofs.OwnLaws.{Ascends, higher, higher_other, in_place, lower, lower_other, made, mine, not_both, not_lower, part_of}
+use Rattle.art_engine.proofs.Terms.{Record, own_part, with_part}
 
-module _ {X P : Type 0} (tenant_of : X → ℕ) (part_of : X → P) (t : ℕ) (S : X → Bool) (G : P → Bool) (others : (x : X) → S x ≡ true → (tenant_of x == t) ≡ false) where
-  -- what is of some others, and of the tenant's what passes
-  abbrev pub cut : X → Bool
-  cut x = S x || ((tenant_of x == t) && G (part_of x))
+module _ {K : Type 0} (t : ℕ) (S : ℕ → Bool) (T : Record K → Bool) (G : K → Bool) where
+  -- it passes what tenants have that pass, and of the tenant's own what has a key that passes
+  abbrev pub IsCut : Record K → Type 0
+  IsCut r = T r ≡ (S r.tenant || ((r.tenant == t) && G r.key))
 
-  pub cut_mine : (xs : List X) → map part_of (filter (λ x. tenant_of x == t) (filter cut xs)) ≡ filter G (map part_of (filter (λ x. tenant_of x == t) xs))
-  cut_mine xs =
-      ap (map part_of) (sym (filter-both cut mine xs) ∙ filter-same (λ x. cut x && mine x) passes xs (All-each (λ x. (cut x && mine x) ≡ passes x) cut_is xs) ∙ filter-both mine (λ x. G (part_of x)) xs)
-      ∙ map-filter part_of G (filter mine xs)
+  module _ (others : S t ≡ false) (rs : List (Record K)) (cut : AllByRecursion IsCut rs) where
+    pub own_cut : own_part t (filter T rs) ≡ filter (λ p. G p.0) (own_part t rs)
+    own_cut =
+        ap (map part_of)
+        (sym (filter-both T (λ r. r.tenant == t) rs) ∙ filter-same (λ r. T r && (r.tenant == t)) (λ r. (r.tenant == t) && G r.key) rs
+        (all_weaker IsCut (λ r. (T r && (r.tenant == t)) ≡ ((r.tenant == t) && G r.key)) (λ r. alike r (r.tenant == t) refl) rs cut)
+        ∙ filter-both (λ r. r.tenant == t) (λ r. G r.key) rs)
+        ∙ map-filter part_of (λ p. G p.0) (mine t rs)
+      where
+        alike : (r : Record K) (b : Bool) → (r.tenant == t) ≡ b → T r ≡ (S r.tenant || (b && G r.key)) → (T r && b) ≡ (b && G r.key)
+        alike r true e is = let no : S r.tenant ≡ false = ap S (eqb-true r.tenant t e) ∙ others in and-true (T r) ∙ is ∙ rw no refl
+        alike r false e is = and-false (T r)
+
+    -- of tenants that all pass all is there, and of those that don't nothing
+    pub kept : (q : ℕ → Bool) → ((u : ℕ) → q u ≡ true → S u ≡ true) → filter (λ r. q r.tenant) (filter T rs) ≡ filter (λ r. q r.tenant) rs
+    kept q within = filter-inside (λ r. q r.tenant) T rs (all_weaker IsCut (λ r. q r.tenant ≡ true → T r ≡ true) (λ r is e. is ∙ or_left _ _ (within r.tenant e)) rs cut)
+
+    pub gone : (q : ℕ → Bool) → q t ≡ false → ((u : ℕ) → q u ≡ true → S u ≡ false) → filter (λ r. q r.tenant) (filter T rs) ≡ []
+    gone q not_own apart =
+        sym (filter-both T (λ r. q r.tenant) rs) ∙ filter_none (λ r. T r && q r.tenant) rs (all_weaker IsCut (λ r. (T r && q r.tenant) ≡ false) (λ r. none r (q r.tenant) refl) rs cut)
+      where
+        none : (r : Record K) (b : Bool) → q r.tenant ≡ b → IsCut r → (T r && b) ≡ false
+        none r true e is =
+            let other : (r.tenant == t) ≡ false = false_from_ne_true _ (λ same. both_ways (q t) not_own (sym (ap q (eqb-true r.tenant t same)) ∙ e)) in
+            and-true (T r) ∙ is ∙ rw (apart r.tenant e, other) refl
+        none r false e is = and-false (T r)
+
+module _ {K : Type 0} (t : ℕ) where
+  -- records are told by their parts
+  by_parts : (ps : List (K × List ℕ)) (rs new : List (Record K)) → Ascends new → lower t new ≡ lower t rs → own_part t new ≡ ps → higher t new ≡ higher t rs → new ≡ with_part t ps rs
+  by_parts ps rs new up low own high = sym (in_place t new up) ∙ rw (low, own, high) refl
+
+  -- without those of the tenant that pass, they are what is left with the tenant's others in place
+  pub left_in_place : (T : Record K → Bool) (G : K → Bool) (rs : List (Record K)) → AllByRecursion (IsCut t (λ u. false) T G) rs → Ascends rs
+      → filter (λ r. not (T r)) rs ≡ with_part t (filter (λ p. not (G p.0)) (own_part t rs)) rs
+  left_in_place T G rs cut up =
+      let S : ℕ → Bool = λ u. not (u == t) in
+      let apart : S t ≡ false = ap not (eq-eqb t t refl) in
+      let rest = all_weaker (IsCut t (λ u. false) T G) (IsCut t S (λ r. not (T r)) (λ k. not (G k))) (λ r is. ap not is ∙ turned (r.tenant == t) (G r.key)) rs cut in
+      by_parts _ rs (filter (λ r. not (T r)) rs) (InOrder-filter _ (λ r. not (T r)) rs up)
+      (kept t S (λ r. not (T r)) (λ k. not (G k)) apart rs rest (λ u. nat_lt u t) (λ u e. ap not (lower_other t u e)))
+      (own_cut t S (λ r. not (T r)) (λ k. not (G k)) apart rs rest)
+      (kept t S (λ r. not (T r)) (λ k. not (G k)) apart rs rest (λ u. nat_lt t u) (λ u e. ap not (higher_other t u e)))
     where
-      mine : X → Bool
-      mine x = tenant_of x == t
+      turned : (a b : Bool) → not (a && b) ≡ (not a || (a && not b))
+      turned true b = refl
+      turned false b = refl
 
-      passes : X → Bool
-      passes x = mine x && G (part_of x)
-
-      of_both : (a b c : Bool) → (a ≡ true → b ≡ false) → ((a || (b && c)) && b) ≡ (b && c)
-      of_both true b c other = rw (other refl) refl
-      of_both false true true other = refl
-      of_both a b c other = refl
-
-      cut_is : (x : X) → (cut x && mine x) ≡ passes x
-      cut_is x = of_both (S x) (mine x) (G (part_of x)) (others x)
-
-module _ {X P : Type 0} (tenant_of : X → ℕ) (part_of : X → P) (made : ℕ → P → X)
-    (makes_tenant : (t : ℕ) (p : P) → tenant_of (made t p) ≡ t) (makes_part : (t : ℕ) (p : P) → part_of (made t p) ≡ p)
-    (made_again : (x : X) → made (tenant_of x) (part_of x) ≡ x) (t : ℕ) (xs : List X) (up : Ascends tenant_of part_of made makes_tenant makes_part made_again xs) where
-  abbrev lower : X → Bool
-  lower x = nat_lt (tenant_of x) t
-
-  abbrev higher : X → Bool
-  higher x = nat_lt t (tenant_of x)
-
-  abbrev mine : X → Bool
-  mine x = tenant_of x == t
-
-  pub lower_others : (x : X) → lower x ≡ true → mine x ≡ false
-  lower_others x e = let lt = ltb-true (tenant_of x) t e in ne_eqb (tenant_of x) t (λ k. omega arith)
-
-  pub higher_others : (x : X) → higher x ≡ true → mine x ≡ false
-  higher_others x e = let lt = ltb-true t (tenant_of x) e in ne_eqb (tenant_of x) t (λ k. omega arith)
-
-  whole : (ys : List X) → Ascends tenant_of part_of made makes_tenant makes_part made_again ys → filter lower ys ++ map (made t) (map part_of (filter mine ys)) ++ filter higher ys ≡ ys
-  whole ys h = in_place tenant_of part_of made makes_tenant makes_part made_again t ys h
-
-  module _ (G : P → Bool) where
-    -- the lower tenants, and then of the tenant's own what passes
-    pub cut_below : filter (cut tenant_of part_of t lower G lower_others) xs ≡ filter lower xs ++ map (made t) (filter G (map part_of (filter mine xs)))
-    cut_below =
-        let test : X → Bool = cut tenant_of part_of t lower G lower_others in
-        let ys : List X = filter test xs in
-        let low : filter lower ys ≡ filter lower xs = filter-within lower test (λ x e. or_left _ _ e) xs in
-        let high : filter higher ys ≡ [] = filter-apart higher test (λ x e. not_higher x (lower x) (mine x) (G (part_of x)) refl refl e) xs in
-        sym (whole ys (InOrder-filter (λ x y. tenant_of x ≤ tenant_of y) test xs up))
-        ∙ rw (low, high, cut_mine tenant_of part_of t lower G lower_others xs) (append-nil (filter lower xs ++ map (made t) (filter G (map part_of (filter mine xs)))))
-      where
-        not_higher : (x : X) (a b c : Bool) → lower x ≡ a → mine x ≡ b → (a || (b && c)) ≡ true → higher x ≡ false
-        not_higher x true b c e f h = let lt = ltb-true (tenant_of x) t e in le-ltb t (tenant_of x) (omega arith)
-        not_higher x false true c e f h = let same = eqb-true (tenant_of x) t f in le-ltb t (tenant_of x) (omega arith)
-        not_higher x false false c e f h = cc
-
-    -- of the tenant's own what passes, and then the higher tenants
-    pub cut_above : filter (cut tenant_of part_of t higher G higher_others) xs ≡ map (made t) (filter G (map part_of (filter mine xs))) ++ filter higher xs
-    cut_above =
-        let test : X → Bool = cut tenant_of part_of t higher G higher_others in
-        let ys : List X = filter test xs in
-        let high : filter higher ys ≡ filter higher xs = filter-within higher test (λ x e. or_left _ _ e) xs in
-        let low : filter lower ys ≡ [] = filter-apart lower test (λ x e. not_lower x (higher x) (mine x) (G (part_of x)) refl refl e) xs in
-        sym (whole ys (InOrder-filter (λ x y. tenant_of x ≤ tenant_of y) test xs up))
-        ∙ rw (low, high, cut_mine tenant_of part_of t higher G higher_others xs) refl
-      where
-        not_lower : (x : X) (a b c : Bool) → higher x ≡ a → mine x ≡ b → (a || (b && c)) ≡ true → lower x ≡ false
-        not_lower x true b c e f h = let lt = ltb-true t (tenant_of x) e in le-ltb (tenant_of x) t (omega arith)
-        not_lower x false true c e f h = let same = eqb-true (tenant_of x) t f in le-ltb (tenant_of x) t (omega arith)
-        not_lower x false false c e f h = cc
-
-  -- so one more part between what of the tenant's own is below it and what is above it
-  pub cut_put : (G H : P → Bool) (p : P)
-      → filter (cut tenant_of part_of t lower G lower_others) xs ++ made t p ∷ filter (cut tenant_of part_of t higher H higher_others) xs
-      ≡ filter lower xs ++ map (made t) (filter G (map part_of (filter mine xs)) ++ p ∷ filter H (map part_of (filter mine xs))) ++ filter higher xs
-  cut_put G H p =
-      let A : List P = filter G (map part_of (filter mine xs)) in let B : List P = filter H (map part_of (filter mine xs)) in
-      rw (cut_below G, cut_above H, map-append (made t) A (p ∷ B))
-      (sym (ap (λ l. l ++ filter higher xs) (sym (append_assoc (filter lower xs) (map (made t) A) (made t p ∷ map (made t) B)))
-      ∙ append_assoc (filter lower xs ++ map (made t) A) (made t p ∷ map (made t) B) (filter higher xs)))
+  -- one more part between what of the tenant's own is below it and what is above it
+  module _ (T U : Record K → Bool) (G H : K → Bool) (rs : List (Record K)) (below : AllByRecursion (IsCut t (λ u. nat_lt u t) T G) rs) (above : AllByRecursion (IsCut t (λ u. nat_lt t u) U H) rs) where
+    pub put_in_place : (p : K × List ℕ) → Ascends (filter T rs ++ made t p ∷ filter U rs)
+        → filter T rs ++ made t p ∷ filter U rs ≡ with_part t (filter (λ q. G q.0) (own_part t rs) ++ p ∷ filter (λ q. H q.0) (own_part t rs)) rs
+    put_in_place p up =
+        let A : List (Record K) = filter T rs in let B : List (Record K) = filter U rs in let no = not_lower t in
+        let mine_is : (t == t) ≡ true = eq-eqb t t refl in
+        by_parts _ rs (A ++ made t p ∷ B) up
+        (filter-append (λ r. nat_lt r.tenant t) A (made t p ∷ B) ∙ rw (no, kept t (λ u. nat_lt u t) T G no rs below (λ u. nat_lt u t) (λ u e. e), gone t (λ u. nat_lt t u) U H no rs above (λ u. nat_lt u t) no (λ u. not_both u t)) (append-nil (lower t rs)))
+        (ap (map part_of) (filter-append (λ r. r.tenant == t) A (made t p ∷ B)) ∙ map-append part_of (mine t A) (mine t (made t p ∷ B))
+        ∙ rw (mine_is, own_cut t (λ u. nat_lt u t) T G no rs below, own_cut t (λ u. nat_lt t u) U H no rs above) refl)
+        (filter-append (λ r. nat_lt t r.tenant) A (made t p ∷ B) ∙ rw (no, gone t (λ u. nat_lt u t) T G no rs below (λ u. nat_lt t u) no (λ u. not_both t u), kept t (λ u. nat_lt t u) U H no rs above (λ u. nat_lt t u) (λ u e. e)) refl)

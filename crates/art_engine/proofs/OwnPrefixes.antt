@@ -1,47 +1,35 @@
 -- What a tenant holds is what the two maps have under its prefix.
-use Rattle.std.proofs.Common.{◌≡◌, ℕ, ℤ, ◌^◌, ◌<◌, List, [], ◌∷◌, drop, refl, ap, ◌∙◌}
+use Rattle.std.proofs.Common.{◌≡◌, ℕ, ◌^◌, ◌<◌, List, [], drop, refl, ap, sym, ◌∙◌, Bool, true, false}
 use Rattle.std.specs.Prelude.{◌==◌, map}
 use Rattle.std.specs.List.{AllByRecursion}
-use Rattle.art_bytes.proofs.Common.{big_endian, flipped}
-use Rattle.std.specs.Int.{w64}
-use Rattle.art_arena.proofs.Common.{begins_with, all_weaker}
-use Rattle.art_lines.proofs.Common.{full_key}
-use Rattle.art_engine.proofs.Terms.{number_of_bytes, NumberPair, Pair, record_of, number_record_of, IsFull, IsOfTenant, OwnIsUnderPrefix}
-use Rattle.art_engine.proofs.Filters.{All-each, filter-alike}
-use Rattle.art_engine.proofs.FullTests.{begins_full}
 use Rattle.std.proofs.Math.Bool.{and-true}
-use Rattle.art_engine.proofs.NumberPlaces.{StandsUnder, stand_all}
-use Rattle.art_engine.proofs.OwnLaws.{key_part, number_part, own_from}
+use Rattle.art_arena.proofs.Common.{all_weaker, begins_with, with_front}
+use Rattle.art_lines.proofs.Common.{full_key}
+use Rattle.art_engine.proofs.Filters.{All-each, filter-mapped, map-alike}
+use Rattle.art_engine.proofs.FullTests.{begins_full}
+use Rattle.art_engine.proofs.KeyKinds.{bytes_of, keys_stand, number_bytes, numbers_stand, under_keys, under_numbers}
+use Rattle.art_engine.proofs.OwnLaws.{mine, own_from, part_of}
+use Rattle.art_engine.proofs.TenantKeys.{Held, IsTest, Kind, Stands, key_in, record_in}
+use Rattle.art_engine.proofs.Terms.{number_of_bytes, own_part, OwnIsUnderPrefix, Record}
 
--- a full key begins with a tenant's front where it is that tenant's
-pub begin_keys : (t : ℕ) → t < 2 ^ 32 → (ps : List Pair) → AllByRecursion IsFull ps → AllByRecursion IsOfTenant (map record_of ps)
-    → AllByRecursion (λ p. begins_with (full_key t []) p.0.items ≡ ((record_of p).tenant == t)) ps
-begin_keys t small [] full fits = tt
-begin_keys t small (p ∷ ps) full fits =
-    let r = record_of p in
-    (ap (begins_with (full_key t [])) full.0 ∙ begins_full t r.tenant [] r.key small fits.0 ∙ and-true (r.tenant == t), begin_keys t small ps full.1 fits.1)
+module _ {K M : Type 0} {bytes : M → List ℕ} {rest : K → List ℕ} {back : List ℕ → K} {Fits : K → Type 0} {lt same : K → K → Bool} {Before : Record K → Record K → Type 0}
+    (kind : Kind bytes rest back Fits lt same Before) (t : ℕ) (small : t < 2 ^ 32) where
+  pub front_tests : IsTest kind t (λ u. false) (begins_with (full_key t [])) (λ k. true)
+  front_tests u k s f = begins_full t u [] (rest k) small s
 
--- and so do the bytes of a number
-pub begin_numbers : (t : ℕ) → t < 2 ^ 32 → (ns : List NumberPair) → AllByRecursion StandsUnder ns
-    → AllByRecursion (λ p. begins_with (full_key t []) p.0 ≡ ((number_record_of p).tenant == t)) ns
-begin_numbers t small ns stand = all_weaker StandsUnder (λ p. begins_with (full_key t []) p.0 ≡ ((number_record_of p).tenant == t)) begins ns stand
-  where
-    begins : (p : NumberPair) → StandsUnder p → begins_with (full_key t []) p.0 ≡ ((number_record_of p).tenant == t)
-    begins p under =
-        let r = number_record_of p in
-        ap (begins_with (full_key t [])) under.key ∙ begins_full t r.tenant [] (big_endian 8 (flipped w64 r.key)) small under.fits.0 ∙ and-true (r.tenant == t)
+  -- a tenant's records are those of the pairs that begin with its front
+  pub own_front : (ps : List (Held kind)) → AllByRecursion (Stands kind) ps → map (record_in kind) (with_front (key_in kind) (full_key t []) ps) ≡ mine t (map (record_in kind) ps)
+  own_front ps stand =
+      filter-mapped (record_in kind) (λ p. begins_with (full_key t []) (key_in kind p)) (λ r. r.tenant == t) ps
+      (all_weaker (Stands kind) (λ p. begins_with (full_key t []) (key_in kind p) ≡ ((record_in kind p).tenant == t))
+      (λ p s. ap (begins_with (full_key t [])) s.key ∙ front_tests (record_in kind p).tenant (record_in kind p).key s.fits.0 s.fits.1 ∙ and-true ((record_in kind p).tenant == t)) ps stand)
 
-abbrev key_cut_off : Pair → List ℕ × List ℕ
-key_cut_off p = (drop 4 p.0.items, p.1.items)
-
-abbrev number_cut_off : NumberPair → ℤ × List ℕ
-number_cut_off p = (number_of_bytes (drop 4 p.0), p.1.items)
+  own_is : (ps : List (Held kind)) → AllByRecursion (Stands kind) ps
+      → own_part t (map (record_in kind) ps) ≡ map (λ p. (back (drop 4 (bytes p.0)), p.1.items)) (with_front (key_in kind) (full_key t []) ps)
+  own_is ps stand =
+      ap (map part_of) (sym (own_front ps stand))
+      ∙ map-alike part_of (record_in kind) (λ p. (back (drop 4 (bytes p.0)), p.1.items)) (with_front (key_in kind) (full_key t []) ps) (All-each _ (λ p. refl) (with_front (key_in kind) (full_key t []) ps))
 
 pub own_is_under_prefix : OwnIsUnderPrefix
 own_is_under_prefix t ps ns small are_keys are_numbers =
-    let stand = stand_all ns are_numbers.stand are_numbers.fit in
-    own_from _ _ _ _
-    (filter-alike key_part record_of key_cut_off (λ p. begins_with (full_key t []) p.0.items) (λ r. r.tenant == t) ps
-    (begin_keys t small ps are_keys.full are_keys.tenants) (All-each (λ p. key_part (record_of p) ≡ key_cut_off p) (λ p. refl) ps))
-    (filter-alike number_part number_record_of number_cut_off (λ p. begins_with (full_key t []) p.0) (λ r. r.tenant == t) ns
-    (begin_numbers t small ns stand) (All-each (λ p. number_part (number_record_of p) ≡ number_cut_off p) (λ p. refl) ns))
+    own_from _ _ _ _ (own_is under_keys t small ps (keys_stand ps are_keys.full are_keys.tenants)) (own_is under_numbers t small ns (numbers_stand ns are_numbers.stand are_numbers.fit))

@@ -1,29 +1,28 @@
 -- The lines of a dump, carried out from no records: what they are answered, and what they leave.
-use Rattle.std.proofs.Common.{◌≡◌, ℕ, ℤ, ◌+◌, List, [], ◌∷◌, ◌++◌, length, map, refl, ap, ap₂, sym, ◌∙◌, subst, Bool, true, false, cond, arith, append-nil, append_assoc, inl, inr, Option, Some, None}
+use Rattle.std.proofs.Common.{◌≡◌, ℕ, ℤ, ◌+◌, ◌<◌, ◌⊎◌, List, [], ◌∷◌, ◌++◌, length, map, refl, ap, ap₂, sym, ◌∙◌, subst, Bool, true, false, cond, arith, append-nil, append_assoc, inl, inr, Option, Some, None}
 use Rattle.std.specs.Prelude.{◌==◌, ◌||◌, ◌&&◌, nat_lt, int_lt, filter, flat_map, replicate, codes, IsTrue, option_map}
 use Rattle.std.specs.List.{AllByRecursion, fold}
 use Rattle.std.specs.Ordering.{int_eq}
 use Rattle.std.specs.declared.cmp.Ordering.TheVariants.{Less}
-use Rattle.std.proofs.lemmas.Bool.{cond_both, eq-eqb, ne_eqb, eqb-true, lt-ltb, le-ltb}
+use Rattle.std.proofs.Math.Bool.{or_comm}
+use Rattle.std.proofs.lemmas.Bool.{both_ways, cond_both, eq-eqb, ne_eqb, eqb-true, lt-ltb, le-ltb}
 use Rattle.std.proofs.lemmas.Grind.{flat_map-append}
 use Rattle.std.proofs.lemmas.List.{map-append, replicate-append-replicate}
-use Rattle.art_bytes.proofs.Common.{conflicts, is_below}
+use Rattle.art_bytes.proofs.Common.{conflicts, is_below, is_proper_front}
 use Rattle.art_lines.proofs.Common.{lines_of, name, text_of, line_of, put, nput, Command, of_tenant, put_reply, end_words}
 use Rattle.art_lines.specs.Words.{Word}
 use Rattle.art_lines.specs.Reading.{command_of}
-use Rattle.art_engine.proofs.Terms.{Own, KeyRecord, NumberRecord, Records, no_records, own, with_own, InOrder, KeyComesBefore, NumberComesBefore, KeyFits, NumberFits, AreRecords, value_at, has_conflict, with_pair, puts, command_reply, command_after, with_changed, key_lines, number_lines}
+use Rattle.art_engine.proofs.Terms.{Own, KeyRecord, NumberRecord, Record, Records, no_records, own, own_part, with_own, with_part, InOrder, KeyComesBefore, NumberComesBefore, KeyFits, NumberFits, AreRecords, value_at, has_conflict, with_pair, puts, command_reply, command_after, with_changed, key_lines, number_lines}
 use Rattle.art_engine.proofs.Terms.{dump_of, answers, reply_to, records_after, dump_text, DumpsTellRecords, DumpsAreReadBack}
-use Rattle.art_engine.proofs.Dropping.{IsOwnTest, own_find}
 use Rattle.art_engine.proofs.Dumping.{words_put, words_nput}
 use Rattle.art_engine.proofs.DumpTexts.{put_spelled, nput_spelled, end_spelled, put_lines, nput_lines, end_line, OneLine, lines_are}
-use Rattle.art_engine.proofs.Filters.{All-each}
+use Rattle.art_engine.proofs.Filters.{All-each, InOrder-before, InOrder-left, find-first, first}
 use Rattle.art_arena.proofs.tree.Filters.{filter_all, filter_none}
-use Rattle.art_arena.proofs.Common.{all_weaker, all_append}
-use Rattle.art_engine.proofs.OwnLaws.{key_part, key_made, key_ascends, number_part, number_made, number_ascends, in_place, records_from_lists}
+use Rattle.art_arena.proofs.Common.{all_weaker, all_append, other_key}
+use Rattle.art_engine.proofs.OwnLaws.{Ascends, key_part, key_ascends, in_place, records_from_lists, tenants_ascend}
 use Rattle.art_engine.proofs.NumberKeys.{int_lt_turned}
-use Rattle.art_engine.proofs.OwnParts.{cut_put}
-use Rattle.art_engine.proofs.Putting.{pairs_of_tenant, value_in_gap, records_put, find-none, conflicts_back, InOrder-left, InOrder-before}
-use Rattle.art_engine.proofs.Standing.{AllBefore, stands_to, stands_before}
+use Rattle.art_engine.proofs.OwnParts.{own_cut, put_in_place}
+use Rattle.art_engine.proofs.KeyOrder.{not_below_itself, not_both_below}
 use Rattle.std.specs.Str.{bytes_eq}
 
 -- what lines are answered, and what they leave, where each finds memory
@@ -56,19 +55,59 @@ after_by r line o e = ap (λ x. command_after x r) e
 abbrev new_line : List ℕ
 new_line = line_of (name (codes "new") ∷ [])
 
+-- a put after all others finds nothing at its key, and leaves the new record last
+module _ {K : Type 0} (lt same : K → K → Bool) (Before : Record K → Record K → Type 0)
+    (steps : (r s : Record K) → Before r s → (r.tenant < s.tenant) ⊎ ((r.tenant ≡ s.tenant) × (lt r.key s.key ≡ true)))
+    (turned : (j k : K) → lt j k ≡ true → lt k j ≡ false) (differ : (j k : K) → lt j k ≡ true → same j k ≡ false)
+    (fs : List (Record K)) (x : Record K) (order : InOrder Before (fs ++ x ∷ [])) where
+  abbrev is_lower : Record K → Bool
+  is_lower r = nat_lt r.tenant x.tenant || ((r.tenant == x.tenant) && lt r.key x.key)
+
+  abbrev is_higher : Record K → Bool
+  is_higher r = nat_lt x.tenant r.tenant || ((r.tenant == x.tenant) && lt x.key r.key)
+
+  abbrev is_same : Record K → Bool
+  is_same r = (r.tenant == x.tenant) && same r.key x.key
+
+  stands : (r : Record K) → Before r x → (is_lower r ≡ true) × (is_higher r ≡ false) × (is_same r ≡ false)
+  stands r b = elim (steps r x b) [
+    | inl low ↦ rw (lt-ltb r.tenant x.tenant low, le-ltb x.tenant r.tenant (omega arith), ne_eqb r.tenant x.tenant (λ e. omega arith)) (refl, refl, refl)
+    | inr up ↦
+        let e = up.0 in
+        rw (le-ltb r.tenant x.tenant (omega arith), le-ltb x.tenant r.tenant (omega arith), eq-eqb r.tenant x.tenant e) (up.1, turned r.key x.key up.1, differ r.key x.key up.1)
+  ]
+
+  befores : AllByRecursion (λ r. Before r x) fs
+  befores = InOrder-before Before fs [] x order
+
+  nothing_there : value_at same x.key (own_part x.tenant fs) ≡ None
+  nothing_there =
+      ap (option_map (λ p. p.1))
+      (find-first (λ p. same p.0 x.key) (own_part x.tenant fs)
+      ∙ ap first (sym (own_cut x.tenant (λ u. false) is_same (λ k. same k x.key) refl fs (All-each _ (λ r. refl) fs))
+      ∙ ap (own_part x.tenant) (filter_none is_same fs (all_weaker (λ r. Before r x) (λ r. is_same r ≡ false) (λ r b. (stands r b).2) fs befores))))
+
+  put_last : with_part x.tenant (with_pair lt x.key x.value (own_part x.tenant fs)) fs ≡ fs ++ x ∷ []
+  put_last =
+      let all : filter is_lower fs ++ x ∷ filter is_higher fs ≡ fs ++ x ∷ [] =
+      ap₂ (λ a b. a ++ x ∷ b) (filter_all is_lower fs (all_weaker (λ r. Before r x) (λ r. is_lower r ≡ true) (λ r b. (stands r b).0) fs befores))
+      (filter_none is_higher fs (all_weaker (λ r. Before r x) (λ r. is_higher r ≡ false) (λ r b. (stands r b).1) fs befores)) in
+      let up = tenants_ascend Before (λ r s b. elim (steps r s b) [ inl low ↦ omega arith | inr up ↦ let e = up.0 in omega arith ]) (fs ++ x ∷ []) order in
+      sym (put_in_place x.tenant is_lower is_higher (λ k. lt k x.key) (λ k. lt x.key k) fs (All-each _ (λ r. refl) fs) (All-each _ (λ r. refl) fs) (x.key, x.value) (subst Ascends (sym all) up)) ∙ all
+
 -- a put of a key after all others
+key_steps : (r s : KeyRecord) → KeyComesBefore r s → (r.tenant < s.tenant) ⊎ ((r.tenant ≡ s.tenant) × (is_below r.key s.key ≡ true))
+key_steps r s (inl low) = inl low
+key_steps r s (inr up) = inr (up.0, up.1)
+
+keys_differ : (j k : List ℕ) → is_below j k ≡ true → bytes_eq j k ≡ false
+keys_differ j k h = other_key j k (λ e. both_ways _ (not_below_itself k) (subst (λ l. is_below l k ≡ true) e h))
+
 module _ (fs : List KeyRecord) (x : KeyRecord) (order : InOrder KeyComesBefore (fs ++ x ∷ [])) where
-  befores : AllByRecursion (λ r. KeyComesBefore r x) fs
-  befores = InOrder-before KeyComesBefore fs [] x order
+  absent : value_at bytes_eq x.key (own_part x.tenant fs) ≡ None
+  absent = nothing_there is_below bytes_eq KeyComesBefore key_steps not_both_below keys_differ fs x order
 
-  low : AllBefore x.tenant x.key fs
-  low = all_weaker (λ r. KeyComesBefore r x) (λ r. stands_to x.tenant x.key r ≡ Less) step fs befores
-    where
-      step : (r : KeyRecord) → KeyComesBefore r x → stands_to x.tenant x.key r ≡ Less
-      step r (inl lt) = stands_before x.tenant x.key r (inl lt)
-      step r (inr up) = stands_before x.tenant x.key r (inr (up.0, up.1))
-
-  free : (rs : List KeyRecord) → AllByRecursion (λ r. KeyComesBefore r x) rs → has_conflict x.key (pairs_of_tenant x.tenant rs) ≡ false
+  free : (rs : List KeyRecord) → AllByRecursion (λ r. KeyComesBefore r x) rs → has_conflict x.key (own_part x.tenant rs) ≡ false
   free [] h = refl
   free (r ∷ rs) h =
       let ih = free rs h.1 in
@@ -77,15 +116,15 @@ module _ (fs : List KeyRecord) (x : KeyRecord) (order : InOrder KeyComesBefore (
     where
       apart : KeyComesBefore r x → r.tenant ≡ x.tenant → conflicts x.key r.key ≡ false
       apart (inl lt) e = absurd (omega arith)
-      apart (inr up) e = conflicts_back r.key x.key up.2
+      apart (inr up) e = or_comm (is_proper_front x.key r.key) (is_proper_front r.key x.key) ∙ up.2
 
-  absent : value_at bytes_eq x.key (pairs_of_tenant x.tenant fs) ≡ None
-  absent = ap (λ l. value_at bytes_eq x.key (pairs_of_tenant x.tenant l)) (sym (append-nil fs)) ∙ value_in_gap x.tenant x.key fs [] low tt
+  conflict_free : has_conflict x.key (own_part x.tenant fs) ≡ false
+  conflict_free = free fs (InOrder-before KeyComesBefore fs [] x order)
 
   key_new : KeyFits x → reply_to (record { keys = fs; numbers = [] }) (text_of (words_put x)) ≡ new_line
   key_new fits =
       reply_by (record { keys = fs; numbers = [] }) (text_of (words_put x)) (Some (of_tenant x.tenant (put x.key x.value))) (put_spelled x fits)
-      ∙ ap₂ (λ o c. line_of (put_reply o c) ++ []) absent (free fs befores) ∙ append-nil new_line
+      ∙ ap₂ (λ o c. line_of (put_reply o c) ++ []) absent conflict_free ∙ append-nil new_line
 
   changed : (o : Option (List ℕ)) (c : Bool) (mine : Own) (r : Records) → o ≡ None → c ≡ false → with_changed x.tenant (cond (puts o c) (Some mine) None) r ≡ with_own x.tenant mine r
   changed o c mine r e f = rw (e, f) refl
@@ -95,11 +134,8 @@ module _ (fs : List KeyRecord) (x : KeyRecord) (order : InOrder KeyComesBefore (
       let old : Records = record { keys = fs; numbers = [] } in
       after_by old (text_of (words_put x)) (Some (of_tenant x.tenant (put x.key x.value))) (put_spelled x fits)
       ∙ changed (value_at bytes_eq x.key (own x.tenant old).keys) (has_conflict x.key (own x.tenant old).keys)
-      (record { keys = with_pair is_below x.key x.value (own x.tenant old).keys; numbers = (own x.tenant old).numbers }) old absent (free fs befores)
-      ∙ records_from_lists _ _ _ _
-      (ap (λ l. filter (λ r. nat_lt r.tenant x.tenant) l ++ map (key_made x.tenant) (with_pair is_below x.key x.value (pairs_of_tenant x.tenant l)) ++ filter (λ r. nat_lt x.tenant r.tenant) l) (sym (append-nil fs))
-      ∙ records_put x.tenant x.key x.value fs [] [] (subst (InOrder KeyComesBefore) (sym (append-nil fs)) (InOrder-left KeyComesBefore fs (x ∷ []) order)) low tt tt)
-      refl
+      (record { keys = with_pair is_below x.key x.value (own x.tenant old).keys; numbers = (own x.tenant old).numbers }) old absent conflict_free
+      ∙ records_from_lists _ _ _ _ (put_last is_below bytes_eq KeyComesBefore key_steps not_both_below keys_differ fs x order) refl
 
 -- so of all, where the lines of the records after some are each answered `new` and put one more in
 module _ {X : Type 0} (words : X → List Word) (held : List X → Records) (Before : X → X → Type 0) (Fits : X → Type 0)
@@ -119,47 +155,19 @@ module _ {X : Type 0} (words : X → List Word) (held : List X → Records) (Bef
       )
 
 -- a put at a number after all others
+numbers_differ : (m n : ℤ) → int_lt m n ≡ true → int_eq m n ≡ false
+numbers_differ m n h = rw h refl
+
 module _ (ks : List KeyRecord) (keys_order : InOrder KeyComesBefore ks) (fs : List NumberRecord) (x : NumberRecord) (order : InOrder NumberComesBefore (fs ++ x ∷ [])) where
-  all_before : AllByRecursion (λ r. NumberComesBefore r x) fs
-  all_before = InOrder-before NumberComesBefore fs [] x order
-
-  is_lower : (r : NumberRecord) → NumberComesBefore r x → (nat_lt r.tenant x.tenant || ((r.tenant == x.tenant) && int_lt r.key x.key)) ≡ true
-  is_lower r (inl lt) = rw (lt-ltb r.tenant x.tenant lt) refl
-  is_lower r (inr up) = let e = up.0 in rw (le-ltb r.tenant x.tenant (omega arith), eq-eqb r.tenant x.tenant e) up.1
-
-  not_higher : (r : NumberRecord) → NumberComesBefore r x → (nat_lt x.tenant r.tenant || ((r.tenant == x.tenant) && int_lt x.key r.key)) ≡ false
-  not_higher r (inl lt) = rw (le-ltb x.tenant r.tenant (omega arith), ne_eqb r.tenant x.tenant (λ e. omega arith)) refl
-  not_higher r (inr up) = let e = up.0 in rw (le-ltb x.tenant r.tenant (omega arith), eq-eqb r.tenant x.tenant e) (int_lt_turned r.key x.key up.1)
-
-  not_same : (r : NumberRecord) → NumberComesBefore r x → ((r.tenant == x.tenant) && int_eq r.key x.key) ≡ false
-  not_same r (inl lt) = rw (ne_eqb r.tenant x.tenant (λ e. omega arith)) refl
-  not_same r (inr up) = let e = up.0 in rw (eq-eqb r.tenant x.tenant e) (differ r.key x.key up.1)
-    where
-      differ : (m n : ℤ) → IsTrue (int_lt m n) → int_eq m n ≡ false
-      differ m n h = rw h refl
-
-  none_there : value_at int_eq x.key (map number_part (filter (λ r. r.tenant == x.tenant) fs)) ≡ None
-  none_there =
-      let Q : NumberRecord → Bool = λ r. (r.tenant == x.tenant) && int_eq r.key x.key in
-      ap (option_map (λ (p : ℤ × List ℕ). p.1))
-      (sym (own_find (λ (r : NumberRecord). r.tenant) number_part x.tenant Q (λ p. int_eq p.0 x.key) fs (All-each (IsOwnTest (λ (r : NumberRecord). r.tenant) number_part x.tenant Q (λ p. int_eq p.0 x.key)) (λ r. refl) fs))
-      ∙ ap (option_map number_part) (find-none Q fs (all_weaker (λ r. NumberComesBefore r x) (λ r. Q r ≡ false) not_same fs all_before)))
-
   number_new : NumberFits x → reply_to (record { keys = ks; numbers = fs }) (text_of (words_nput x)) ≡ new_line
   number_new fits =
       reply_by (record { keys = ks; numbers = fs }) (text_of (words_nput x)) (Some (of_tenant x.tenant (nput x.key x.value))) (nput_spelled x fits)
-      ∙ ap (λ o. line_of (put_reply o false) ++ []) none_there ∙ append-nil new_line
+      ∙ ap (λ o. line_of (put_reply o false) ++ []) (nothing_there int_lt int_eq NumberComesBefore (λ r s b. b) int_lt_turned numbers_differ fs x order) ∙ append-nil new_line
 
   number_put : NumberFits x → records_after (record { keys = ks; numbers = fs }) (text_of (words_nput x)) ≡ (let r : Records = record { keys = ks; numbers = fs ++ x ∷ [] } in r)
   number_put fits =
       after_by (record { keys = ks; numbers = fs }) (text_of (words_nput x)) (Some (of_tenant x.tenant (nput x.key x.value))) (nput_spelled x fits)
-      ∙ records_from_lists _ _ _ _
-      (in_place (λ (x : KeyRecord). x.tenant) key_part key_made (λ t p. refl) (λ t p. refl) (λ x. refl) x.tenant ks (key_ascends ks keys_order))
-      (sym (cut_put (λ (r : NumberRecord). r.tenant) number_part number_made (λ t p. refl) (λ t p. refl) (λ x. refl) x.tenant fs
-      (number_ascends fs (InOrder-left NumberComesBefore fs (x ∷ []) order)) (λ p. int_lt p.0 x.key) (λ p. int_lt x.key p.0) (x.key, x.value))
-      ∙ ap₂ (λ a b. a ++ x ∷ b)
-      (filter_all (λ r. nat_lt r.tenant x.tenant || ((r.tenant == x.tenant) && int_lt r.key x.key)) fs (all_weaker (λ r. NumberComesBefore r x) (λ r. (nat_lt r.tenant x.tenant || ((r.tenant == x.tenant) && int_lt r.key x.key)) ≡ true) is_lower fs all_before))
-      (filter_none (λ r. nat_lt x.tenant r.tenant || ((r.tenant == x.tenant) && int_lt x.key r.key)) fs (all_weaker (λ r. NumberComesBefore r x) (λ r. (nat_lt x.tenant r.tenant || ((r.tenant == x.tenant) && int_lt x.key r.key)) ≡ false) not_higher fs all_before)))
+      ∙ records_from_lists _ _ _ _ (in_place x.tenant ks (key_ascends ks keys_order)) (put_last int_lt int_eq NumberComesBefore (λ r s b. b) int_lt_turned numbers_differ fs x order)
 
 -- the end is bad
 end_reply : (r : Records) (n : ℕ) → reply_to r (text_of (end_words n)) ≡ line_of (name (codes "bad") ∷ []) ++ []

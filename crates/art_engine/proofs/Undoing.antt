@@ -1,5 +1,5 @@
 -- A value that is put in where none was, and is then taken out, leaves the records as they were.
-use Rattle.art_engine.proofs.Terms.{PutsAreUndone, NumberPutsAreUndone, Own, KeyRecord, NumberRecord, InOrder, KeyComesBefore, NumberComesBefore, own, with_own, puts, value_at, has_conflict, with_pair, without_at, with_changed, command_after}
+use Rattle.art_engine.proofs.Terms.{PutsAreUndone, NumberPutsAreUndone, AreRecords, Own, Record, Records, KeyRecord, NumberRecord, InOrder, KeyComesBefore, NumberComesBefore, own, own_part, with_own, puts, value_at, has_conflict, with_pair, without_at, with_changed, command_after}
 use Rattle.std.proofs.Common.{◌≡◌, ℕ, ℤ, List, [], ◌∷◌, ◌++◌, Option, Some, None, refl, ap, ap₂, sym, ◌∙◌, Bool, true, false, arith, inl, inr, true≢false}
 use Rattle.std.specs.Prelude.{◌==◌, int_lt, map, filter, not, option_map, codes, if◌then◌else◌}
 use Rattle.std.specs.List.{AllByRecursion, find}
@@ -18,29 +18,28 @@ use Rattle.art_lines.proofs.Common.{name, put, del, of_tenant, put_reply}
 use Rattle.art_arena.proofs.tree.Filters.{filter_all, filter_none}
 use Rattle.art_walks.proofs.Common.{all-filter}
 use Rattle.art_arena.proofs.Common.{all_weaker}
-use Rattle.art_engine.proofs.OwnLaws.{own_reads_back, own_is_in_place, with_own_again, key_part, number_part}
-use Rattle.art_engine.proofs.Standing.{cmp_equal, cmp_greater, below_trans, not_both_below}
+use Rattle.art_engine.proofs.OwnLaws.{mine, own_from, own_reads_back, own_is_in_place, part_of, with_own_again}
+use Rattle.art_engine.proofs.KeyOrder.{cmp_equal, cmp_greater, below_trans, not_both_below}
 use Rattle.art_engine.proofs.NumberKeys.{lt-int_cmp, int_lt_turned}
 
 -- what a tenant holds is in order where all records are
-module _ {X P : Type 0} (tenant_of : X → ℕ) (part_of : X → P) (Before : X → X → Type 0) (Comes : P → P → Type 0)
-    (own_comes : (x y : X) → Before x y → tenant_of x ≡ tenant_of y → Comes (part_of x) (part_of y)) where
-  abbrev parts : ℕ → List X → List P
-  parts t xs = map part_of (filter (λ x. tenant_of x == t) xs)
+module _ {K : Type 0} (Before : Record K → Record K → Type 0) (lt : K → K → Bool) (own_comes : (r s : Record K) → Before r s → r.tenant ≡ s.tenant → lt r.key s.key ≡ true) (t : ℕ) where
+  all_after : (r : Record K) (rs : List (Record K)) → r.tenant ≡ t → AllByRecursion (Before r) rs → AllByRecursion (λ p. lt r.key p.0 ≡ true) (own_part t rs)
+  all_after r [] is all = tt
+  all_after r (s ∷ rs) is all =
+      let ih = all_after r rs is all.1 in
+      cond_both (s.tenant == t) (s ∷ mine t rs) (mine t rs) (λ l. AllByRecursion (λ p. lt r.key p.0 ≡ true) (map part_of l)) (λ e. (own_comes r s all.0 (is ∙ sym (eqb-true s.tenant t e)), ih)) (λ e. ih)
 
-  all_after : (t : ℕ) (x : X) (xs : List X) → tenant_of x ≡ t → AllByRecursion (Before x) xs → AllByRecursion (Comes (part_of x)) (parts t xs)
-  all_after t x [] is all = tt
-  all_after t x (y ∷ xs) is all =
-      let ih = all_after t x xs is all.1 in
-      cond_both (tenant_of y == t) (y ∷ filter (λ x. tenant_of x == t) xs) (filter (λ x. tenant_of x == t) xs) (λ l. AllByRecursion (Comes (part_of x)) (map part_of l))
-      (λ e. (own_comes x y all.0 (is ∙ sym (eqb-true (tenant_of y) t e)), ih)) (λ e. ih)
+  own_in_order : (rs : List (Record K)) → InOrder Before rs → InOrder (λ p q. lt p.0 q.0 ≡ true) (own_part t rs)
+  own_in_order [] order = tt
+  own_in_order (r ∷ rs) order =
+      let ih = own_in_order rs order.1 in
+      cond_both (r.tenant == t) (r ∷ mine t rs) (mine t rs) (λ l. InOrder (λ p q. lt p.0 q.0 ≡ true) (map part_of l)) (λ e. (all_after r rs (eqb-true r.tenant t e) order.0, ih)) (λ e. ih)
 
-  pub own_in_order : (t : ℕ) (xs : List X) → InOrder Before xs → InOrder Comes (parts t xs)
-  own_in_order t [] order = tt
-  own_in_order t (x ∷ xs) order =
-      let ih = own_in_order t xs order.1 in
-      cond_both (tenant_of x == t) (x ∷ filter (λ x. tenant_of x == t) xs) (filter (λ x. tenant_of x == t) xs) (λ l. InOrder Comes (map part_of l))
-      (λ e. (all_after t x xs (eqb-true (tenant_of x) t e) order.0, ih)) (λ e. ih)
+-- what a tenant held is in place again
+put_back : (t : ℕ) (r : Records) → AreRecords r → (made : Own) (left : Own → Own) → left made ≡ own t r → with_own t (left (own t (with_own t made r))) (with_own t made r) ≡ r
+put_back t r are made left is =
+    ap (λ o. with_own t (left o) (with_own t made r)) (own_reads_back t made r) ∙ with_own_again t made (left made) r ∙ ap (λ o. with_own t o r) is ∙ own_is_in_place t r are
 
 -- where nothing is found nothing passes the test
 pub none_passes : {X Y : Type 0} (f : X → Y) (test : X → Bool) (xs : List X) → option_map f (find test xs) ≡ None → AllByRecursion (λ x. test x ≡ false) xs
@@ -59,28 +58,20 @@ module _ {K V : Type 0} (lt same : K → K → Bool) (k : K) (itself : same k k 
   abbrev AreOthers : List (K × V) → Type 0
   AreOthers ps = AllByRecursion (λ p. same p.0 k ≡ false) ps
 
-  kept : (t : K × V → Bool) (ps : List (K × V)) → AreOthers ps → filter (λ p. not (same p.0 k)) (filter t ps) ≡ filter t ps
-  kept t ps others =
-      filter_all (λ p. not (same p.0 k)) (filter t ps) (all-filter (λ p. not (same p.0 k) ≡ true) t ps (all_weaker (λ p. same p.0 k ≡ false) (λ p. not (same p.0 k) ≡ true) (λ p e. ap not e) ps others))
-
-  joined : (ps : List (K × V)) → Ascend ps → AreOthers ps → filter (λ p. lt p.0 k) ps ++ filter (λ p. lt k p.0) ps ≡ ps
-  joined [] order others = refl
-  joined (p ∷ ps) order others = go (lt p.0 k) refl (joined ps order.1 others.1)
+  -- a value that is put there and taken out leaves it as it was
+  undone : (v : V) (ps : List (K × V)) → Ascend ps → AreOthers ps → filter (λ p. not (same p.0 k)) (filter (λ p. lt p.0 k) ps ++ (k, v) ∷ filter (λ p. lt k p.0) ps) ≡ ps
+  undone v [] order others = rw itself refl
+  undone v (p ∷ ps) order others = go (lt p.0 k) refl (undone v ps order.1 others.1)
     where
-      go : (b : Bool) → lt p.0 k ≡ b → filter (λ p. lt p.0 k) ps ++ filter (λ p. lt k p.0) ps ≡ ps → filter (λ p. lt p.0 k) (p ∷ ps) ++ filter (λ p. lt k p.0) (p ∷ ps) ≡ p ∷ ps
-      go true e ih = let up = turned p.0 k e in rw (e, up) (ap (λ l. p ∷ l) ih)
+      go : (b : Bool) → lt p.0 k ≡ b → filter (λ p. not (same p.0 k)) (filter (λ p. lt p.0 k) ps ++ (k, v) ∷ filter (λ p. lt k p.0) ps) ≡ ps
+          → filter (λ p. not (same p.0 k)) (filter (λ p. lt p.0 k) (p ∷ ps) ++ (k, v) ∷ filter (λ p. lt k p.0) (p ∷ ps)) ≡ p ∷ ps
+      go true e ih = rw (e, turned p.0 k e, others.0) (ap (λ l. p ∷ l) ih)
       go false e ih =
           let up = apart p.0 others.0 e in
           let high = all_weaker (λ (q : K × V). lt p.0 q.0 ≡ true) (λ q. lt k q.0 ≡ true) (λ q h. upward p.0 q.0 up h) ps order.0 in
           let none = filter_none (λ (q : K × V). lt q.0 k) ps (all_weaker (λ (q : K × V). lt k q.0 ≡ true) (λ q. lt q.0 k ≡ false) (λ q h. turned k q.0 h) ps high) in
-          let all = filter_all (λ (q : K × V). lt k q.0) ps high in
-          rw (e, up, none, all) refl
-
-  pub undone : (v : V) (ps : List (K × V)) → Ascend ps → AreOthers ps → filter (λ p. not (same p.0 k)) (filter (λ p. lt p.0 k) ps ++ (k, v) ∷ filter (λ p. lt k p.0) ps) ≡ ps
-  undone v ps order others =
-      filter-append (λ p. not (same p.0 k)) (filter (λ p. lt p.0 k) ps) ((k, v) ∷ filter (λ p. lt k p.0) ps)
-      ∙ rw itself (ap₂ (λ a b. a ++ b) (kept (λ p. lt p.0 k) ps others) (kept (λ p. lt k p.0) ps others))
-      ∙ joined ps order others
+          let all = filter_all (λ (q : K × V). not (same q.0 k)) ps (all_weaker (λ (q : K × V). same q.0 k ≡ false) (λ q. not (same q.0 k) ≡ true) (λ q h. ap not h) ps others.1) in
+          rw (e, up, none, filter_all (λ (q : K × V). lt k q.0) ps high, itself, others.0) (ap (λ l. p ∷ l) all)
 
 -- keys
 
@@ -107,16 +98,11 @@ puts_are_undone t k v r are new =
     let is = new_means (value_at bytes_eq k mine.keys) (has_conflict k mine.keys) new in
     let put_is : command_after (Some (of_tenant t (put k v))) r ≡ with_own t made r =
     ap₂ (λ old conflict. with_changed t (if puts old conflict then Some made else None) r) is.0 is.1 in
-    let order = own_in_order (λ (x : KeyRecord). x.tenant) key_part KeyComesBefore (λ p q. is_below p.0 q.0 ≡ true) key_comes t r.keys are.keys_in_order in
+    let order = own_in_order KeyComesBefore is_below key_comes t r.keys are.keys_in_order in
     let others = none_passes (λ (p : List ℕ × List ℕ). p.1) (λ p. bytes_eq p.0 k) mine.keys is.0 in
-    let keys_are : without_at bytes_eq k made.keys ≡ mine.keys =
-    undone is_below bytes_eq k ((bytes_eq-Decides k k).1 refl) (key_apart k) not_both_below (below_trans k) v mine.keys order others in
-    let following : Own → Own = λ o. record { keys = without_at bytes_eq k o.keys; numbers = o.numbers } in
     ap (command_after (Some (of_tenant t (del k)))) put_is
-    ∙ ap (λ o. with_own t (following o) (with_own t made r)) (own_reads_back t made r)
-    ∙ with_own_again t made (following made) r
-    ∙ ap (λ keys. with_own t (record { keys = keys; numbers = mine.numbers }) r) keys_are
-    ∙ own_is_in_place t r are
+    ∙ put_back t r are made (λ o. record { keys = without_at bytes_eq k o.keys; numbers = o.numbers })
+    (own_from _ _ _ _ (undone is_below bytes_eq k ((bytes_eq-Decides k k).1 refl) (key_apart k) not_both_below (below_trans k) v mine.keys order others) refl)
 
 -- numbers
 
@@ -142,12 +128,7 @@ number_puts_are_undone t n v r are new =
     let mine : Own = own t r in
     let made : Own = record { keys = mine.keys; numbers = with_pair int_lt n v mine.numbers } in
     let is = new_means (value_at int_eq n mine.numbers) false new in
-    let order = own_in_order (λ (x : NumberRecord). x.tenant) number_part NumberComesBefore (λ p q. int_lt p.0 q.0 ≡ true) number_comes t r.numbers are.numbers_in_order in
+    let order = own_in_order NumberComesBefore int_lt number_comes t r.numbers are.numbers_in_order in
     let others = none_passes (λ (p : ℤ × List ℕ). p.1) (λ p. int_eq p.0 n) mine.numbers is.0 in
-    let numbers_are : without_at int_eq n made.numbers ≡ mine.numbers =
-    undone int_lt int_eq n ((Decides-int_eq n n).1 refl) (number_apart n) int_lt_turned (number_upward n) v mine.numbers order others in
-    let following : Own → Own = λ o. record { keys = o.keys; numbers = without_at int_eq n o.numbers } in
-    ap (λ o. with_own t (following o) (with_own t made r)) (own_reads_back t made r)
-    ∙ with_own_again t made (following made) r
-    ∙ ap (λ numbers. with_own t (record { keys = mine.keys; numbers = numbers }) r) numbers_are
-    ∙ own_is_in_place t r are
+    put_back t r are made (λ o. record { keys = o.keys; numbers = without_at int_eq n o.numbers })
+    (own_from _ _ _ _ refl (undone int_lt int_eq n ((Decides-int_eq n n).1 refl) (number_apart n) int_lt_turned (number_upward n) v mine.numbers order others))
