@@ -12,7 +12,7 @@ use Rattle.art_engine.proofs.Terms.{most_ahead, IsShort, ReadsOwnPath, IsWithin,
 use Rattle.art_engine.proofs.LineLemmas.{whole_lines_of-part, unfinished_line_of-part, whole_lines_of-line, unfinished_line_of-newline}
 use Rattle.art_engine.proofs.RunLemmas.{outcome-none, outcome-more}
 
-pub carried_none : (start : State) (before : List ℕ) → Carried start start [] [] before before
+pub carried_none : {P : ℕ} (start : State P) (before : List ℕ) → Carried start start [] [] before before
 unfolding whole_lines_of unfinished_line_of
 carried_none start before = record { written = []; outcome = outcome-none start; output = sym (append-nil before); rest = refl }
 
@@ -50,21 +50,21 @@ same_left false now held line s = rw s.command refl
 pub same_refusal : (now : Records) (held line : List ℕ) → IsReadAs held line → LineMayRefuse now held → LineMayRefuse now line
 same_refusal now held line s may = (may.0, s.spelled may.0 may.1, may.2)
 
-same_visits : (memory : Bool) (now : Records) (held line : List ℕ) (n : ℕ) → IsReadAs held line → IsWithin (line_visits memory held now) n → IsWithin (line_visits memory line now) n
-same_visits true now held line n s within = within
-same_visits false now held line n s within = subst (λ o. IsWithin (visits_of o now) n) s.command within
+same_visits : (P : ℕ) (memory : Bool) (now : Records) (held line : List ℕ) (n : ℕ) → IsReadAs held line → IsWithin (line_visits P memory held now) n → IsWithin (line_visits P memory line now) n
+same_visits P true now held line n s within = within
+same_visits P false now held line n s within = subst (λ o. IsWithin (visits_of P o now) n) s.command within
 
-pub same_most : (memory : Bool) (now : Records) (held line : List ℕ) (n : ℕ) → IsReadAs held line → n ≤ (line_visits memory held now).most → n ≤ (line_visits memory line now).most
-same_most true now held line n s few = few
-same_most false now held line n s few = subst (λ o. n ≤ (visits_of o now).most) s.command few
+pub same_most : (P : ℕ) (memory : Bool) (now : Records) (held line : List ℕ) (n : ℕ) → IsReadAs held line → n ≤ (line_visits P memory held now).most → n ≤ (line_visits P memory line now).most
+same_most P true now held line n s few = few
+same_most P false now held line n s few = subst (λ o. n ≤ (visits_of P o now).most) s.command few
 
-same_done : (memory : Bool) (now new : State) (held line : List ℕ) → IsReadAs held line → IsLineDone memory now held new → IsLineDone memory now line new
-same_done memory now new held line s d =
+same_done : {P : ℕ} (memory : Bool) (now new : State P) (held line : List ℕ) → IsReadAs held line → IsLineDone memory now held new → IsLineDone memory now line new
+same_done {P} memory now new held line s d =
     record {
       lawful = λ yes. same_refusal now.records held line s (d.lawful yes);
       left = d.left ∙ same_left memory now.records held line s;
       visits = d.visits;
-      within = same_visits memory now.records held line d.visits s d.within;
+      within = same_visits P memory now.records held line d.visits s d.within;
       short = subst (λ o. IsShort o d.visits) s.command d.short;
       own_path = subst (λ o. ReadsOwnPath o now.records d.visits) s.command d.own_path;
       counted = d.counted;
@@ -74,13 +74,13 @@ same_done memory now new held line s d =
     }
 
 -- a run that goes on by a line
-goes_on : (start now new : State) (text held before taken line handled : List ℕ) (c : Carried start now text held before taken) → IsReadAs handled line
+goes_on : {P : ℕ} (start now new : State P) (text held before taken line handled : List ℕ) (c : Carried start now text held before taken) → IsReadAs handled line
     → (memory : Bool) → IsLineDone memory now handled new → IsOutcome start (whole_lines_of text ++ line ∷ []) (c.written ++ answer memory now.records handled) new
 goes_on start now new text held before taken line handled c s memory d =
     subst (λ t. IsOutcome start (whole_lines_of text ++ line ∷ []) (c.written ++ t) new) (sym (same_answer memory now.records handled line s))
     (outcome-more start now new (whole_lines_of text) c.written memory line c.outcome (same_done memory now new handled line s d))
 
-pub carried_line : (start now now' : State) (text part handled held held' before taken taken' : List ℕ) (memory : Bool)
+pub carried_line : {P : ℕ} (start now now' : State P) (text part handled held held' before taken taken' : List ℕ) (memory : Bool)
     → Carried start now text held before taken → NoNewline part → IsReadAs handled (unfinished_line_of text ++ part)
     → IsLineDone memory now handled now' → taken' ≡ taken ++ answer memory now.records handled → held' ≡ []
     → Carried start now' (text ++ part ++ 10 ∷ []) held' before taken'
@@ -101,7 +101,7 @@ take-take n xs ys = elim (cases_lt (length xs) n) [
       take-append-le n (take n xs) ys enough ∙ take_all n (take n xs) within ∙ sym (take-append-le n xs ys long)
 ]
 
-pub carried_part : (start now now' : State) (text part held held' before taken taken' : List ℕ)
+pub carried_part : {P : ℕ} (start now now' : State P) (text part held held' before taken taken' : List ℕ)
     → Carried start now text held before taken → NoNewline part → now' ≡ now → held' ≡ take 4097 (held ++ part) → taken' ≡ taken
     → Carried start now' (text ++ part) held' before taken'
 carried_part start now now' text part held held' before taken taken' c none same longer output = record {
@@ -116,13 +116,13 @@ nothing_held [] e = refl
 nothing_held (x ∷ xs) e = let cut = ap length e in let all : length (take 4097 (x ∷ xs)) ≡ min 4097 (length (x ∷ xs)) = length-take 4097 (x ∷ xs) in absurd (omega arith)
 
 -- where nothing is held, a line that lies whole in the piece is the whole line
-pub whole_in_piece : (start now : State) (text held before taken part handled : List ℕ) → Carried start now text held before taken
+pub whole_in_piece : {P : ℕ} (start now : State P) (text held before taken part handled : List ℕ) → Carried start now text held before taken
     → held ≡ [] → handled ≡ part → IsReadAs handled (unfinished_line_of text ++ part)
 whole_in_piece start now text held before taken part handled c empty same =
     itself (unfinished_line_of text ++ part) handled (same ∙ ap (λ l. l ++ part) (sym (nothing_held (unfinished_line_of text) (sym c.rest ∙ empty))))
 
 -- where a part is held, the line is put together
-pub put_together : (start now : State) (text held before taken part handled : List ℕ) → Carried start now text held before taken
+pub put_together : {P : ℕ} (start now : State P) (text held before taken part handled : List ℕ) → Carried start now text held before taken
     → handled ≡ take 4097 (held ++ part) → IsReadAs handled (unfinished_line_of text ++ part)
 put_together start now text held before taken part handled c same =
     cut (unfinished_line_of text ++ part) handled (same ∙ ap (λ t. take 4097 (t ++ part)) c.rest ∙ take-take 4097 (unfinished_line_of text) part)
@@ -131,7 +131,7 @@ pub closed : (l : List ℕ) → 0 < length l → filter (λ (line : List ℕ). n
 closed l some = rw (lt-ltb 0 (length l) some) refl
 
 -- the end of the input, after a line that no newline ends
-pub outcome_last : (start now new : State) (text held before taken handled : List ℕ) (c : Carried start now text held before taken) → 0 < length held → handled ≡ held → (memory : Bool)
+pub outcome_last : {P : ℕ} (start now new : State P) (text held before taken handled : List ℕ) (c : Carried start now text held before taken) → 0 < length held → handled ≡ held → (memory : Bool)
     → IsLineDone memory now handled new → IsOutcome start (lines_of text) (c.written ++ answer memory now.records handled) new
 outcome_last start now new text held before taken handled c some same memory d =
     let shorter = ap length c.rest ∙ length-take 4097 (unfinished_line_of text) in
@@ -149,11 +149,11 @@ held_as_fits held part room fits within is =
     ap (λ n. held ++ take n part) (sym least) ∙ ap (λ t. held ++ t) (take_min left part) ∙ sym (take-append-add held part left) ∙ ap (λ n. take n (held ++ part)) all
 
 -- a line that was carried out of a state that has the same records, and of which the same is told
-pub done_from : (memory : Bool) (first old new : State) (line : List ℕ) → old.records ≡ first.records → old.reads ≡ first.reads → old.ahead ≡ first.ahead
+pub done_from : {P : ℕ} (memory : Bool) (first old new : State P) (line : List ℕ) → old.records ≡ first.records → old.reads ≡ first.reads → old.ahead ≡ first.ahead
     → IsLineDone memory old line new → IsLineDone memory first line new
-done_from memory first old new line r e a d =
+done_from {P} memory first old new line r e a d =
     let s : IsLineDone memory (record { records = first.records; reads = first.reads; ahead = first.ahead; prefetched = old.prefetched }) line new =
-    subst (λ (t : State). IsLineDone memory t line new) (λ i. record { records = r i; reads = e i; ahead = a i; prefetched = old.prefetched }) d in
+    subst (λ (t : State P). IsLineDone memory t line new) (λ i. record { records = r i; reads = e i; ahead = a i; prefetched = old.prefetched }) d in
     record {
       lawful = s.lawful;
       left = s.left;

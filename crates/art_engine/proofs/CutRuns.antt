@@ -14,11 +14,11 @@ use Rattle.art_engine.proofs.LineLemmas.{whole_lines_of-line, whole_lines_of-mor
 use Rattle.art_engine.proofs.Carrying.{IsReadAs, same_answer, same_left, same_most, same_refusal, closed, cut}
 
 -- other lines after do not matter
-fault_more : (start : State) (ls more : List (List ℕ)) (written : List ℕ) (now : State) → AfterWriteFault start ls written now → AfterWriteFault start (ls ++ more) written now
+fault_more : {P : ℕ} (start : State P) (ls more : List (List ℕ)) (written : List ℕ) (now : State P) → AfterWriteFault start ls written now → AfterWriteFault start (ls ++ more) written now
 fault_more start ls more written now (answered, others, line, output, middle, are, outcome, cut) =
     (answered, others ++ more, line, output, middle, ap (λ t. t ++ more) are ∙ append_assoc answered (line ∷ others) more, outcome, cut)
 
-pub cut_run-more : (start now : State) (text more all before taken : List ℕ) → text ++ more ≡ all
+pub cut_run-more : {P : ℕ} (start now : State P) (text more all before taken : List ℕ) → text ++ more ≡ all
     → IsCutRun start now (whole_lines_of text) before taken → IsCutRun start now (whole_lines_of all) before taken
 cut_run-more start now text more all before taken e r =
     let others = whole_lines_of-more text more in
@@ -29,9 +29,9 @@ cut_run-more start now text more all before taken e r =
     }
 
 -- the line after those that are carried out
-cut_next : (start now new : State) (text held before taken taken' line handled : List ℕ) → Carried start now text held before taken → IsReadAs handled line
+cut_next : {P : ℕ} (start now new : State P) (text held before taken taken' line handled : List ℕ) → Carried start now text held before taken → IsReadAs handled line
     → IsCutLine now handled taken taken' new → IsCutRun start new (whole_lines_of text ++ line ∷ []) before taken'
-cut_next start now new text held before taken taken' line handled c s l =
+cut_next {P} start now new text held before taken taken' line handled c s l =
     let a = l.cut in
     let written : List ℕ = c.written ++ a.begun in
     let is_cut : IsCutLine now line c.written written new = record {
@@ -43,7 +43,7 @@ cut_next start now new text held before taken taken' line handled c s l =
         output = refl;
         left = a.left ∙ same_left a.memory now.records handled line s;
         visits = a.visits;
-        few = same_most a.memory now.records handled line a.visits s a.few;
+        few = same_most P a.memory now.records handled line a.visits s a.few;
         counted = a.counted;
       };
       visits_ahead = l.visits_ahead;
@@ -58,13 +58,13 @@ cut_next start now new text held before taken taken' line handled c s l =
     }
 
 -- a line that a newline ends
-pub cut_run-line : (start now new : State) (text part handled held before taken taken' : List ℕ) → Carried start now text held before taken → NoNewline part
+pub cut_run-line : {P : ℕ} (start now new : State P) (text part handled held before taken taken' : List ℕ) → Carried start now text held before taken → NoNewline part
     → IsReadAs handled (unfinished_line_of text ++ part) → IsCutLine now handled taken taken' new → IsCutRun start new (whole_lines_of (text ++ part ++ 10 ∷ [])) before taken'
 cut_run-line start now new text part handled held before taken taken' c none s l =
     subst (λ ls. IsCutRun start new ls before taken') (sym (whole_lines_of-line text part none)) (cut_next start now new text held before taken taken' (unfinished_line_of text ++ part) handled c s l)
 
 -- the last line, which no newline ends
-pub cut_run-last : (start now new : State) (text held before taken taken' handled : List ℕ) → Carried start now text held before taken → 0 < length held → handled ≡ held
+pub cut_run-last : {P : ℕ} (start now new : State P) (text held before taken taken' handled : List ℕ) → Carried start now text held before taken → 0 < length held → handled ≡ held
     → IsCutLine now handled taken taken' new → IsCutRun start new (lines_of text) before taken'
 cut_run-last start now new text held before taken taken' handled c some same l =
     let shorter = ap length c.rest ∙ length-take 4097 (unfinished_line_of text) in
@@ -81,8 +81,8 @@ is_proper begun (b ∷ rest) text some e =
     and_from _ _ (lt-ltb (length begun) (length text) longer) ((starts_is Decides-eqb text begun _ refl).1 (b ∷ rest) (sym e))
 
 -- a line that was carried out, and whose answer was cut
-pub cut_line : (memory : Bool) (old new : State) (line before after output : List ℕ) (visits : ℕ) → output ≡ answer memory old.records line → IsCut before after output
-    → new.records ≡ left_by memory old.records line → (memory ≡ true → LineMayRefuse old.records line) → visits ≤ (line_visits memory line old.records).most → new.reads ≡ old.reads ++ visits ∷ []
+pub cut_line : {P : ℕ} (memory : Bool) (old new : State P) (line before after output : List ℕ) (visits : ℕ) → output ≡ answer memory old.records line → IsCut before after output
+    → new.records ≡ left_by memory old.records line → (memory ≡ true → LineMayRefuse old.records line) → visits ≤ (line_visits P memory line old.records).most → new.reads ≡ old.reads ++ visits ∷ []
     → IsAnswerCut old line before after new
 cut_line memory old new line before after output visits is cut left lawful few counted =
     record {
@@ -98,7 +98,7 @@ cut_line memory old new line before after output visits is cut left lawful few c
     }
 
 -- and what was read ahead of it is told, too
-pub told_ahead : (old now new : State) (line before after : List ℕ) (n : ℕ) → IsAnswerCut old line before after now → now.ahead ≡ old.ahead → n ≤ most_ahead (command_of line)
+pub told_ahead : {P : ℕ} (old now new : State P) (line before after : List ℕ) (n : ℕ) → IsAnswerCut old line before after now → now.ahead ≡ old.ahead → n ≤ most_ahead (command_of line)
     → new.records ≡ now.records → new.reads ≡ now.reads → new.ahead ≡ now.ahead ++ n ∷ [] → IsCutLine old line before after new
 told_ahead old now new line before after n a same few records reads ahead = record {
   cut = record { memory = a.memory; lawful = a.lawful; begun = a.begun; is_cut = a.is_cut; output = a.output; left = records ∙ a.left; visits = a.visits; few = a.few; counted = reads ∙ a.counted };
@@ -109,7 +109,7 @@ told_ahead old now new line before after n a same few records reads ahead = reco
 }
 
 -- and then what was read ahead of lines that did not come
-pub told_unused : (old now new : State) (line before after unused : List ℕ) → IsCutLine old line before after now
+pub told_unused : {P : ℕ} (old now new : State P) (line before after unused : List ℕ) → IsCutLine old line before after now
     → new.records ≡ now.records → new.reads ≡ now.reads → new.ahead ≡ now.ahead ++ unused → IsCutLine old line before after new
 told_unused old now new line before after unused l records reads ahead =
     let a = l.cut in
@@ -122,11 +122,11 @@ told_unused old now new line before after unused l records reads ahead =
     }
 
 -- a line that was cut out of a state that has the same records, and of which the same is told
-pub cut_from : (first old new : State) (line before after : List ℕ) → old.records ≡ first.records → old.reads ≡ first.reads → old.ahead ≡ first.ahead
+pub cut_from : {P : ℕ} (first old new : State P) (line before after : List ℕ) → old.records ≡ first.records → old.reads ≡ first.reads → old.ahead ≡ first.ahead
     → IsCutLine old line before after new → IsCutLine first line before after new
-cut_from first old new line before after r e a l =
+cut_from {P} first old new line before after r e a l =
     let s : IsCutLine (record { records = first.records; reads = first.reads; ahead = first.ahead; prefetched = old.prefetched }) line before after new =
-    subst (λ (t : State). IsCutLine t line before after new) (λ i. record { records = r i; reads = e i; ahead = a i; prefetched = old.prefetched }) l in
+    subst (λ (t : State P). IsCutLine t line before after new) (λ i. record { records = r i; reads = e i; ahead = a i; prefetched = old.prefetched }) l in
     let c = s.cut in
     record {
       cut = record { memory = c.memory; lawful = c.lawful; begun = c.begun; is_cut = c.is_cut; output = c.output; left = c.left; visits = c.visits; few = c.few; counted = c.counted };

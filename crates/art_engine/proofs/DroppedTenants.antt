@@ -1,24 +1,26 @@
 -- All that a tenant has is dropped: how that is answered, what it leaves, and when it may find no memory.
 use Rattle.std.proofs.Common.{◌≡◌, ◌≢◌, ℕ, ℤ, ◌+◌, ◌-◌, ◌<◌, ◌≤◌, ◌^◌, min, List, [], ◌∷◌, ◌++◌, length, map, refl, ap, ap₂, sym, ◌∙◌, subst, Bool, true, not, arith, inl, inr}
 use Rattle.std.specs.Prelude.{◌==◌, ◌&&◌, nat_lt, filter, codes}
+use Rattle.std.specs.Global.{Vec}
 use Rattle.std.specs.Int.{w64}
 use Rattle.std.specs.List.{AllByRecursion}
 use Rattle.art_bytes.proofs.Common.{BeginsWith, common_prefix, pair_key, big_endian, flipped}
 use Rattle.art_arena.proofs.Common.{AscendsByKey, IsLimit, begins_with, with_front, without_front, in_map, in_unmap, all_weaker}
 use Rattle.art_map.proofs.Common.{ascends-filter, cut_visits}
-use Rattle.art_operations.proofs.Common.{node_count, OpeningReads, ShrinksWithout, width_of-map, without-shrinks}
+use Rattle.art_map.specs.PrefixBlocks.{cut_reads}
+use Rattle.art_operations.proofs.Common.{node_count, ShrinksWithout, width_of-map, without-shrinks}
 use Rattle.art_operations.proofs.NodeCounts.{counted-map}
 use Rattle.art_engine.specs.declared.drop_tenant.Dropped.{Dropped}
 use Rattle.art_engine.specs.declared.drop_tenant.Dropped.TheVariants as dropped
 use Rattle.art_lines.proofs.Common.{name, natural, full_key}
-use Rattle.art_engine.proofs.Terms.{longest, dropping, IsWithin, full_key_of, number_key_of, Own, KeyFits, KeyRecord, NumberFits, NumberRecord, Record, Records, own, own_part, with_own, with_part, Pair, NumberPair, record_of, number_record_of, all_records_of, IsFull, IsOfTenant, IsNumberPair, ArePairs, AreNumberPairs}
+use Rattle.art_engine.proofs.Terms.{drop_nodes, exactly, part_opening, IsWithin, full_key_of, number_key_of, Own, KeyFits, KeyRecord, NumberFits, NumberRecord, Record, Records, own, own_part, with_own, with_part, Pair, NumberPair, record_of, number_record_of, all_records_of, IsFull, IsOfTenant, IsNumberPair, ArePairs, AreNumberPairs}
 use Rattle.art_engine.specs.Dropped.{IsDropDone}
 use Rattle.art_engine.proofs.Changing.{itself, keys_are}
 use Rattle.art_engine.proofs.Conflicts.{bytes_of}
 use Rattle.art_engine.proofs.Filters.{All-left_out}
 use Rattle.art_walks.proofs.Common.{all-filter}
 use Rattle.std.proofs.lemmas.List.{length-map, nil_from_length}
-use Rattle.art_engine.proofs.Listings.{longest_by_keys, within_longest}
+use Rattle.art_engine.proofs.MappedReads.{part_by_keys}
 use Rattle.art_engine.proofs.KeyKinds.{are_full, keys_ascend, keys_stand, numbers_stand, under_keys, under_numbers}
 use Rattle.art_engine.proofs.NumberPlaces.{number_bytes, number_keys_are}
 use Rattle.art_engine.proofs.OwnPrefixes.{front_tests, own_front}
@@ -55,21 +57,12 @@ pub same_number_pairs : (ns ms : List NumberPair) → ns ≡ ms → AreNumberPai
 same_number_pairs ns ms same are = subst AreNumberPairs (sym same) are
 
 -- what is answered in another way
-pub drop_same : (d e : Dropped) (t : ℕ) (old new : Records) → d ≡ e → IsDropDone e t old new → IsDropDone d t old new
-drop_same d e t old new same h = subst (λ x. IsDropDone x t old new) (sym same) h
-
--- what is read to find what begins with the four bytes of a tenant
-pub front_reads : (longest len reads : ℕ) → len ≡ 4 → OpeningReads longest len 0 reads → OpeningReads longest 4 0 reads
-front_reads longest len reads four h = subst (λ n. OpeningReads longest n 0 reads) four h
+pub drop_same : (P : ℕ) (d e : Dropped) (t : ℕ) (old new : Records) → d ≡ e → IsDropDone P e t old new → IsDropDone P d t old new
+drop_same P d e t old new same h = subst (λ x. IsDropDone P x t old new) (sym same) h
 
 -- the same of another prefix and other pairs, where they are these
 pub visits_same : {K V : Type 0} (bytes : K → List ℕ) (visits reads : ℕ) (f g : List ℕ) (qs ps : List (K × V)) → f ≡ g → qs ≡ ps → visits ≡ cut_visits bytes f qs reads → visits ≡ cut_visits bytes g ps reads
 visits_same bytes visits reads f g qs ps same are is = is ∙ ap₂ (λ h xs. cut_visits bytes h xs reads) same are
-
--- where there is a pair, the root was read
-root_read : {X Y : Type 0} (f : X → Y) (xs : List X) (reads : ℕ) → (xs ≢ [] → 1 ≤ reads) → min 1 (length (map f xs)) ≤ reads
-root_read f [] reads some = omega arith
-root_read f (x ∷ xs) reads some = let read = some (λ e. cc) in omega arith
 
 -- what begins with a tenant's four bytes is its own
 module _ {K M : Type 0} {bytes : M → List ℕ} {rest : K → List ℕ} {back : List ℕ → K} {Fits : K → Type 0} {lt same : K → K → Bool} {Before : Record K → Record K → Type 0}
@@ -92,11 +85,6 @@ module _ {K M : Type 0} {bytes : M → List ℕ} {rest : K → List ℕ} {back :
   left up =
       without kind t (begins_with (full_key t [])) (λ k. true) (front_tests kind t small) ps stand up
       ∙ ap (λ l. with_part t l (map (record_in kind) ps)) (none_left (own_part t (map (record_in kind) ps)))
-
--- no bytes of a number are longer than the longest of the records
-pub all_numbers_within : (ns : List NumberPair) → AllByRecursion IsNumberPair ns → AllByRecursion (λ p. length p.0 ≤ longest number_key_of (map number_record_of ns)) ns
-all_numbers_within ns stand =
-    subst (λ n. AllByRecursion (λ (p : NumberPair). length p.0 ≤ n) ns) (longest_by_keys number_bytes number_key_of ns (map number_record_of ns) (number_keys_are ns stand)) (within_longest number_bytes ns)
 
 module _ (t : ℕ) (small : t < 2 ^ 32) (ps : List Pair) (ns : List NumberPair) (are : ArePairs ps) (nums : AreNumberPairs ns) where
   -- what the tenant's full keys begin with, and the pairs of others
@@ -147,23 +135,23 @@ module _ (t : ℕ) (small : t < 2 ^ 32) (ps : List Pair) (ns : List NumberPair) 
   numbers_counted = counted under_numbers t small ns stand
 
   module _ (new_ps : List Pair) (new_ns : List NumberPair) where
-    pub drop_done : (k n v : ℕ) → new_ps ≡ keys_left → new_ns ≡ numbers_left → k ≡ length (with_front bytes_of front ps) → n ≡ length (with_front number_bytes front ns)
-        → IsWithin (dropping t old) v → IsDropDone (dropped.Gone k n v) t old (all_records_of new_ps new_ns)
-    drop_done k n v is_left are_left keys numbers within = record {
+    pub drop_done : (P k n v : ℕ) → new_ps ≡ keys_left → new_ns ≡ numbers_left → k ≡ length (with_front bytes_of front ps) → n ≡ length (with_front number_bytes front ns)
+        → IsWithin (exactly (drop_nodes P t old)) v → IsDropDone P (dropped.Gone k n v) t old (all_records_of new_ps new_ns)
+    drop_done P k n v is_left are_left keys numbers within = record {
       output = ap (λ c. (name (codes "dropped") ∷ natural c ∷ []) ∷ []) (ap₂ (λ a b. a + b) (keys ∙ sym keys_counted) (numbers ∙ sym numbers_counted));
       left = ap₂ all_records_of is_left are_left ∙ records_left;
       counted = within;
     }
 
     -- where it finds no memory, the loss of what begins so makes a node smaller
-    pub keys_refused : new_ps ≡ ps → new_ns ≡ ns → (with_front bytes_of front ps ≢ []) × ShrinksWithout bytes_of ps front → IsDropDone dropped.Memory t old (all_records_of new_ps new_ns)
-    keys_refused same same_numbers h = (
+    pub keys_refused : (P : ℕ) → new_ps ≡ ps → new_ns ≡ ns → (with_front bytes_of front ps ≢ []) × ShrinksWithout bytes_of ps front → IsDropDone P dropped.Memory t old (all_records_of new_ps new_ns)
+    keys_refused P same same_numbers h = (
       ap₂ all_records_of same same_numbers,
       inl ((λ none. h.0 (nil_from_length _ (sym keys_counted ∙ ap length none))), without_by_keys bytes_of full_key_of ps (map record_of ps) front (keys_are ps are.stand.full) h.1),
     )
 
-    pub numbers_refused : new_ps ≡ ps → new_ns ≡ ns → (with_front number_bytes front ns ≢ []) × ShrinksWithout number_bytes ns front → IsDropDone dropped.Memory t old (all_records_of new_ps new_ns)
-    numbers_refused same same_numbers h = (
+    pub numbers_refused : (P : ℕ) → new_ps ≡ ps → new_ns ≡ ns → (with_front number_bytes front ns ≢ []) × ShrinksWithout number_bytes ns front → IsDropDone P dropped.Memory t old (all_records_of new_ps new_ns)
+    numbers_refused P same same_numbers h = (
       ap₂ all_records_of same same_numbers,
       inr ((λ none. h.0 (nil_from_length _ (sym numbers_counted ∙ ap length none))), without_by_keys number_bytes number_key_of ns (map number_record_of ns) front (number_keys_are ns nums.stand) h.1),
     )
@@ -176,11 +164,13 @@ module _ (t : ℕ) (small : t < 2 ^ 32) (ps : List Pair) (ns : List NumberPair) 
   numbers_freed = freed under_numbers t small ns stand
 
   -- so many nodes are read to find what begins so, r in the one tree and s in the other, and those after are freed
-  pub drop_counts : (x y r s v : ℕ) → x ≡ min (r + node_count bytes_of (with_front bytes_of front ps)) (2 ^ 64 - 1) → y ≡ min (s + node_count number_bytes (with_front number_bytes front ns)) (2 ^ 64 - 1)
-      → (ps ≢ [] → 1 ≤ r) → (ns ≢ [] → 1 ≤ s) → OpeningReads (longest full_key_of old.keys) 4 0 r → OpeningReads (longest number_key_of old.numbers) 4 0 s → v ≡ min (x + y) (2 ^ 64 - 1) → IsWithin (dropping t old) v
-  drop_counts x y r s v keys numbers some_keys some_numbers first second is =
+  pub drop_counts : (P x y r s v : ℕ) → x ≡ min (r + node_count bytes_of (with_front bytes_of front ps)) (2 ^ 64 - 1) → y ≡ min (s + node_count number_bytes (with_front number_bytes front ns)) (2 ^ 64 - 1)
+      → r ≡ cut_reads (λ (k : Vec ℕ). k.items) P front ps → s ≡ cut_reads (λ (k : List ℕ). k) P front ns → v ≡ min (x + y) (2 ^ 64 - 1) → IsWithin (exactly (drop_nodes P t old)) v
+  drop_counts P x y r s v keys numbers found others is =
+      let first : r ≡ min (part_opening full_key_of P old.keys front) (2 ^ 64 - 1) =
+      found ∙ ap (λ n. min n (2 ^ 64 - 1)) (part_by_keys bytes_of full_key_of ps (map record_of ps) (keys_are ps are.stand.full) P front) in
+      let second : s ≡ min (part_opening number_key_of P old.numbers front) (2 ^ 64 - 1) =
+      others ∙ ap (λ n. min n (2 ^ 64 - 1)) (part_by_keys number_bytes number_key_of ns (map number_record_of ns) (number_keys_are ns nums.stand) P front) in
       let a = keys_freed in
       let b = numbers_freed in
-      let d = root_read record_of ps r some_keys in
-      let e = root_read number_record_of ns s some_numbers in
-      (omega (arith, a, b, keys, numbers, is, d, e), omega (arith, a, b, keys, numbers, first, second, is))
+      (omega (arith, a, b, keys, numbers, first, second, is), omega (arith, a, b, keys, numbers, first, second, is))

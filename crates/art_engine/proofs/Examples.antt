@@ -5,7 +5,7 @@ use Rattle.art_lines.specs.Lines.{whole_lines_of, unfinished_line_of}
 use Rattle.art_lines.proofs.Common.{lines_of, lines_so_far, name, natural, signed, bytes, shown, line_of, span, put, get, nget, drop, of_tenant, dump, Spells, list, full_key, IsCut}
 use Rattle.art_lines.specs.Reading.{command_of, natural_in, tenant_in, number_in, bytes_in}
 use Rattle.art_bytes.proofs.Common.{is_below, conflicts}
-use Rattle.art_engine.proofs.Terms.{number_key_of, number_of_bytes, full_key_of, exactly, visits_of, path_nodes, fronts_shared, KeyRecord, KeyFits, Records, no_records, own, with_own, State, unread, most_ahead, dump_of, audit_lines, MayRefuse, LineMayRefuse, answers, IsLineDone, reply_to}
+use Rattle.art_engine.proofs.Terms.{number_key_of, number_of_bytes, full_key_of, exactly, visits_of, visit_bounds, path_nodes, fronts_shared, KeyRecord, KeyFits, Records, no_records, own, with_own, State, unread, most_ahead, dump_of, audit_lines, MayRefuse, LineMayRefuse, answers, IsLineDone, reply_to}
 use Rattle.art_engine.proofs.Terms.{IsAnswerCut, IsOutcome, AfterWriteFault, IsCutLine}
 use Rattle.hex.proofs.OnLiterals.{hex_on_literals}
 use Rattle.std.specs.Fmt.{digits}
@@ -195,7 +195,7 @@ refused_line-changes_nothing = refl
 
 -- Faults: a read that fails after an unfinished line, and a sink that fails within a reply.
 
-abbrev empty : State
+abbrev empty : State 16
 empty = unread no_records
 
 one_record : Records
@@ -225,7 +225,7 @@ text-cut_after_a_byte : IsCut (codes "o") (codes "on") (codes "new")
 text-cut_after_a_byte = record { begun = codes "n"; missing = codes "ew"; is_cut = λ e. cc; parts = refl; output = refl }
 
 -- the state after the put, which read no node, and ahead of which none was read
-abbrev after_put : State
+abbrev after_put : State 16
 after_put = record { records = one_record; reads = 0 ∷ []; ahead = 0 ∷ []; prefetched = [] }
 
 -- a put was carried out, and of its answer nothing was taken
@@ -278,9 +278,17 @@ at_key tenant key value = record { tenant = tenant; key = key ∷ []; value = va
 abbrev of_two : Records
 of_two = record { keys = at_key 1 170 97 ∷ at_key 1 187 98 ∷ at_key 2 170 99 ∷ []; numbers = [] }
 
-visits-of_commands : map (λ c. visits_of (Some c) of_two) (of_tenant 1 (get (170 ∷ [])) ∷ of_tenant 3 (get (170 ∷ [])) ∷ of_tenant 1 (list []) ∷ of_tenant 1 drop ∷ dump ∷ [])
-    ≡ exactly 3 ∷ exactly 1 ∷ record { least = 2; most = 86 } ∷ record { least = 4; most = 143 } ∷ exactly 0 ∷ []
+visits-of_commands : map (λ c. visits_of 16 (Some c) of_two) (of_tenant 1 (get (170 ∷ [])) ∷ of_tenant 3 (get (170 ∷ [])) ∷ of_tenant 1 (list []) ∷ of_tenant 1 drop ∷ dump ∷ [])
+    ≡ exactly 3 ∷ exactly 1 ∷ exactly 9 ∷ exactly 10 ∷ exactly 0 ∷ []
 visits-of_commands = refl
+
+-- a node that stores no byte of its prefix has it told by a leaf, which is found by two nodes more
+visits-of_no_prefix : visits_of 0 (Some (of_tenant 1 (list []))) of_two ≡ exactly 11
+visits-of_no_prefix = refl
+
+bounds-of_commands : map (λ c. visit_bounds 16 (Some c) of_two) (of_tenant 1 (get (170 ∷ [])) ∷ of_tenant 1 (list []) ∷ of_tenant 1 drop ∷ dump ∷ [])
+    ≡ exactly 3 ∷ record { least = 2; most = 86 } ∷ record { least = 4; most = 143 } ∷ exactly 0 ∷ []
+bounds-of_commands = refl
 
 path-of_its_own : path_nodes full_key_of (at_key 1 170 97 ∷ at_key 1 187 98 ∷ []) (full_key 1 (170 ∷ [])) ≡ 2
 path-of_its_own = refl

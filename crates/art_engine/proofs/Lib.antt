@@ -34,6 +34,8 @@ pub mod BothMaps
 pub mod DumpTexts
 pub mod ReadBack
 pub mod MappedTrees
+pub mod MappedReads
+pub mod FewVisits
 pub mod Counting
 pub mod CountLaws
 pub mod Listings

@@ -1,6 +1,7 @@
--- The tree of some items, and that of what each of them is turned into: a path has as many nodes in one as in the other.
-use Rattle.std.proofs.Common.{◌≡◌, ℕ, zero, suc, List, [], ◌∷◌, length, drop, map, refl, sym, ap, ap₂, ◌∙◌, true, false, cond}
-use Rattle.std.specs.Prelude.{◌==◌, slice_index}
+-- The tree of some items, and that of what each of them is turned into: the one is the other with each item turned, and a
+-- path has as many nodes in one as in the other.
+use Rattle.std.proofs.Common.{◌≡◌, ℕ, zero, suc, List, [], ◌∷◌, length, drop, map, Option, Some, None, refl, sym, ap, ap₂, ◌∙◌, true, false, cond}
+use Rattle.std.specs.Prelude.{◌==◌, option_map, slice_index}
 use Rattle.art_bytes.proofs.Common.{common_prefix, shared_prefix}
 use Rattle.art_arena.proofs.Common.{Tree, Forest, leaf, inner, no_child, child, Group, add_to, grouped, children_of, tree_below, tree_of, path_of, path_in}
 use Rattle.art_walks.proofs.Common.{path_length}
@@ -8,29 +9,29 @@ use Rattle.std.proofs.lemmas.List.{length-map}
 
 module _ {X Y : Type 0} (f : X → Y) (key : Y → List ℕ) where
   -- the key of what an item is turned into
-  abbrev key_after : X → List ℕ
+  abbrev pub key_after : X → List ℕ
   key_after x = key (f x)
 
   -- each item turned
   abbrev mutual
-    turned : Tree X → Tree Y
+    pub turned : Tree X → Tree Y
     turned (leaf x) = leaf (f x)
     turned (inner prefix children) = inner prefix (turned_in children)
 
-    turned_in : Forest X → Forest Y
+    pub turned_in : Forest X → Forest Y
     turned_in no_child = no_child
     turned_in (child byte t others) = child byte (turned t) (turned_in others)
 
   mutual
-    path-turned : (t : Tree X) (k : List ℕ) → length (path_of (turned t) k) ≡ length (path_of t k)
+    pub path-turned : (t : Tree X) (k : List ℕ) → path_of (turned t) k ≡ map turned (path_of t k)
     path-turned (leaf x) k = refl
-    path-turned (inner prefix children) k = ap suc (path_in-turned children (drop (length prefix) k))
+    path-turned (inner prefix children) k = ap (λ nodes. turned (inner prefix children) ∷ nodes) (path_in-turned children (drop (length prefix) k))
 
-    path_in-turned : (cs : Forest X) (k : List ℕ) → length (path_in (turned_in cs) k) ≡ length (path_in cs k)
+    path_in-turned : (cs : Forest X) (k : List ℕ) → path_in (turned_in cs) k ≡ map turned (path_in cs k)
     path_in-turned no_child k = refl
     path_in-turned (child byte t others) [] = refl
     path_in-turned (child byte t others) (b ∷ k) =
-        elim (b == byte) as (λ c. length (cond c (path_of (turned t) k) (path_in (turned_in others) (b ∷ k))) ≡ length (cond c (path_of t k) (path_in others (b ∷ k)))) [
+        elim (b == byte) as (λ c. cond c (path_of (turned t) k) (path_in (turned_in others) (b ∷ k)) ≡ map turned (cond c (path_of t k) (path_in others (b ∷ k)))) [
           | true ↦ path-turned t k
           | false ↦ path_in-turned others (b ∷ k)
         ]
@@ -74,14 +75,19 @@ module _ {X Y : Type 0} (f : X → Y) (key : Y → List ℕ) where
       ∙ ap (λ gs. inner (drop depth front) (children_of tree gs)) (grouped-turned (length front) xs)
       ∙ ap (inner (drop depth front)) (children-turned (tree_below key_after fuel (suc (length front))) tree (below-turned fuel (suc (length front))) (grouped key_after (length front) xs))
 
+  pub tree-turned : (xs : List X) → tree_of key (map f xs) ≡ option_map turned (tree_of key_after xs)
+  tree-turned [] = refl
+  tree-turned (x ∷ xs) = ap (λ n. Some (tree_below key n 0 (map f (x ∷ xs)))) (length-map (x ∷ xs) f) ∙ ap Some (below-turned (length (x ∷ xs)) 0 (x ∷ xs))
+
+  length-turned : (k : List ℕ) (o : Option (Tree X)) → path_length k (option_map turned o) ≡ path_length k o
+  length-turned k None = refl
+  length-turned k (Some t) = ap length (path-turned t k) ∙ length-map (path_of t k) turned
+
   paths-turned : (k : List ℕ) (xs : List X) → path_length k (tree_of key (map f xs)) ≡ path_length k (tree_of key_after xs)
-  paths-turned k [] = refl
-  paths-turned k (x ∷ xs) =
-      ap (λ n. length (path_of (tree_below key n 0 (map f (x ∷ xs))) k)) (length-map (x ∷ xs) f)
-      ∙ ap (λ t. length (path_of t k)) (below-turned (length (x ∷ xs)) 0 (x ∷ xs)) ∙ path-turned (tree_below key_after (length (x ∷ xs)) 0 (x ∷ xs)) k
+  paths-turned k xs = ap (path_length k) (tree-turned xs) ∙ length-turned k (tree_of key_after xs)
 
 -- a list of keys is its own
-abbrev itself : List ℕ → List ℕ
+abbrev pub itself : List ℕ → List ℕ
 itself k = k
 
 -- a path goes by the keys alone

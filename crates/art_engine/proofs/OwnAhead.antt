@@ -100,11 +100,11 @@ within_own key tenant_of t full xs n few own = record { path = let path = own.pa
 module _ (records : Records) (are : AreRecords records) (n t : ℕ) where
   own_get : (key : List ℕ) → n ≤ path_nodes full_key_of records.keys (full_key t key) → AheadOfOwn (Some (of_tenant t (get key))) records n
   own_get key few = λ some. within_own full_key_of (λ (r : KeyRecord). r.tenant) t (full_key t key) records.keys n few
-      (own_path_of (Some (of_tenant t (get key))) records (path_nodes full_key_of records.keys (full_key t key)) are (omega arith, omega arith) some)
+      (own_path_of 0 (Some (of_tenant t (get key))) records (path_nodes full_key_of records.keys (full_key t key)) are (omega arith, omega arith) some)
 
   own_number : (number : ℤ) → n ≤ path_nodes number_key_of records.numbers (pair_key (t, number)) → AheadOfOwn (Some (of_tenant t (nget number))) records n
   own_number number few = λ some. within_own number_key_of (λ (r : NumberRecord). r.tenant) t (pair_key (t, number)) records.numbers n few
-      (own_path_of (Some (of_tenant t (nget number))) records (path_nodes number_key_of records.numbers (pair_key (t, number))) are (omega arith, omega arith) some)
+      (own_path_of 0 (Some (of_tenant t (nget number))) records (path_nodes number_key_of records.numbers (pair_key (t, number))) are (omega arith, omega arith) some)
 
 ahead_of_own : (command : Option Command) (records : Records) (n : ℕ) → AreRecords records → n ≤ own_path_nodes command records → AheadOfOwn command records n
 ahead_of_own (Some (of_tenant t (get key))) records n are few = own_get records are n t key few
@@ -112,7 +112,7 @@ ahead_of_own (Some (of_tenant t (del key))) records n are few = own_get records 
 ahead_of_own (Some (of_tenant t (over key value))) records n are few = own_get records are n t key few
 ahead_of_own (Some (of_tenant t (find key))) records n are few = λ some.
     within_own full_key_of (λ (r : KeyRecord). r.tenant) t (full_key t key) records.keys n few
-    (own_path_of (Some (of_tenant t (find key))) records (path_nodes full_key_of records.keys (full_key t key)) are (omega arith, omega arith) some)
+    (own_path_of 0 (Some (of_tenant t (find key))) records (path_nodes full_key_of records.keys (full_key t key)) are (omega arith, omega arith) some)
 ahead_of_own (Some (of_tenant t (nget number))) records n are few = own_number records are n t number few
 ahead_of_own (Some (of_tenant t (ndel number))) records n are few = own_number records are n t number few
 ahead_of_own other records n are few = tt

@@ -1,17 +1,19 @@
 -- What is read of the records under keys, told by the definitions.
-use Rattle.std.proofs.Common.{◌≡◌, ℕ, ◌+◌, ◌-◌, ◌<◌, ◌≤◌, ◌^◌, min, List, [], ◌∷◌, length, map, filter, refl, ap, sym, ◌∙◌, subst, arith, Bool, true, false, not, cond, bytes_eq, Option, Some}
+use Rattle.std.proofs.Common.{◌≡◌, ℕ, ◌+◌, ◌-◌, ◌<◌, ◌≤◌, ◌^◌, min, List, [], ◌∷◌, length, map, filter, refl, ap, ap₂, sym, ◌∙◌, subst, arith, Bool, true, false, not, cond, bytes_eq, Option, Some}
 use Rattle.std.specs.Prelude.{◌&&◌, int_lt, ℤ, option_map}
 use Rattle.std.specs.Map.{lookup, lookup_entry}
 use Rattle.std.specs.Global.{Vec}
 use Rattle.std.specs.List.{AllByRecursion}
 use Rattle.std.proofs.lemmas.List.Filters.{length-filter_both}
+use Rattle.std.specs.declared.ops.Bound.{Bound}
 use Rattle.std.specs.declared.ops.Bound.TheVariants.{Included, Excluded}
 use Rattle.std.specs.BTreeMap.Range.{range_contains}
 use Rattle.art_bytes.proofs.Common.{is_below, bytes_cmp, pair_key}
-use Rattle.art_arena.proofs.Common.{begins_with, all_weaker}
-use Rattle.art_operations.proofs.Common.{OpeningReads, ReadsAtLeast}
+use Rattle.art_arena.proofs.Common.{begins_with, all_weaker, key_of}
+use Rattle.art_operations.specs.Openings.{part_reads, range_reads}
 use Rattle.art_walks.proofs.Common.{ReadsPathOf, all-filter}
-use Rattle.art_engine.proofs.Terms.{exactly, listing, longest, path_nodes, GrewBy, Grew, full_key_of, number_key_of, own, value_at, numbers_from_to, own_pair, IsListed, own_number, IsNumbered, Pair, NumberPair, record_of, records_of, number_record_of, number_records_of, IsNumberPair}
+use Rattle.art_walks.specs.MapReads.{ReadsTree}
+use Rattle.art_engine.proofs.Terms.{exactly, listed_after, part_opening, path_nodes, range_opening, GrewBy, GrewUpTo, Grew, full_key_of, number_key_of, own, value_at, numbers_from_to, own_pair, IsListed, own_number, IsNumbered, Pair, NumberPair, record_of, records_of, number_record_of, number_records_of, IsNumberPair}
 use Rattle.art_engine.proofs.Terms.{AreFull, ArePairs, AreNumberPairs}
 use Rattle.art_lines.proofs.Common.{full_key}
 use Rattle.art_engine.proofs.Changing.{keys_are, option_map-map}
@@ -21,7 +23,8 @@ use Rattle.art_engine.proofs.Filters.{All-each, map-alike}
 use Rattle.std.proofs.lemmas.List.{length-map}
 use Rattle.art_engine.proofs.FullTests.{begins_full, between_full, same_full}
 use Rattle.art_engine.proofs.ListedLines.{are_listed, are_numbered}
-use Rattle.art_engine.proofs.Listings.{listing_grew, listing_most, path_grew, longest_by_keys, within_longest}
+use Rattle.art_engine.proofs.Listings.{listing_grew, listing_most, path_grew}
+use Rattle.art_engine.proofs.MappedReads.{part_by_keys, range_by_keys}
 use Rattle.art_engine.proofs.MappedTrees.{paths_by_keys}
 use Rattle.art_engine.proofs.NumberKeys.{HaveBytes, between_numbers}
 use Rattle.art_engine.proofs.NumberPlaces.{number_bytes, number_keys_are, number_found, numbers_passing, stand_all}
@@ -32,11 +35,6 @@ use Rattle.std.specs.Ordering.{int_eq}
 -- pairs without their tenant
 pub own_pairs : (ps : List Pair) → map key_part (map record_of ps) ≡ map own_pair ps
 own_pairs ps = map-alike key_part record_of own_pair ps (All-each (λ p. key_part (record_of p) ≡ own_pair p) (λ p. refl) ps)
-
--- no key is longer than the longest of the records
-pub pairs_within : (ps : List Pair) → AreFull ps → AllByRecursion (λ p. length p.0.items ≤ longest full_key_of (map record_of ps)) ps
-pairs_within ps are =
-    subst (λ n. AllByRecursion (λ (p : Pair). length p.0.items ≤ n) ps) (longest_by_keys bytes_of full_key_of ps (map record_of ps) (keys_are ps are.full)) (within_longest bytes_of ps)
 
 -- a path in the map is one in the tree of the records
 pub record_path : (ps : List Pair) → AreFull ps → (full : List ℕ) → length full ≤ 2049 → (old new : ℕ) → ReadsPathOf (λ (k : _). k.items) full ps old new
@@ -61,21 +59,33 @@ module _ (t : ℕ) (T G : List ℕ → Bool) (tests : IsFullTest t T G) (ps : Li
   left_few few = let parted = length-filter_both (λ (p : Pair). T p.0.items) (λ p. not (T p.0.items)) (λ p. refl) ps in omega arith
 
   -- it is listed by so many reads
-  pub left_grew : (bound full old mid new : ℕ) → length ps < 2 ^ 64 → full ≡ bound + 4 → ReadsAtLeast 0 old mid → OpeningReads (longest full_key_of (map record_of ps)) full old mid
-      → GrewBy (length left) mid new
-      → Grew (listing (length (filter (λ p. G p.0) (own t (records_of ps)).keys)) bound (longest full_key_of (map record_of ps))) old new
-  left_grew bound full old mid new few whole kept opens is =
+  pub left_grew : (opening old mid new : ℕ) → length ps < 2 ^ 64 → mid ≡ min (old + opening) (2 ^ 64 - 1) → GrewBy (length left) mid new
+      → Grew (exactly (listed_after opening (length (filter (λ p. G p.0) (own t (records_of ps)).keys)))) old new
+  left_grew opening old mid new few opens is =
       let number : length left ≡ length (filter (λ p. G p.0) (own t (records_of ps)).keys) = sym (length-map left own_pair) ∙ ap length own_left in
-      subst (λ n. Grew (listing n bound (longest full_key_of (map record_of ps))) old new) number
-      (listing_grew bound full (longest full_key_of (map record_of ps)) old mid new (length left) kept opens whole (left_few few) is)
+      subst (λ n. Grew (exactly (listed_after opening n)) old new) number (listing_grew opening (length left) old mid new opens (left_few few) is)
 
   -- and however far it was listed, by no more
-  pub left_most : (bound full old mid new : ℕ) → full ≡ bound + 4 → OpeningReads (longest full_key_of (map record_of ps)) full old mid → new ≤ mid + length left
-      → new ≤ old + (listing (length (filter (λ p. G p.0) (own t (records_of ps)).keys)) bound (longest full_key_of (map record_of ps))).most
-  left_most bound full old mid new whole opens few =
+  pub left_most : (opening old mid new : ℕ) → length ps < 2 ^ 64 → mid ≡ min (old + opening) (2 ^ 64 - 1) → GrewUpTo (length left) mid new
+      → new ≤ old + listed_after opening (length (filter (λ p. G p.0) (own t (records_of ps)).keys))
+  left_most opening old mid new few opens is =
       let number : length left ≡ length (filter (λ p. G p.0) (own t (records_of ps)).keys) = sym (length-map left own_pair) ∙ ap length own_left in
-      subst (λ n. new ≤ old + (listing n bound (longest full_key_of (map record_of ps))).most) number
-      (listing_most bound full (longest full_key_of (map record_of ps)) old mid new (length left) opens whole few)
+      subst (λ n. new ≤ old + listed_after opening n) number (listing_most opening (length left) old mid new opens (left_few few) is)
+
+-- what is read in the map to find the ends of a part or of a range is read in the tree of the records
+module _ (P : ℕ) (ps : List Pair) (are : AreFull ps) (old mid : ℕ) where
+  pub list_opens : (q full : List ℕ) → q ≡ full → ReadsTree (λ (k : Vec ℕ). k.items) (λ t. part_reads (key_of (λ (k : Vec ℕ). k.items)) P t q) ps old mid
+      → mid ≡ min (old + part_opening full_key_of P (map record_of ps) full) (2 ^ 64 - 1)
+  list_opens q full same reads =
+      reads ∙ ap (λ n. min (old + n) (2 ^ 64 - 1)) (part_by_keys bytes_of full_key_of ps (map record_of ps) (keys_are ps are.full) P q ∙ ap (part_opening full_key_of P (map record_of ps)) same)
+
+  pub span_opens : (q r low high : List ℕ) → q ≡ low → r ≡ high
+      → ReadsTree (λ (k : Vec ℕ). k.items) (λ t. range_reads (key_of (λ (k : Vec ℕ). k.items)) P t (Included q) (Excluded r)) ps old mid
+      → mid ≡ min (old + range_opening full_key_of P (map record_of ps) (Included low) (Excluded high)) (2 ^ 64 - 1)
+  span_opens q r low high first second reads =
+      reads ∙ ap (λ n. min (old + n) (2 ^ 64 - 1))
+      (range_by_keys bytes_of full_key_of ps (map record_of ps) (keys_are ps are.full) P (Included q) (Excluded r)
+      ∙ ap₂ (λ a b. range_opening full_key_of P (map record_of ps) (Included a) (Excluded b)) first second)
 
 -- the tests of the two listings
 pub list_tests : (t : ℕ) (k : List ℕ) → t < 2 ^ 32 → IsFullTest t (λ j. begins_with (full_key t k) j) (λ j. begins_with k j)
@@ -122,9 +132,14 @@ number_path t n ns are old new reads =
     let long : length (pair_key (t, n)) ≡ 12 = refl in
     path_grew _ old new (omega arith) (reads ∙ ap (λ n. min (old + n) (2 ^ 64 - 1)) same)
 
--- the bytes of a number are twelve
-pub numbers_within : (ns : List NumberPair) → AllByRecursion IsNumberPair ns → AllByRecursion (λ p. length p.0 ≤ 12) ns
-numbers_within ns stand = all_weaker IsNumberPair (λ p. length p.0 ≤ 12) (λ p is. let long = ap length is in omega arith) ns stand
+-- likewise of numbers
+pub numbers_open : (P : ℕ) (ns : List NumberPair) → AreNumberPairs ns → (old mid : ℕ) (q r low high : List ℕ) → q ≡ low → r ≡ high
+    → ReadsTree (λ (k : List ℕ). k) (λ t. range_reads (key_of (λ (k : List ℕ). k)) P t (Included q) (Included r)) ns old mid
+    → mid ≡ min (old + range_opening number_key_of P (map number_record_of ns) (Included low) (Included high)) (2 ^ 64 - 1)
+numbers_open P ns are old mid q r low high first second reads =
+    reads ∙ ap (λ n. min (old + n) (2 ^ 64 - 1))
+    (range_by_keys number_bytes number_key_of ns (map number_record_of ns) (number_keys_are ns are.stand) P (Included q) (Included r)
+    ∙ ap₂ (λ a b. range_opening number_key_of P (map number_record_of ns) (Included a) (Included b)) first second)
 
 -- pairs without their tenant
 pub own_numbers : (ns : List NumberPair) → map number_part (map number_record_of ns) ≡ map own_number ns
@@ -149,14 +164,14 @@ module _ (t : ℕ) (low high : ℤ) (fits_low : HaveBytes t low) (fits_high : Ha
   pub numbers_left_few : length ns < 2 ^ 64 → length numbers_left < 2 ^ 64
   numbers_left_few few = let parted = length-filter_both (λ (p : NumberPair). between p.0) (λ p. not (between p.0)) (λ p. refl) ns in omega arith
 
-  pub numbers_left_grew : (old mid new : ℕ) → length ns < 2 ^ 64 → ReadsAtLeast 0 old mid → OpeningReads 12 12 old mid → GrewBy (length numbers_left) mid new
-      → Grew (listing (length (numbers_from_to low high (own t (number_records_of ns)).numbers)) 8 12) old new
-  numbers_left_grew old mid new few kept opens is =
+  pub numbers_left_grew : (opening old mid new : ℕ) → length ns < 2 ^ 64 → mid ≡ min (old + opening) (2 ^ 64 - 1) → GrewBy (length numbers_left) mid new
+      → Grew (exactly (listed_after opening (length (numbers_from_to low high (own t (number_records_of ns)).numbers)))) old new
+  numbers_left_grew opening old mid new few opens is =
       let number : length numbers_left ≡ length (numbers_from_to low high (own t (number_records_of ns)).numbers) = sym (length-map numbers_left own_number) ∙ ap length own_numbers_left in
-      subst (λ n. Grew (listing n 8 12) old new) number (listing_grew 8 12 12 old mid new (length numbers_left) kept opens (omega arith) (numbers_left_few few) is)
+      subst (λ n. Grew (exactly (listed_after opening n)) old new) number (listing_grew opening (length numbers_left) old mid new opens (numbers_left_few few) is)
 
-  pub numbers_left_most : (old mid new : ℕ) → OpeningReads 12 12 old mid → new ≤ mid + length numbers_left
-      → new ≤ old + (listing (length (numbers_from_to low high (own t (number_records_of ns)).numbers)) 8 12).most
-  numbers_left_most old mid new opens few =
+  pub numbers_left_most : (opening old mid new : ℕ) → length ns < 2 ^ 64 → mid ≡ min (old + opening) (2 ^ 64 - 1) → GrewUpTo (length numbers_left) mid new
+      → new ≤ old + listed_after opening (length (numbers_from_to low high (own t (number_records_of ns)).numbers))
+  numbers_left_most opening old mid new few opens is =
       let number : length numbers_left ≡ length (numbers_from_to low high (own t (number_records_of ns)).numbers) = sym (length-map numbers_left own_number) ∙ ap length own_numbers_left in
-      subst (λ n. new ≤ old + (listing n 8 12).most) number (listing_most 8 12 12 old mid new (length numbers_left) opens (omega arith) few)
+      subst (λ n. new ≤ old + listed_after opening n) number (listing_most opening (length numbers_left) old mid new opens (numbers_left_few few) is)

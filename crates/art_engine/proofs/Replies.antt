@@ -95,35 +95,35 @@ module _ (t : Survey) (memory : Bool) (c : Command) (held old : Records) (line :
   all_lawful m = subst (λ r. MayRefuse r c) same (told_may t c held h (sym found ∙ m))
 
 -- how the drop of a tenant went, what that leaves, and how many nodes it read and freed
-dropped_reply : (d : Dropped) (t : ℕ) (old new : Records) (line : List ℕ) → Some (of_tenant t drop) ≡ command_of line → IsDropDone d t old new → line_of (dropped_words d) ≡ answer (drop_is_memory d) old line
-dropped_reply dropped.Memory t old new line e h = refl
-dropped_reply (dropped.Gone k n v) t old new line e h = told_once (dropped_words (dropped.Gone k n v)) (Some (of_tenant t drop)) old line e h.output
+dropped_reply : (P : ℕ) (d : Dropped) (t : ℕ) (old new : Records) (line : List ℕ) → Some (of_tenant t drop) ≡ command_of line → IsDropDone P d t old new → line_of (dropped_words d) ≡ answer (drop_is_memory d) old line
+dropped_reply P dropped.Memory t old new line e h = refl
+dropped_reply P (dropped.Gone k n v) t old new line e h = told_once (dropped_words (dropped.Gone k n v)) (Some (of_tenant t drop)) old line e h.output
 
-dropped_after : (d : Dropped) (t : ℕ) (old new : Records) (line : List ℕ) → Some (of_tenant t drop) ≡ command_of line → IsDropDone d t old new → new ≡ left_by (drop_is_memory d) old line
-dropped_after dropped.Memory t old new line e h = h.0
-dropped_after (dropped.Gone k n v) t old new line e h = h.left ∙ after_is (Some (of_tenant t drop)) old line e
+dropped_after : (P : ℕ) (d : Dropped) (t : ℕ) (old new : Records) (line : List ℕ) → Some (of_tenant t drop) ≡ command_of line → IsDropDone P d t old new → new ≡ left_by (drop_is_memory d) old line
+dropped_after P dropped.Memory t old new line e h = h.0
+dropped_after P (dropped.Gone k n v) t old new line e h = h.left ∙ after_is (Some (of_tenant t drop)) old line e
 
-dropped_may : (d : Dropped) (t : ℕ) (old new : Records) → IsDropDone d t old new → drop_is_memory d ≡ true → MayRefuse old (of_tenant t drop)
-dropped_may dropped.Memory t old new h m = h.1
-dropped_may (dropped.Gone k n v) t old new h m = absurd (false≢true m)
+dropped_may : (P : ℕ) (d : Dropped) (t : ℕ) (old new : Records) → IsDropDone P d t old new → drop_is_memory d ≡ true → MayRefuse old (of_tenant t drop)
+dropped_may P dropped.Memory t old new h m = h.1
+dropped_may P (dropped.Gone k n v) t old new h m = absurd (false≢true m)
 
-dropped_counts : (d : Dropped) (t : ℕ) (old new : Records) (line : List ℕ) → Some (of_tenant t drop) ≡ command_of line → IsDropDone d t old new → IsWithin (line_visits (drop_is_memory d) line old) (drop_visits d)
-dropped_counts dropped.Memory t old new line e h = (omega arith, omega arith)
-dropped_counts (dropped.Gone k n v) t old new line e h = subst (λ o. IsWithin (visits_of o old) v) e h.counted
+dropped_counts : (P : ℕ) (d : Dropped) (t : ℕ) (old new : Records) (line : List ℕ) → Some (of_tenant t drop) ≡ command_of line → IsDropDone P d t old new → IsWithin (line_visits P (drop_is_memory d) line old) (drop_visits d)
+dropped_counts P dropped.Memory t old new line e h = (omega arith, omega arith)
+dropped_counts P (dropped.Gone k n v) t old new line e h = subst (λ o. IsWithin (visits_of P o old) v) e h.counted
 
-module _ (d : Dropped) (memory : Bool) (t : ℕ) (held old new : Records) (line : List ℕ) (found : memory ≡ drop_is_memory d) (same : held ≡ old)
-    (e : Some (of_tenant t drop) ≡ command_of line) (h : IsDropDone d t held new) where
+module _ (P : ℕ) (d : Dropped) (memory : Bool) (t : ℕ) (held old new : Records) (line : List ℕ) (found : memory ≡ drop_is_memory d) (same : held ≡ old)
+    (e : Some (of_tenant t drop) ≡ command_of line) (h : IsDropDone P d t held new) where
   pub drop_told : line_of (dropped_words d) ≡ answer memory old line
-  drop_told = dropped_reply d t held new line e h ∙ ap (λ b. answer b held line) (sym found) ∙ ap (λ r. answer memory r line) same
+  drop_told = dropped_reply P d t held new line e h ∙ ap (λ b. answer b held line) (sym found) ∙ ap (λ r. answer memory r line) same
 
   pub drop_left : new ≡ left_by memory old line
-  drop_left = dropped_after d t held new line e h ∙ ap (λ b. left_by b held line) (sym found) ∙ ap (λ r. left_by memory r line) same
+  drop_left = dropped_after P d t held new line e h ∙ ap (λ b. left_by b held line) (sym found) ∙ ap (λ r. left_by memory r line) same
 
   pub drop_lawful : memory ≡ true → MayRefuse old (of_tenant t drop)
-  drop_lawful m = subst (λ r. MayRefuse r (of_tenant t drop)) same (dropped_may d t held new h (sym found ∙ m))
+  drop_lawful m = subst (λ r. MayRefuse r (of_tenant t drop)) same (dropped_may P d t held new h (sym found ∙ m))
 
-  pub drop_reads : (n : ℕ) → n ≡ drop_visits d → IsWithin (line_visits memory line old) n
+  pub drop_reads : (n : ℕ) → n ≡ drop_visits d → IsWithin (line_visits P memory line old) n
   drop_reads n is =
-      subst (λ r. IsWithin (line_visits memory line r) n) same
-      (subst (λ b. IsWithin (line_visits b line held) n) (sym found)
-      (subst (IsWithin (line_visits (drop_is_memory d) line held)) (sym is) (dropped_counts d t held new line e h)))
+      subst (λ r. IsWithin (line_visits P memory line r) n) same
+      (subst (λ b. IsWithin (line_visits P b line held) n) (sym found)
+      (subst (IsWithin (line_visits P (drop_is_memory d) line held)) (sym is) (dropped_counts P d t held new line e h)))

@@ -1,9 +1,9 @@
 -- A step of a span: its first pair is given, and the others are left.
-use Rattle.std.proofs.Common.{◌≡◌, List, [], ◌∷◌, length, Option, Some, None, sym, ap, ◌∙◌}
-use Rattle.std.specs.Prelude.{option_map, Result, Ok, Err, OnOk}
+use Rattle.std.proofs.Common.{◌≡◌, ℕ, ◌+◌, ◌-◌, ◌^◌, min, List, [], ◌∷◌, length, Option, Some, None, sym, ap, ◌∙◌, arith}
+use Rattle.std.specs.Prelude.{option_map, MatchOption, Result, Ok, Err, OnOk}
 use Rattle.art_arena.proofs.Common.{Arena}
 use Rattle.art_walks.proofs.Common.{IsSpan, IsSpanOf, Ends, run-pairs}
-use Rattle.art_engine.proofs.Terms.{pending, span_pairs}
+use Rattle.art_engine.proofs.Terms.{GrewBy, pending, span_pairs}
 
 module _ {K V : Type 0} where
   -- what a span has to give is what is left of it
@@ -27,6 +27,12 @@ module _ {K V : Type 0} where
     pub span_ended : IsSpan old ends → result ≡ None → span_pairs new next ≡ []
     span_ended (pairs, [], span) is = span_left new pairs next [] (end pairs span).1
     span_ended (pairs, p ∷ left, span) is = let given = (first pairs p left span).0 in let none = ap (option_map read) is in absurd (cc)
+
+-- a step of it is counted, if it gives a pair
+pub span_counts : {R X : Type 0} (read : R → X) (result : Option R) (given first old new : ℕ) → MatchOption result (new ≡ old) (λ _. new ≡ min (old + 1) (2 ^ 64 - 1))
+    → GrewBy given first old → GrewBy (given + length (pending (option_map read result) [])) first new
+span_counts read None given first old new step grew = λ fits. let same : new ≡ old = step in let is = grew fits in omega (arith, same, is)
+span_counts read (Some r) given first old new step grew = λ fits. let more : new ≡ min (old + 1) (2 ^ 64 - 1) = step in let is = grew fits in omega (arith, more, is)
 
 -- what holds anyway holds of an answer
 pub when_ok : {T E P : Type 0} (r : Result T E) → P → OnOk r P

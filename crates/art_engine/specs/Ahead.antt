@@ -118,11 +118,11 @@ total ns = sum_by (λ n. n) ns
 
 -- From one state to another, with so many nodes prefetched for lines to come: what is told more as read ahead is what
 -- the readers counted more.
-abbrev pub Tells : State → ℕ → State → ℕ → Type 0
+abbrev pub Tells : {P : ℕ} → State P → ℕ → State P → ℕ → Type 0
 Tells old due new left = total new.ahead + left + total old.prefetched ≡ total old.ahead + due + total new.prefetched
 
 -- all that the readers counted is told
-abbrev pub IsAllTold : State → State → Type 0
+abbrev pub IsAllTold : {P : ℕ} → State P → State P → Type 0
 IsAllTold old new = Tells old 0 new 0
 
 -- these lines are the first of a text's whole ones

@@ -1,14 +1,17 @@
--- How many nodes a line reads, told by the records alone.
-use Rattle.std.specs.Prelude.{◌≡◌, ℕ, int_lt, ◌+◌, ◌-◌, ◌*◌, ◌^◌, ◌≤◌, ◌==◌, not, min, max, bytes_eq}
+-- How many nodes a line reads, told by the records alone, and by how many bytes of a prefix a node stores.
+use Rattle.std.specs.Prelude.{◌≡◌, ℕ, int_lt, ◌+◌, ◌-◌, ◌^◌, ◌≤◌, ◌==◌, not, min, bytes_eq}
 use Rattle.std.specs.Prelude.{if◌then◌else◌, List, [], ◌∷◌, length}
-use Rattle.std.specs.Prelude.{Bool, map, filter, Option, Some, IsSome}
+use Rattle.std.specs.Prelude.{Bool, map, filter, Option, Some, IsSome, ℤ}
 use Rattle.std.specs.Int.{to_be_bytes, w32}
 use Rattle.std.specs.Ordering.{int_eq}
+use Rattle.std.specs.declared.ops.Bound.{Bound}
+use Rattle.std.specs.declared.ops.Bound.TheVariants.{Included, Excluded}
 use Rattle.art_bytes.specs.Keys.{common_prefix, is_below}
 use Rattle.art_arena.specs.tree.Fronts.{distinct}
 use Rattle.art_arena.specs.tree.TreeOf.{tree_of}
 use Rattle.art_operations.specs.NodeCounts.{node_count}
-use Rattle.art_walks.specs.MapReads.{path_length}
+use Rattle.art_operations.specs.Openings.{part_reads, range_reads}
+use Rattle.art_walks.specs.MapReads.{of_tree, path_length}
 use Rattle.art_lines.specs.Commands.{get, find, list, span, nget, nspan, drop, Command, of_tenant}
 use Rattle.art_bytes.specs.Laws.{pair_key}
 use Rattle.art_lines.specs.Keys.{full_key}
@@ -25,66 +28,86 @@ pub record Visits : Type 0 where
 abbrev pub exactly : ℕ → Visits
 exactly n = record { least = n; most = n }
 
--- A listing reads a leaf for each record that is listed, and what finds the first and the last of them: at most so many
--- nodes by the bytes of the prefix or of the longer bound, and by those of the longest full key.
-abbrev pub listing : ℕ → ℕ → ℕ → Visits
-listing records bound longest = record { least = records; most = records + 2 * (bound + 6) * (longest + 2) }
-
 module _ {X : Type 0} (key : X → List ℕ) where
   -- how many nodes the path of a full key has in the tree of some records
   abbrev pub path_nodes : List X → List ℕ → ℕ
   path_nodes xs full = path_length full (tree_of key xs)
 
-  -- how many bytes the longest full key has, 0 where there is none
-  abbrev pub longest : List X → ℕ
-  longest [] = 0
-  longest (x ∷ xs) = max (length (key x)) (longest xs)
+  module _ (P : ℕ) (xs : List X) where
+    -- what is read there to find the first and the last record whose full key begins with a front
+    abbrev pub part_opening : List ℕ → ℕ
+    part_opening front = of_tree (λ t. part_reads key P t front) (tree_of key xs)
 
--- What dropping what a tenant holds reads and frees: the nodes that lie below its four bytes in both trees, a leaf for
--- each of its records and an inner node for each of the different longest fronts that neighbours among them share, and
--- what is read to find the first and the last of them: in each tree that is there its root at least. The greatest count
--- stays.
-abbrev pub dropping : ℕ → Records → Visits
-dropping tenant records =
-    let freed : ℕ = node_count full_key_of (filter (λ r. r.tenant == tenant) records.keys)
-    + node_count number_key_of (filter (λ r. r.tenant == tenant) records.numbers) in
-    let roots : ℕ = min 1 (length records.keys) + min 1 (length records.numbers) in
-    let L : ℕ = max (longest full_key_of records.keys) (longest number_key_of records.numbers) in
-    record { least = min (roots + freed) (2 ^ 64 - 1); most = 20 * (L + 2) + freed }
+    -- or whose full key is between two bounds
+    abbrev pub range_opening : Bound (List ℕ) → Bound (List ℕ) → ℕ
+    range_opening low high = of_tree (λ t. range_reads key P t low high) (tree_of key xs)
+
+    -- What is read and freed to cut a tenant's records out: both ends of what lies below its four bytes, and the nodes
+    -- there, a leaf for each record and an inner node for each of the different longest fronts that neighbours share.
+    abbrev pub cut_nodes : (X → ℕ) → ℕ → ℕ
+    cut_nodes tenant_of tenant =
+        part_opening (full_key tenant []) + node_count key (filter (λ x. tenant_of x == tenant) xs)
+
+-- A listing of so many records reads a leaf for each, and so many nodes to find the first and the last of them. The
+-- greatest count stays.
+abbrev pub listed_after : ℕ → ℕ → ℕ
+listed_after opening records = records + min opening (2 ^ 64 - 1 - records)
+
+-- so are listed a tenant's keys with a prefix, those from one up to another, and its numbers from one to another
+abbrev pub list_nodes : ℕ → ℕ → List ℕ → Records → ℕ
+list_nodes P tenant front records =
+    listed_after (part_opening full_key_of P records.keys (full_key tenant front))
+    (length (pairs_with_prefix front (own tenant records).keys))
+
+abbrev pub span_nodes : ℕ → ℕ → List ℕ → List ℕ → Records → ℕ
+span_nodes P tenant low high records =
+    listed_after
+    (range_opening full_key_of P records.keys (Included (full_key tenant low)) (Excluded (full_key tenant high)))
+    (length (pairs_from_to low high (own tenant records).keys))
+
+abbrev pub number_span_nodes : ℕ → ℕ → ℤ → ℤ → Records → ℕ
+number_span_nodes P tenant low high records =
+    listed_after
+    (range_opening number_key_of P records.numbers (Included (pair_key (tenant, low)))
+    (Included (pair_key (tenant, high))))
+    (length (numbers_from_to low high (own tenant records).numbers))
+
+-- A drop cuts both trees. The greatest count stays.
+abbrev pub drop_nodes : ℕ → ℕ → Records → ℕ
+drop_nodes P tenant records =
+    min (cut_nodes full_key_of P records.keys (λ r. r.tenant) tenant
+    + cut_nodes number_key_of P records.numbers (λ r. r.tenant) tenant) (2 ^ 64 - 1)
 
 -- What a command reads: a look-up the path of its full key, or what its listing reads; a drop as above; all others
--- nothing that counts.
-abbrev pub visits_of : Option Command → Records → Visits
-visits_of (Some (of_tenant t (get key))) records = exactly (path_nodes full_key_of records.keys (full_key t key))
-visits_of (Some (of_tenant t (find key))) records = exactly (path_nodes full_key_of records.keys (full_key t key))
-visits_of (Some (of_tenant t (list front))) records =
-    listing (length (pairs_with_prefix front (own t records).keys)) (length front) (longest full_key_of records.keys)
-visits_of (Some (of_tenant t (span low high))) records =
-    if is_below high low then exactly 0
-    else listing (length (pairs_from_to low high (own t records).keys)) (max (length low) (length high))
-    (longest full_key_of records.keys)
-visits_of (Some (of_tenant t (nget number))) records =
+-- nothing that counts. `P` is how many bytes of a prefix a node stores.
+abbrev pub visits_of : ℕ → Option Command → Records → Visits
+visits_of P (Some (of_tenant t (get key))) records = exactly (path_nodes full_key_of records.keys (full_key t key))
+visits_of P (Some (of_tenant t (find key))) records = exactly (path_nodes full_key_of records.keys (full_key t key))
+visits_of P (Some (of_tenant t (list front))) records = exactly (list_nodes P t front records)
+visits_of P (Some (of_tenant t (span low high))) records =
+    if is_below high low then exactly 0 else exactly (span_nodes P t low high records)
+visits_of P (Some (of_tenant t (nget number))) records =
     exactly (path_nodes number_key_of records.numbers (pair_key (t, number)))
-visits_of (Some (of_tenant t (nspan low high))) records =
-    if int_lt high low then exactly 0
-    else listing (length (numbers_from_to low high (own t records).numbers)) 8 12
-visits_of (Some (of_tenant t drop)) records = dropping t records
-visits_of other records = exactly 0
+visits_of P (Some (of_tenant t (nspan low high))) records =
+    if int_lt high low then exactly 0 else exactly (number_span_nodes P t low high records)
+visits_of P (Some (of_tenant t drop)) records = exactly (drop_nodes P t records)
+visits_of P other records = exactly 0
 
 -- What a look-up reads of the records under keys, and what of those under numbers: it reads one of both maps alone.
-abbrev pub key_visits : Option Command → Records → Visits
-key_visits (Some (of_tenant t (nget number))) records = exactly 0
-key_visits (Some (of_tenant t (nspan low high))) records = exactly 0
-key_visits command records = visits_of command records
+abbrev pub key_visits : ℕ → Option Command → Records → Visits
+key_visits P (Some (of_tenant t (nget number))) records = exactly 0
+key_visits P (Some (of_tenant t (nspan low high))) records = exactly 0
+key_visits P command records = visits_of P command records
 
-abbrev pub number_visits : Option Command → Records → Visits
-number_visits (Some (of_tenant t (nget number))) records = visits_of (Some (of_tenant t (nget number))) records
-number_visits (Some (of_tenant t (nspan low high))) records = visits_of (Some (of_tenant t (nspan low high))) records
-number_visits command records = exactly 0
+abbrev pub number_visits : ℕ → Option Command → Records → Visits
+number_visits P (Some (of_tenant t (nget number))) records = visits_of P (Some (of_tenant t (nget number))) records
+number_visits P (Some (of_tenant t (nspan low high))) records =
+    visits_of P (Some (of_tenant t (nspan low high))) records
+number_visits P command records = exactly 0
 
 -- what a line reads: one that finds no memory reads nothing that counts
-abbrev pub line_visits : Bool → List ℕ → Records → Visits
-line_visits memory line records = if memory then exactly 0 else visits_of (command_of line) records
+abbrev pub line_visits : ℕ → Bool → List ℕ → Records → Visits
+line_visits P memory line records = if memory then exactly 0 else visits_of P (command_of line) records
 
 -- so many nodes
 abbrev pub IsWithin : Visits → ℕ → Type 0
@@ -92,7 +115,11 @@ IsWithin v n = (v.least ≤ n) × (n ≤ v.most)
 
 -- a count grew by this number; the greatest count stays
 abbrev pub GrewBy : ℕ → ℕ → ℕ → Type 0
-GrewBy n old new = (min (old + n) (2 ^ 64 - 1) ≤ new) × (new ≤ old + n)
+GrewBy n old new = old ≤ 2 ^ 64 - 1 → new ≡ min (old + n) (2 ^ 64 - 1)
+
+-- it grew by no more than this
+abbrev pub GrewUpTo : ℕ → ℕ → ℕ → Type 0
+GrewUpTo most old new = (n : ℕ) × (n ≤ most) × GrewBy n old new
 
 -- A count grew by so many; the greatest count stays.
 pub record Grew (v : Visits) (old new : ℕ) : Type 0 where

@@ -26,12 +26,12 @@ drop_visits dropped.Memory = 0
 
 -- All of a tenant's records were dropped: it is told how many they were, nothing of them is left, and so many nodes
 -- were read and freed.
-pub record AreGone (d : Dropped) (tenant : ℕ) (old new : Records) : Type 0 where
+pub record AreGone (P : ℕ) (d : Dropped) (tenant : ℕ) (old new : Records) : Type 0 where
   pub output : dropped_words d ∷ [] ≡ command_reply (Some (of_tenant tenant drop)) old
   pub left : new ≡ command_after (Some (of_tenant tenant drop)) old
-  pub counted : IsWithin (visits_of (Some (of_tenant tenant drop)) old) (drop_visits d)
+  pub counted : IsWithin (visits_of P (Some (of_tenant tenant drop)) old) (drop_visits d)
 
 -- So it was done; where there was no memory for it, there may be none, and nothing is changed.
-abbrev pub IsDropDone : Dropped → ℕ → Records → Records → Type 0
-IsDropDone dropped.Memory tenant old new = (new ≡ old) × MayRefuse old (of_tenant tenant drop)
-IsDropDone d tenant old new = AreGone d tenant old new
+abbrev pub IsDropDone : ℕ → Dropped → ℕ → Records → Records → Type 0
+IsDropDone P dropped.Memory tenant old new = (new ≡ old) × MayRefuse old (of_tenant tenant drop)
+IsDropDone P d tenant old new = AreGone P d tenant old new

@@ -10,7 +10,7 @@ use Rattle.art_engine.specs.Outcome.{answer, left_by, IsOutcome}
 
 -- A line was carried out, and of its answer a beginning was taken that is not all of it. What it has read is counted,
 -- at most what a line may read whose answer is whole.
-pub record IsAnswerCut (old : State) (line before after : List ℕ) (new : State) : Type 0 where
+pub record IsAnswerCut {P : ℕ} (old : State P) (line before after : List ℕ) (new : State P) : Type 0 where
   pub memory : Bool
   pub lawful : memory ≡ true → LineMayRefuse old.records line
   pub begun : List ℕ
@@ -18,11 +18,11 @@ pub record IsAnswerCut (old : State) (line before after : List ℕ) (new : State
   pub output : after ≡ before ++ begun
   pub left : new.records ≡ left_by memory old.records line
   pub visits : ℕ
-  pub few : visits ≤ (line_visits memory line old.records).most
+  pub few : visits ≤ (line_visits P memory line old.records).most
   pub counted : new.reads ≡ old.reads ++ visits ∷ []
 
 -- So it was, and what was read ahead of it is counted, too, and then what was read ahead of lines that did not come.
-pub record IsCutLine (old : State) (line before after : List ℕ) (new : State) : Type 0 where
+pub record IsCutLine {P : ℕ} (old : State P) (line before after : List ℕ) (new : State P) : Type 0 where
   pub cut : IsAnswerCut old line before after new
   pub visits_ahead : ℕ
   pub few : visits_ahead ≤ most_ahead (command_of line)
@@ -31,8 +31,8 @@ pub record IsCutLine (old : State) (line before after : List ℕ) (new : State) 
 
 -- After a failed write, one line more than the `answered` ones was carried out. Their answers were written whole,
 -- and of the answer to the last a beginning that is not all of it.
-abbrev pub AfterWriteFault : State → List (List ℕ) → List ℕ → State → Type 0
-AfterWriteFault start lines written now =
-    (answered others : List (List ℕ)) × (line output : List ℕ) × (middle : State)
+abbrev pub AfterWriteFault : {P : ℕ} → State P → List (List ℕ) → List ℕ → State P → Type 0
+AfterWriteFault {P} start lines written now =
+    (answered others : List (List ℕ)) × (line output : List ℕ) × (middle : State P)
     × (lines ≡ answered ++ line ∷ others) × IsOutcome start answered output middle
     × IsCutLine middle line output written now

@@ -10,7 +10,7 @@ use Rattle.art_lines.specs.Commands.{Request, put, del, nput, ndel, Command, of_
 use Rattle.art_lines.specs.Reading.{command_of}
 use Rattle.art_bytes.specs.Keys.{is_below, conflicts}
 use Rattle.art_engine.specs.Ahead.{path_ahead}
-use Rattle.art_engine.specs.Counts.{dropping, longest}
+use Rattle.art_engine.specs.FewVisits.{dropping, longest}
 use Rattle.art_lines.specs.Keys.{full_key}
 use Rattle.art_engine.specs.Keys.{full_key_of, number_key_of, number_of_bytes}
 use Rattle.art_engine.specs.Records.{Own, KeyRecord, NumberRecord, Records, AreRecords, no_records, own, with_own}

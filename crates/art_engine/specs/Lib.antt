@@ -8,6 +8,7 @@ pub mod Refusals
 pub mod Outcome
 pub mod Faults
 pub mod Counts
+pub mod FewVisits
 pub mod OwnAhead
 pub mod Laws
 pub mod Stored

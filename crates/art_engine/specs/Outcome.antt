@@ -33,11 +33,11 @@ answers records (l ∷ lines) = answer l.1 records l.0 ++ answers (left_by l.1 r
 
 -- A line was carried out, and found no memory only if it may. What it has read is counted after what was read before,
 -- and so is what was read ahead of it.
-pub record IsLineDone (memory : Bool) (old : State) (line : List ℕ) (new : State) : Type 0 where
+pub record IsLineDone {P : ℕ} (memory : Bool) (old : State P) (line : List ℕ) (new : State P) : Type 0 where
   pub lawful : memory ≡ true → LineMayRefuse old.records line
   pub left : new.records ≡ left_by memory old.records line
   pub visits : ℕ
-  pub within : IsWithin (line_visits memory line old.records) visits
+  pub within : IsWithin (line_visits P memory line old.records) visits
   pub short : IsShort (command_of line) visits
   pub own_path : ReadsOwnPath (command_of line) old.records visits
   pub counted : new.reads ≡ old.reads ++ visits ∷ []
@@ -47,7 +47,7 @@ pub record IsLineDone (memory : Bool) (old : State) (line : List ℕ) (new : Sta
 
 -- From the state at the start, lines were carried out one by one, some of which found no memory. This was written in
 -- answer to them, and they left the state now.
-pub record IsOutcome (start : State) (lines : List (List ℕ)) (written : List ℕ) (now : State) : Type 0 where
+pub record IsOutcome {P : ℕ} (start : State P) (lines : List (List ℕ)) (written : List ℕ) (now : State P) : Type 0 where
   pub asked : List (List ℕ × Bool)
   pub are : lines ≡ map (λ l. l.0) asked
   pub output : written ≡ answers start.records asked

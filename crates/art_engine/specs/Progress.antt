@@ -10,14 +10,14 @@ use Rattle.art_engine.specs.Outcome.{IsOutcome, answer, left_by}
 use Rattle.art_engine.specs.Faults.{AfterWriteFault}
 
 -- All whole lines of a text are carried out and counted, and the unfinished one is held, as far as it can be a command.
-pub record Carried (start now : State) (text held before taken : List ℕ) : Type 0 where
+pub record Carried {P : ℕ} (start now : State P) (text held before taken : List ℕ) : Type 0 where
   pub written : List ℕ
   pub outcome : IsOutcome start (whole_lines_of text) written now
   pub output : taken ≡ before ++ written
   pub rest : held ≡ take 4097 (unfinished_line_of text)
 
 -- A write failed within the answer to one of these lines, and the ones before it were answered.
-pub record IsCutRun (start now : State) (ls : List (List ℕ)) (before taken : List ℕ) : Type 0 where
+pub record IsCutRun {P : ℕ} (start now : State P) (ls : List (List ℕ)) (before taken : List ℕ) : Type 0 where
   pub written : List ℕ
   pub output : taken ≡ before ++ written
   pub fault : AfterWriteFault start ls written now
@@ -28,12 +28,12 @@ NoNewline bytes = AllByRecursion (λ b. (b == 10) ≡ false) bytes
 
 -- A line was carried out and answered, with so many nodes read, which are counted. Nothing is told yet of what was read
 -- ahead of it.
-pub record IsLineAnswered (memory : Bool) (visits : ℕ) (line : List ℕ) (old new : State)
+pub record IsLineAnswered {P : ℕ} (memory : Bool) (visits : ℕ) (line : List ℕ) (old new : State P)
     (before after : List ℕ) : Type 0 where
   pub output : after ≡ before ++ answer memory old.records line
   pub left : new.records ≡ left_by memory old.records line
   pub lawful : memory ≡ true → LineMayRefuse old.records line
-  pub within : IsWithin (line_visits memory line old.records) visits
+  pub within : IsWithin (line_visits P memory line old.records) visits
   pub short : IsShort (command_of line) visits
   pub own_path : ReadsOwnPath (command_of line) old.records visits
   pub counted : new.reads ≡ old.reads ++ visits ∷ []

@@ -71,10 +71,10 @@ impl<const PREFIX_LEN: usize> Index<PREFIX_LEN> {
         ensures left { IfOk result (λ done. self.new.records ≡ left_by done.memory self.old.records line.now) }
         ensures lawful { IfOk result (λ done. done.memory ≡ true → LineMayRefuse self.old.records line.now) }
 
-        // A look-up reads so many nodes, and a drop reads and frees so many, given by the records alone; each other
-        // line reads none, nor does one that found no memory. They are counted.
+        // A look-up reads so many nodes, and a drop reads and frees so many, given by the records and `PREFIX_LEN`
+        // alone; each other line reads none, nor does one that found no memory. They are counted.
         ensures visits { IfOk result (λ done.
-            IsWithin (line_visits done.memory line.now self.old.records) done.visits) }
+            IsWithin (line_visits PREFIX_LEN done.memory line.now self.old.records) done.visits) }
         ensures short { IfOk result (λ done. IsShort (command_of line.now) done.visits) }
         ensures own_path { IfOk result (λ done. ReadsOwnPath (command_of line.now) self.old.records done.visits) }
         ensures counted { IfOk result (λ done. self.new.reads ≡ self.old.reads ++ done.visits ∷ []) }
@@ -110,7 +110,7 @@ impl<const PREFIX_LEN: usize> Index<PREFIX_LEN> {
         ensures left { IfOk result (λ done. self.new.records ≡ left_by done.memory self.old.records line.now) }
         ensures lawful { IfOk result (λ done. done.memory ≡ true → LineMayRefuse self.old.records line.now) }
         ensures visits { IfOk result (λ done.
-            IsWithin (line_visits done.memory line.now self.old.records) done.visits) }
+            IsWithin (line_visits PREFIX_LEN done.memory line.now self.old.records) done.visits) }
         ensures short { IfOk result (λ done. IsShort (command_of line.now) done.visits) }
         ensures own_path { IfOk result (λ done. ReadsOwnPath (command_of line.now) self.old.records done.visits) }
         ensures counted { IfOk result (λ done. self.new.reads ≡ self.old.reads ++ done.visits ∷ []) }

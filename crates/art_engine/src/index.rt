@@ -53,7 +53,7 @@ pub struct Index<const PREFIX_LEN: usize> {
 impl<const PREFIX_LEN: usize> Model for Index<PREFIX_LEN> {
     ghost use Rattle.art_engine.specs.State.{State};
 
-    ghost Value = { State };
+    ghost Value = { State PREFIX_LEN };
 
     ghost view = { λ s. record {
       records = s.records;
@@ -168,8 +168,8 @@ impl<const PREFIX_LEN: usize> Index<PREFIX_LEN> {
             (W.has_failed sink.new) }
         ensures err { IfErr result.0 (λ fault. fault ≡ RunFault.Write) }
         ensures visits { OnOk result.0
-            (IsWithin (visits_of (Some (looks_up word fields.now)) self.old.records) result.1) }
-        ensures few { result.1 ≤ (visits_of (Some (looks_up word fields.now)) self.old.records).most }
+            (IsWithin (visits_of PREFIX_LEN (Some (looks_up word fields.now)) self.old.records) result.1) }
+        ensures few { result.1 ≤ (visits_of PREFIX_LEN (Some (looks_up word fields.now)) self.old.records).most }
         ensures counted { self.new.reads ≡ self.old.reads ++ result.1 ∷ [] }
         ensures kept { (self.new.records ≡ self.old.records) × (self.new.ahead ≡ self.old.ahead)
             × (self.new.prefetched ≡ self.old.prefetched) }
@@ -244,7 +244,7 @@ impl<const PREFIX_LEN: usize> Index<PREFIX_LEN> {
 
     /// Removes all records of the tenant that was read. If it is out of memory, nothing is changed.
     pub(crate) fn drop_tenant(&mut self, fields: &Fields) -> Dropped
-        ensures done { IsDropDone result (tenant_in_place fields.now) self.old.records self.new.records }
+        ensures done { IsDropDone PREFIX_LEN result (tenant_in_place fields.now) self.old.records self.new.records }
         ensures kept { (self.new.reads ≡ self.old.reads) × (self.new.ahead ≡ self.old.ahead)
             × (self.new.prefetched ≡ self.old.prefetched) }
     {

@@ -4,6 +4,7 @@ ghost use Rattle.art_engine.specs.Laws.{RequestsLeaveOthers, TenantsStandAlone, 
 ghost use Rattle.art_engine.specs.Laws.{DeletionsGoByOwnNumbers, DropsReadFew, DumpsTellRecords, DumpsAreReadBack};
 ghost use Rattle.art_engine.specs.Laws.{FullKeysKeepOrder, FullKeysKeepConflicts, OwnIsUnderPrefix};
 ghost use Rattle.art_engine.specs.Laws.{PutsAreUndone, NumberPutsAreUndone, PathsAreOwn};
+ghost use Rattle.art_engine.specs.FewVisits.{VisitsAreBounded};
 ghost use Rattle.art_engine.specs.OwnAhead.{AheadIsOwn, OwnWaysArePaths};
 
 /// What is put in place for a tenant is what it holds then.
@@ -93,6 +94,16 @@ pub fn dumps_are_read_back()
 /// each byte of the longest full key and for two.
 pub fn drops_read_few()
     ensures { DropsReadFew }
+{}
+
+/// What a listing or a drop reads lies between bounds that are told without the tree.
+///
+/// Of a listing of m records these are m and m + 2 * (b + 6) * (L + 2). Here b is the number of bytes of the prefix or
+/// of the longer bound, L that of the longest full key. For numbers they are 8 and 12. Those of a drop are told by
+/// `drops_read_few`.
+#[tactic(auto, using(crate::proofs::FewVisits::visits_are_bounded))]
+pub fn visits_are_bounded()
+    ensures { VisitsAreBounded }
 {}
 
 /// What is read ahead of a tenant's line lies on the path of a full key of this tenant: that of the key, the number,

@@ -1,19 +1,18 @@
 //! Walks over a tenant's records, each leaf that is read counted. A span is opened, and then read and written as lines.
 ghost use Rattle.std.specs.Prelude.{◌≡◌, ◌+◌, ◌++◌, ◌^◌, ◌<◌, ◌≤◌, ℕ, IfOk, List, OnErr, OnOk, Some, false, flat_map};
-ghost use Rattle.std.specs.Prelude.{int_lt, is_err, length, map, max, take};
+ghost use Rattle.std.specs.Prelude.{int_lt, is_err, length, map, take};
 ghost use Rattle.std.specs.Global.{Vec};
 ghost use Rattle.std.specs.List.{AllByRecursion};
 ghost use Rattle.art_bytes.specs.Keys.{is_below};
 ghost use Rattle.art_walks.specs.MapReads.{IsSameMap, IsSpan};
 ghost use Rattle.art_lines.specs.Words.{Word, line_of};
 ghost use Rattle.art_lines.specs.Commands.{list, span, nspan, of_tenant};
-ghost use Rattle.art_engine.specs.Keys.{full_key_of};
 ghost use Rattle.art_engine.specs.Records.{own};
 ghost use Rattle.art_lines.specs.ReplyWords.{end_words, listed, number_words, numbers_listed, pair_words};
 ghost use Rattle.art_lines.specs.Gathered.{IsPartTaken};
 ghost use Rattle.art_engine.specs.Replies.{own_reply, pairs_from_to, numbers_from_to};
 ghost use Rattle.art_lines.specs.Writes.{IsCut, Writes};
-ghost use Rattle.art_engine.specs.Counts.{visits_of, listing, longest, GrewBy, Grew};
+ghost use Rattle.art_engine.specs.Counts.{visits_of, exactly, span_nodes, number_span_nodes, GrewBy, GrewUpTo, Grew};
 ghost use Rattle.art_lines.specs.Parsed.{tenant_in_place, key_in_place, value_in_place};
 ghost use Rattle.art_lines.specs.Parsed.{number_in_place, bound_in_place};
 ghost use Rattle.art_engine.specs.Stored.{Pair, NumberPair, records_of, number_records_of};
@@ -117,7 +116,7 @@ fn write_pairs<K: ListedKey, W: Sink, const PREFIX_LEN: usize>(
     ensures kept { IsSameMap records.old records.new }
     ensures counts { OnOk result
         (GrewBy (length (span_pairs records.old.nodes span.old)) records.old.count records.new.count) }
-    ensures few { records.new.count ≤ records.old.count + length (span_pairs records.old.nodes span.old) }
+    ensures few { GrewUpTo (length (span_pairs records.old.nodes span.old)) records.old.count records.new.count }
 {
     let mut room = [0; ROOM];
     let (mut held, mut count) = (0, 0);
@@ -146,10 +145,11 @@ pub(crate) fn write_list<W: Sink, const PREFIX_LEN: usize>(
         (W.has_failed sink.new) }
     ensures kept { IsSameMap records.old records.new }
     ensures visits { (ps : List Pair) → ReadsRecords PREFIX_LEN records.old ps → OnOk result (Grew
-        (visits_of (Some (of_tenant (tenant_in_place fields.now) (list (key_in_place fields.now)))) (records_of ps))
+        (visits_of PREFIX_LEN (Some (of_tenant (tenant_in_place fields.now) (list (key_in_place fields.now))))
+        (records_of ps))
         records.old.count records.new.count) }
     ensures few { (ps : List Pair) → ReadsRecords PREFIX_LEN records.old ps → records.new.count ≤ records.old.count
-        + (visits_of (Some (of_tenant (tenant_in_place fields.now) (list (key_in_place fields.now))))
+        + (visits_of PREFIX_LEN (Some (of_tenant (tenant_in_place fields.now) (list (key_in_place fields.now))))
         (records_of ps)).most }
 {
     let mut span = records.prefix(&SliceKey(fields.full_key()));
@@ -172,11 +172,11 @@ pub(crate) fn write_span<W: Sink, const PREFIX_LEN: usize>(
         (W.has_failed sink.new) }
     ensures kept { IsSameMap records.old records.new }
     ensures visits { (ps : List Pair) → ReadsRecords PREFIX_LEN records.old ps → OnOk result (Grew
-        (visits_of (Some (of_tenant (tenant_in_place fields.now)
+        (visits_of PREFIX_LEN (Some (of_tenant (tenant_in_place fields.now)
         (span (key_in_place fields.now) (value_in_place fields.now)))) (records_of ps))
         records.old.count records.new.count) }
     ensures few { (ps : List Pair) → ReadsRecords PREFIX_LEN records.old ps → records.new.count ≤ records.old.count
-        + (visits_of (Some (of_tenant (tenant_in_place fields.now)
+        + (visits_of PREFIX_LEN (Some (of_tenant (tenant_in_place fields.now)
         (span (key_in_place fields.now) (value_in_place fields.now)))) (records_of ps)).most }
 {
     if fields.value().cmp(fields.key()).is_lt() {
@@ -201,16 +201,12 @@ fn write_between<W: Sink, const PREFIX_LEN: usize>(
         (W.has_failed sink.new) }
     ensures kept { IsSameMap records.old records.new }
     ensures visits { (ps : List Pair) → ReadsRecords PREFIX_LEN records.old ps → OnOk result (Grew
-        (listing (length (pairs_from_to (key_in_place fields.now) (value_in_place fields.now)
-        (own (tenant_in_place fields.now) (records_of ps)).keys))
-        (max (length (key_in_place fields.now)) (length (value_in_place fields.now)))
-        (longest full_key_of (records_of ps).keys))
+        (exactly (span_nodes PREFIX_LEN (tenant_in_place fields.now) (key_in_place fields.now)
+        (value_in_place fields.now) (records_of ps)))
         records.old.count records.new.count) }
     ensures few { (ps : List Pair) → ReadsRecords PREFIX_LEN records.old ps → records.new.count ≤ records.old.count
-        + (listing (length (pairs_from_to (key_in_place fields.now) (value_in_place fields.now)
-        (own (tenant_in_place fields.now) (records_of ps)).keys))
-        (max (length (key_in_place fields.now)) (length (value_in_place fields.now)))
-        (longest full_key_of (records_of ps).keys)).most }
+        + span_nodes PREFIX_LEN (tenant_in_place fields.now) (key_in_place fields.now)
+        (value_in_place fields.now) (records_of ps) }
 {
     let (low, high) = (SliceKey(fields.full_key()), SliceKey(fields.full_bound()));
     let mut span = records.range(Bound::Included(&low), Bound::Excluded(&high));
@@ -233,11 +229,12 @@ pub(crate) fn write_number_span<W: Sink, const PREFIX_LEN: usize>(
         (W.has_failed sink.new) }
     ensures kept { IsSameMap numbers.old numbers.new }
     ensures visits { (ns : List NumberPair) → ReadsNumbers PREFIX_LEN numbers.old ns → OnOk result (Grew
-        (visits_of (Some (of_tenant (tenant_in_place fields.now)
+        (visits_of PREFIX_LEN (Some (of_tenant (tenant_in_place fields.now)
         (nspan (number_in_place fields.now) (bound_in_place fields.now)))) (number_records_of ns))
         numbers.old.count numbers.new.count) }
     ensures few { (ns : List NumberPair) → ReadsNumbers PREFIX_LEN numbers.old ns
-        → numbers.new.count ≤ numbers.old.count + (visits_of (Some (of_tenant (tenant_in_place fields.now)
+        → numbers.new.count ≤ numbers.old.count
+        + (visits_of PREFIX_LEN (Some (of_tenant (tenant_in_place fields.now)
         (nspan (number_in_place fields.now) (bound_in_place fields.now)))) (number_records_of ns)).most }
 {
     if fields.bound() < fields.number() {
@@ -262,13 +259,13 @@ fn write_numbers_between<W: Sink, const PREFIX_LEN: usize>(
         (W.has_failed sink.new) }
     ensures kept { IsSameMap numbers.old numbers.new }
     ensures visits { (ns : List NumberPair) → ReadsNumbers PREFIX_LEN numbers.old ns → OnOk result (Grew
-        (listing (length (numbers_from_to (number_in_place fields.now) (bound_in_place fields.now)
-        (own (tenant_in_place fields.now) (number_records_of ns)).numbers)) 8 12)
+        (exactly (number_span_nodes PREFIX_LEN (tenant_in_place fields.now) (number_in_place fields.now)
+        (bound_in_place fields.now) (number_records_of ns)))
         numbers.old.count numbers.new.count) }
     ensures few { (ns : List NumberPair) → ReadsNumbers PREFIX_LEN numbers.old ns
         → numbers.new.count ≤ numbers.old.count
-        + (listing (length (numbers_from_to (number_in_place fields.now) (bound_in_place fields.now)
-        (own (tenant_in_place fields.now) (number_records_of ns)).numbers)) 8 12).most }
+        + number_span_nodes PREFIX_LEN (tenant_in_place fields.now) (number_in_place fields.now)
+        (bound_in_place fields.now) (number_records_of ns) }
 {
     let (low, high) = (fields.number_key(), fields.bound_key());
     let mut span = numbers.range(Bound::Included(&low), Bound::Included(&high));

@@ -54,18 +54,19 @@ pub fn look<W: Sink, const PREFIX_LEN: usize>(
     ensures kept { IsSameMap bytes.old bytes.new × IsSameMap numbers.old numbers.new }
     ensures bytes_read { (ps : List Pair) (ns : List NumberPair) → ReadsRecords PREFIX_LEN bytes.old ps
         → ReadsNumbers PREFIX_LEN numbers.old ns → OnOk result (Grew
-        (key_visits (Some (meaning command.now)) (all_records_of ps ns)) bytes.old.count bytes.new.count) }
+        (key_visits PREFIX_LEN (Some (meaning command.now)) (all_records_of ps ns)) bytes.old.count bytes.new.count) }
     ensures numbers_read { (ps : List Pair) (ns : List NumberPair) → ReadsRecords PREFIX_LEN bytes.old ps
         → ReadsNumbers PREFIX_LEN numbers.old ns → OnOk result (Grew
-        (number_visits (Some (meaning command.now)) (all_records_of ps ns)) numbers.old.count numbers.new.count) }
+        (number_visits PREFIX_LEN (Some (meaning command.now)) (all_records_of ps ns))
+        numbers.old.count numbers.new.count) }
 
     // Whatever became of the reply, no more nodes were read than a whole one may take.
     ensures bytes_few { (ps : List Pair) (ns : List NumberPair) → ReadsRecords PREFIX_LEN bytes.old ps
         → ReadsNumbers PREFIX_LEN numbers.old ns → bytes.new.count ≤ bytes.old.count
-        + (key_visits (Some (meaning command.now)) (all_records_of ps ns)).most }
+        + (key_visits PREFIX_LEN (Some (meaning command.now)) (all_records_of ps ns)).most }
     ensures numbers_few { (ps : List Pair) (ns : List NumberPair) → ReadsRecords PREFIX_LEN bytes.old ps
         → ReadsNumbers PREFIX_LEN numbers.old ns → numbers.new.count ≤ numbers.old.count
-        + (number_visits (Some (meaning command.now)) (all_records_of ps ns)).most }
+        + (number_visits PREFIX_LEN (Some (meaning command.now)) (all_records_of ps ns)).most }
 {
     let mut fields = Fields::new();
     let word = fields.set_look_up(command);
@@ -77,7 +78,8 @@ pub fn look<W: Sink, const PREFIX_LEN: usize>(
 /// returns `RunFault::Write` if the sink fails.
 ///
 /// The readers count what they read, each by itself, whatever they had read before. If it returns `Ok`, `Grew` says how
-/// many nodes these are, given by the records alone: one of both maps is read, and nothing of the other.
+/// many nodes these are, given by the records and `PREFIX_LEN` alone. One of both maps is read, and nothing of the
+/// other.
 ///
 /// ```
 /// use art_lines::command::{fields::Fields, read_line, word::LookUp};
@@ -108,18 +110,20 @@ pub fn look_up<W: Sink, const PREFIX_LEN: usize>(
     ensures kept { IsSameMap bytes.old bytes.new × IsSameMap numbers.old numbers.new }
     ensures bytes_read { (ps : List Pair) (ns : List NumberPair) → ReadsRecords PREFIX_LEN bytes.old ps
         → ReadsNumbers PREFIX_LEN numbers.old ns → OnOk result (Grew
-        (key_visits (Some (looks_up word fields.now)) (all_records_of ps ns)) bytes.old.count bytes.new.count) }
+        (key_visits PREFIX_LEN (Some (looks_up word fields.now)) (all_records_of ps ns))
+        bytes.old.count bytes.new.count) }
     ensures numbers_read { (ps : List Pair) (ns : List NumberPair) → ReadsRecords PREFIX_LEN bytes.old ps
         → ReadsNumbers PREFIX_LEN numbers.old ns → OnOk result (Grew
-        (number_visits (Some (looks_up word fields.now)) (all_records_of ps ns)) numbers.old.count numbers.new.count) }
+        (number_visits PREFIX_LEN (Some (looks_up word fields.now)) (all_records_of ps ns))
+        numbers.old.count numbers.new.count) }
 
     // Whatever became of the reply, no more nodes were read than a whole one may take.
     ensures bytes_few { (ps : List Pair) (ns : List NumberPair) → ReadsRecords PREFIX_LEN bytes.old ps
         → ReadsNumbers PREFIX_LEN numbers.old ns → bytes.new.count ≤ bytes.old.count
-        + (key_visits (Some (looks_up word fields.now)) (all_records_of ps ns)).most }
+        + (key_visits PREFIX_LEN (Some (looks_up word fields.now)) (all_records_of ps ns)).most }
     ensures numbers_few { (ps : List Pair) (ns : List NumberPair) → ReadsRecords PREFIX_LEN bytes.old ps
         → ReadsNumbers PREFIX_LEN numbers.old ns → numbers.new.count ≤ numbers.old.count
-        + (number_visits (Some (looks_up word fields.now)) (all_records_of ps ns)).most }
+        + (number_visits PREFIX_LEN (Some (looks_up word fields.now)) (all_records_of ps ns)).most }
 {
     write_look_up(bytes, numbers, word, fields, sink)?;
     Ok(())
@@ -143,16 +147,18 @@ fn write_look_up<W: Sink, const PREFIX_LEN: usize>(
     ensures kept { IsSameMap bytes.old bytes.new × IsSameMap numbers.old numbers.new }
     ensures bytes_read { (ps : List Pair) (ns : List NumberPair) → ReadsRecords PREFIX_LEN bytes.old ps
         → ReadsNumbers PREFIX_LEN numbers.old ns → OnOk result (Grew
-        (key_visits (Some (looks_up word fields.now)) (all_records_of ps ns)) bytes.old.count bytes.new.count) }
+        (key_visits PREFIX_LEN (Some (looks_up word fields.now)) (all_records_of ps ns))
+        bytes.old.count bytes.new.count) }
     ensures numbers_read { (ps : List Pair) (ns : List NumberPair) → ReadsRecords PREFIX_LEN bytes.old ps
         → ReadsNumbers PREFIX_LEN numbers.old ns → OnOk result (Grew
-        (number_visits (Some (looks_up word fields.now)) (all_records_of ps ns)) numbers.old.count numbers.new.count) }
+        (number_visits PREFIX_LEN (Some (looks_up word fields.now)) (all_records_of ps ns))
+        numbers.old.count numbers.new.count) }
     ensures bytes_few { (ps : List Pair) (ns : List NumberPair) → ReadsRecords PREFIX_LEN bytes.old ps
         → ReadsNumbers PREFIX_LEN numbers.old ns → bytes.new.count ≤ bytes.old.count
-        + (key_visits (Some (looks_up word fields.now)) (all_records_of ps ns)).most }
+        + (key_visits PREFIX_LEN (Some (looks_up word fields.now)) (all_records_of ps ns)).most }
     ensures numbers_few { (ps : List Pair) (ns : List NumberPair) → ReadsRecords PREFIX_LEN bytes.old ps
         → ReadsNumbers PREFIX_LEN numbers.old ns → numbers.new.count ≤ numbers.old.count
-        + (number_visits (Some (looks_up word fields.now)) (all_records_of ps ns)).most }
+        + (number_visits PREFIX_LEN (Some (looks_up word fields.now)) (all_records_of ps ns)).most }
 {
     match word {
         LookUp::Get => write_value(sink, value_of(bytes, fields)),

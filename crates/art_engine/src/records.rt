@@ -136,8 +136,9 @@ impl<const PREFIX_LEN: usize> Records<PREFIX_LEN> {
             (flat_map line_of (command_reply (Some (looks_up word fields.now)) self.now))
             (W.has_failed sink.new) }
         ensures err { IfErr result.0 (λ fault. fault ≡ RunFault.Write) }
-        ensures visits { OnOk result.0 (IsWithin (visits_of (Some (looks_up word fields.now)) self.now) result.1) }
-        ensures few { result.1 ≤ (visits_of (Some (looks_up word fields.now)) self.now).most }
+        ensures visits { OnOk result.0
+            (IsWithin (visits_of PREFIX_LEN (Some (looks_up word fields.now)) self.now) result.1) }
+        ensures few { result.1 ≤ (visits_of PREFIX_LEN (Some (looks_up word fields.now)) self.now).most }
         ensures are { AreRecords self.now }
     {
         let readers = Readers::new(&self.keys, &self.numbers);
@@ -167,7 +168,7 @@ impl<const PREFIX_LEN: usize> Records<PREFIX_LEN> {
 
     /// Removes all records of the tenant that was read. If it is out of memory, nothing is changed.
     pub(crate) fn drop_tenant(&mut self, fields: &Fields) -> Dropped
-        ensures { IsDropDone result (tenant_in_place fields.now) self.old self.new }
+        ensures { IsDropDone PREFIX_LEN result (tenant_in_place fields.now) self.old self.new }
     {
         drop_tenant::drop_tenant(&mut self.keys, &mut self.numbers, fields)
     }

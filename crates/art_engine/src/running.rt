@@ -160,12 +160,12 @@ fn feed<W: Sink, const PREFIX_LEN: usize>(
 ) -> Result<(), RunFault>
     requires open { W.has_failed sink.old ≡ false }
     requires used_up { to_come read_ahead.old ≡ [] }
-    ensures carried { OnOk result ((start : State) (text before : List ℕ)
+    ensures carried { OnOk result ((start : State PREFIX_LEN) (text before : List ℕ)
         → Carried start index.old text held.old.items before (W.taken sink.old)
         → Carried start index.new (text ++ piece.now) held.new.items before (W.taken sink.new)) }
     ensures used_up { to_come read_ahead.new ≡ [] }
     ensures counted { Tells index.old 0 index.new 0 }
-    ensures cut { OnErr result ((start : State) (text before : List ℕ)
+    ensures cut { OnErr result ((start : State PREFIX_LEN) (text before : List ℕ)
         → Carried start index.old text held.old.items before (W.taken sink.old)
         → IsCutRun start index.new (whole_lines_of (text ++ piece.now)) before (W.taken sink.new)) }
     ensures err { IfErr result (λ fault. fault ≡ RunFault.Write) }
@@ -193,7 +193,7 @@ fn finish_line<W: Sink, const PREFIX_LEN: usize>(
     requires part { NoNewline part.now × ((following : List ℕ) × (rest.now ≡ (part.now ++ 10 ∷ []) ++ following)) }
     requires comes { AreNext (texts_of (to_come read_ahead.old)) rest.now }
     requires cut { (held.old.items ≡ []) ⊎ (to_come read_ahead.old ≡ []) }
-    ensures carried { OnOk result ((start : State) (text before : List ℕ)
+    ensures carried { OnOk result ((start : State PREFIX_LEN) (text before : List ℕ)
         → NoNewline part.now
         → Carried start index.old text held.old.items before (W.taken sink.old)
         → Carried start index.new (text ++ part.now ++ 10 ∷ []) held.new.items before (W.taken sink.new)) }
@@ -202,7 +202,7 @@ fn finish_line<W: Sink, const PREFIX_LEN: usize>(
         → AreNext (texts_of (to_come read_ahead.new)) following) }
     ensures used_up { OnErr result (to_come read_ahead.new ≡ []) }
     ensures counted { Tells index.old (read_of (to_come read_ahead.old)) index.new (read_of (to_come read_ahead.new)) }
-    ensures cut { OnErr result ((start : State) (text before : List ℕ)
+    ensures cut { OnErr result ((start : State PREFIX_LEN) (text before : List ℕ)
         → NoNewline part.now
         → Carried start index.old text held.old.items before (W.taken sink.old)
         → IsCutRun start index.new (whole_lines_of (text ++ part.now ++ 10 ∷ [])) before (W.taken sink.new)) }

@@ -16,7 +16,7 @@ well_done (Ok x) (Err e) p kept f = tt
 well_done {T} {U} {E} {P} {Q} (Err e) last p kept f = subst (λ r. OnOk r Q) (sym kept) tt
 
 -- what was given and what was taken, from nothing
-pub all_answered : (old new : State) (given taken out start begun : List ℕ) → start ≡ [] → begun ≡ [] → out ≡ taken
+pub all_answered : {P : ℕ} (old new : State P) (given taken out start begun : List ℕ) → start ≡ [] → begun ≡ [] → out ≡ taken
     → ((text written : List ℕ) × (given ≡ start ++ text) × (taken ≡ begun ++ written) × IsOutcome old (lines_of text) written new)
     → IsOutcome old (lines_of given) out new
 all_answered old new given taken out start begun none nothing same o =
@@ -67,7 +67,7 @@ pub write_first : {T Q : Type 0} (first last : Result T RunFault) → IfErr firs
 write_first (Ok x) last kept q is = inr q
 write_first (Err e) last kept q is = inl (sym kept ∙ is)
 
-module _ (old new : State) (given taken out start begun : List ℕ) (none : start ≡ []) (nothing : begun ≡ []) (same : out ≡ taken) where
+module _ {P : ℕ} (old new : State P) (given taken out start begun : List ℕ) (none : start ≡ []) (nothing : begun ≡ []) (same : out ≡ taken) where
   whole : (text : List ℕ) → given ≡ start ++ text → text ≡ given
   whole text is = sym (is ∙ ap (λ s. s ++ text) none)
 

@@ -27,7 +27,8 @@ pub(crate) fn value_of<'a, const PREFIX_LEN: usize>(
         ≡ value_at bytes_eq (key_in_place fields.now) (own (tenant_in_place fields.now) (records_of ps)).keys }
     ensures kept { IsSameMap records.old records.new }
     ensures visits { (ps : List Pair) → ReadsRecords PREFIX_LEN records.old ps → Grew
-        (visits_of (Some (of_tenant (tenant_in_place fields.now) (get (key_in_place fields.now)))) (records_of ps))
+        (visits_of PREFIX_LEN (Some (of_tenant (tenant_in_place fields.now) (get (key_in_place fields.now))))
+        (records_of ps))
         records.old.count records.new.count }
 {
     match records.get_key_value(&SliceKey(fields.full_key())) {
@@ -49,7 +50,8 @@ pub(crate) fn prefix_pair_of<'a, const PREFIX_LEN: usize>(
     ensures line { IfSome result (λ p. 3 + length (line_of (pair_words (p.0.now, p.1.now))) ≤ 4097) }
     ensures kept { IsSameMap records.old records.new }
     ensures visits { (ps : List Pair) → ReadsRecords PREFIX_LEN records.old ps → Grew
-        (visits_of (Some (of_tenant (tenant_in_place fields.now) (find (key_in_place fields.now)))) (records_of ps))
+        (visits_of PREFIX_LEN (Some (of_tenant (tenant_in_place fields.now) (find (key_in_place fields.now))))
+        (records_of ps))
         records.old.count records.new.count }
 {
     match records.prefix_get_key_value(&SliceKey(fields.full_key())) {
@@ -72,7 +74,7 @@ pub(crate) fn value_at_number<'a, const PREFIX_LEN: usize>(
         (own (tenant_in_place fields.now) (number_records_of ns)).numbers }
     ensures kept { IsSameMap numbers.old numbers.new }
     ensures visits { (ns : List NumberPair) → ReadsNumbers PREFIX_LEN numbers.old ns → Grew
-        (visits_of (Some (of_tenant (tenant_in_place fields.now) (nget (number_in_place fields.now))))
+        (visits_of PREFIX_LEN (Some (of_tenant (tenant_in_place fields.now) (nget (number_in_place fields.now))))
         (number_records_of ns))
         numbers.old.count numbers.new.count }
 {

@@ -21,8 +21,8 @@ pub(super) fn drop_tenant<const PREFIX_LEN: usize>(
     requires numbers { AreNumberPairs numbers.old.pairs }
     ensures held { ArePairs records.new.pairs }
     ensures numbers { AreNumberPairs numbers.new.pairs }
-    ensures done { IsDropDone result (tenant_in_place fields.now) (all_records_of records.old.pairs numbers.old.pairs)
-        (all_records_of records.new.pairs numbers.new.pairs) }
+    ensures done { IsDropDone PREFIX_LEN result (tenant_in_place fields.now)
+        (all_records_of records.old.pairs numbers.old.pairs) (all_records_of records.new.pairs numbers.new.pairs) }
 {
     let prefix = fields.tenant().to_be_bytes();
     let Ok(keys) = records.prepare_remove_prefix(&prefix) else {

@@ -61,10 +61,10 @@ impl<'a, const PREFIX_LEN: usize> Readers<'a, PREFIX_LEN> {
         ensures err { IfErr result.0 (λ fault. fault ≡ RunFault.Write) }
         ensures visits { (ps : List Pair) (ns : List NumberPair) → ReadsRecords PREFIX_LEN self.entry.keys ps
             → ReadsNumbers PREFIX_LEN self.entry.numbers ns → OnOk result.0 (IsWithin
-            (visits_of (Some (looks_up word fields.now)) (all_records_of ps ns)) result.1) }
+            (visits_of PREFIX_LEN (Some (looks_up word fields.now)) (all_records_of ps ns)) result.1) }
         ensures few { (ps : List Pair) (ns : List NumberPair) → ReadsRecords PREFIX_LEN self.entry.keys ps
             → ReadsNumbers PREFIX_LEN self.entry.numbers ns
-            → result.1 ≤ (visits_of (Some (looks_up word fields.now)) (all_records_of ps ns)).most }
+            → result.1 ≤ (visits_of PREFIX_LEN (Some (looks_up word fields.now)) (all_records_of ps ns)).most }
     {
         let Readers {
             mut keys,

@@ -1,16 +1,15 @@
-use Rattle.std.proofs.Common.{rules, ℕ, ◌+◌, ◌^◌, ◌<◌, ◌≤◌, List, length, map, ap, ap₂, sym, ◌∙◌, subst, arith, inr}
-use Rattle.std.specs.Prelude.{filter, max}
+use Rattle.std.proofs.Common.{rules, ℕ, ◌^◌, ◌<◌, List, length, map, ap, ap₂, sym, ◌∙◌, subst, inr}
+use Rattle.std.specs.Prelude.{filter}
 use Rattle.std.specs.List.{AllByRecursion}
 use Rattle.std.specs.declared.ops.Bound.TheVariants.{Included, Excluded}
 use Rattle.std.specs.BTreeMap.Range.{IsLeBy, range_contains}
 use Rattle.std.proofs.lemmas.Result.{on_ok_weaker}
 use Rattle.art_bytes.proofs.Common.{bytes_cmp}
-use Rattle.art_lines.proofs.Common.{Writes, tenant_in_place, key_in_place, value_in_place}
-use Rattle.art_engine.proofs.Terms.{longest, GrewBy, full_key_of, span_pairs, own_pair, IsListed, Pair, record_of}
-use Rattle.art_engine.proofs.Listings.{never_falls}
+use Rattle.art_lines.proofs.Common.{Writes, full_key, tenant_in_place, key_in_place, value_in_place}
+use Rattle.art_engine.proofs.Terms.{GrewBy, GrewUpTo, span_pairs, own_pair, IsListed, Pair}
 use Rattle.art_engine.proofs.FullTests.{in_order_full}
 use Rattle.art_engine.proofs.ListedLines.{list_all}
-use Rattle.art_engine.proofs.RecordCounts.{own_pairs, own_left, left_listed, left_few, left_grew, left_most, span_tests, pairs_within}
+use Rattle.art_engine.proofs.RecordCounts.{own_pairs, own_left, left_listed, left_few, left_grew, left_most, span_opens, span_tests}
 use Rattle.art_engine.proofs.SpanLemmas.{span_left}
 use Rattle.art_engine.proofs.listing.write_between.Goals as goal
 
@@ -44,11 +43,8 @@ returns-clause-visits g c = λ ps r.
     let F = c.args.fields.now in let t = tenant_in_place F in let low = key_in_place F in let high = value_in_place F in
     let left = span_left _ ps _ _ (c.range-span.ensures.value ps r.read)
     ∙ ap₂ (λ a b. filter (λ (p : Pair). range_contains bytes_cmp (Included a) (Excluded b) p.0.items) ps) c.full_key.ensures.value c.full_bound.ensures in
-    let first = ap length c.full_key.ensures.value in
-    let second = ap length c.full_bound.ensures in
-    let bound = max (length low) (length high) in
-    on_ok_weaker c.write_pairs.result (λ is. left_grew t _ _ (span_tests t low high c.full_key.ensures.tenant) ps r.are bound (bound + 4) _ _ _ r.few (omega arith) (never_falls c.args.records.now.root _ _ c.range-span.ensures.least)
-    (c.range-span.ensures.few ps r.read (longest full_key_of (map record_of ps)) (bound + 4) (pairs_within ps r.are.stand) (omega arith) (omega arith))
+    let opens = span_opens g.row.PREFIX_LEN ps r.are.stand _ _ _ _ (full_key t low) (full_key t high) c.full_key.ensures.value c.full_bound.ensures (c.range-span.ensures.counts ps r.read) in
+    on_ok_weaker c.write_pairs.result (λ is. left_grew t _ _ (span_tests t low high c.full_key.ensures.tenant) ps r.are _ _ _ _ r.few opens
     (subst (λ (l : List Pair). GrewBy (length l) c.range-span.new.self.count c.write_pairs.new.records.count) left is)) c.write_pairs.ensures.counts
 
 pub returns-clause-few : goal.returns-clause-few
@@ -56,9 +52,6 @@ returns-clause-few g c = λ ps r.
     let F = c.args.fields.now in let t = tenant_in_place F in let low = key_in_place F in let high = value_in_place F in
     let left = span_left _ ps _ _ (c.range-span.ensures.value ps r.read)
     ∙ ap₂ (λ a b. filter (λ (p : Pair). range_contains bytes_cmp (Included a) (Excluded b) p.0.items) ps) c.full_key.ensures.value c.full_bound.ensures in
-    let first = ap length c.full_key.ensures.value in
-    let second = ap length c.full_bound.ensures in
-    let bound = max (length low) (length high) in
-    left_most t _ _ (span_tests t low high c.full_key.ensures.tenant) ps r.are bound (bound + 4) _ _ _ (omega arith)
-    (c.range-span.ensures.few ps r.read (longest full_key_of (map record_of ps)) (bound + 4) (pairs_within ps r.are.stand) (omega arith) (omega arith))
-    (subst (λ (l : List Pair). c.write_pairs.new.records.count ≤ c.range-span.new.self.count + length l) left c.write_pairs.ensures.few)
+    let opens = span_opens g.row.PREFIX_LEN ps r.are.stand _ _ _ _ (full_key t low) (full_key t high) c.full_key.ensures.value c.full_bound.ensures (c.range-span.ensures.counts ps r.read) in
+    left_most t _ _ (span_tests t low high c.full_key.ensures.tenant) ps r.are _ _ _ _ r.few opens
+    (subst (λ (l : List Pair). GrewUpTo (length l) c.range-span.new.self.count c.write_pairs.new.records.count) left c.write_pairs.ensures.few)

@@ -1,13 +1,12 @@
-use Rattle.std.proofs.Common.{ℕ, rules, ◌≡◌, ◌+◌, ◌^◌, ◌<◌, ◌≤◌, List, length, map, ap, sym, ◌∙◌, subst, arith}
+use Rattle.std.proofs.Common.{ℕ, rules, ◌^◌, ◌<◌, List, length, map, ap, sym, ◌∙◌, subst}
 use Rattle.std.specs.Prelude.{filter}
 use Rattle.std.specs.List.{AllByRecursion}
 use Rattle.std.proofs.lemmas.Result.{on_ok_weaker}
 use Rattle.art_arena.proofs.Common.{begins_with}
-use Rattle.art_lines.proofs.Common.{Writes, tenant_in_place, key_in_place}
-use Rattle.art_engine.proofs.Terms.{longest, GrewBy, full_key_of, span_pairs, own_pair, IsListed, Pair, record_of}
-use Rattle.art_engine.proofs.Listings.{never_falls}
+use Rattle.art_lines.proofs.Common.{Writes, full_key, tenant_in_place, key_in_place}
+use Rattle.art_engine.proofs.Terms.{GrewBy, GrewUpTo, span_pairs, own_pair, IsListed, Pair}
 use Rattle.art_engine.proofs.ListedLines.{list_all}
-use Rattle.art_engine.proofs.RecordCounts.{own_pairs, own_left, left_listed, left_few, left_grew, left_most, list_tests, pairs_within}
+use Rattle.art_engine.proofs.RecordCounts.{own_pairs, own_left, left_listed, left_few, left_grew, left_most, list_opens, list_tests}
 use Rattle.art_engine.proofs.SpanLemmas.{span_left}
 use Rattle.art_engine.proofs.listing.write_list.Goals as goal
 
@@ -31,16 +30,14 @@ pub returns-clause-visits : goal.returns-clause-visits
 returns-clause-visits g c = λ ps r.
     let t = tenant_in_place c.args.fields.now in let k = key_in_place c.args.fields.now in
     let left = span_left _ ps _ _ (c.prefix-span.ensures.value ps r.read) ∙ ap (λ q. filter (λ (p : Pair). begins_with q p.0.items) ps) c.full_key.ensures.value in
-    let whole : length c.full_key.result.now ≡ length k + 4 = ap length c.full_key.ensures.value ∙ omega arith in
-    on_ok_weaker c.write_pairs.result (λ is. left_grew t _ _ (list_tests t k c.full_key.ensures.tenant) ps r.are (length k) (length c.full_key.result.now) _ _ _ r.few whole (never_falls c.args.records.now.root _ _ c.prefix-span.ensures.least)
-    (c.prefix-span.ensures.few ps r.read (longest full_key_of (map record_of ps)) (pairs_within ps r.are.stand))
+    let opens = list_opens g.row.PREFIX_LEN ps r.are.stand _ _ c.full_key.result.now (full_key t k) c.full_key.ensures.value (c.prefix-span.ensures.counts ps r.read) in
+    on_ok_weaker c.write_pairs.result (λ is. left_grew t _ _ (list_tests t k c.full_key.ensures.tenant) ps r.are _ _ _ _ r.few opens
     (subst (λ (l : List Pair). GrewBy (length l) c.prefix-span.new.self.count c.write_pairs.new.records.count) left is)) c.write_pairs.ensures.counts
 
 pub returns-clause-few : goal.returns-clause-few
 returns-clause-few g c = λ ps r.
     let t = tenant_in_place c.args.fields.now in let k = key_in_place c.args.fields.now in
     let left = span_left _ ps _ _ (c.prefix-span.ensures.value ps r.read) ∙ ap (λ q. filter (λ (p : Pair). begins_with q p.0.items) ps) c.full_key.ensures.value in
-    let whole : length c.full_key.result.now ≡ length k + 4 = ap length c.full_key.ensures.value ∙ omega arith in
-    left_most t _ _ (list_tests t k c.full_key.ensures.tenant) ps r.are (length k) (length c.full_key.result.now) _ _ _ whole
-    (c.prefix-span.ensures.few ps r.read (longest full_key_of (map record_of ps)) (pairs_within ps r.are.stand))
-    (subst (λ (l : List Pair). c.write_pairs.new.records.count ≤ c.prefix-span.new.self.count + length l) left c.write_pairs.ensures.few)
+    let opens = list_opens g.row.PREFIX_LEN ps r.are.stand _ _ c.full_key.result.now (full_key t k) c.full_key.ensures.value (c.prefix-span.ensures.counts ps r.read) in
+    left_most t _ _ (list_tests t k c.full_key.ensures.tenant) ps r.are _ _ _ _ r.few opens
+    (subst (λ (l : List Pair). GrewUpTo (length l) c.prefix-span.new.self.count c.write_pairs.new.records.count) left c.write_pairs.ensures.few)

@@ -1,16 +1,15 @@
-use Rattle.std.proofs.Common.{rules, ℕ, ◌+◌, ◌^◌, ◌<◌, ◌≤◌, List, length, map, ap, ap₂, sym, ◌∙◌, subst, arith, inr}
+use Rattle.std.proofs.Common.{rules, ℕ, ◌^◌, ◌<◌, List, length, map, ap, ap₂, sym, ◌∙◌, subst, inr}
 use Rattle.std.specs.Prelude.{filter}
 use Rattle.std.specs.List.{AllByRecursion}
 use Rattle.std.specs.declared.ops.Bound.TheVariants.{Included}
 use Rattle.std.specs.BTreeMap.Range.{IsLeBy, range_contains}
 use Rattle.std.proofs.lemmas.Result.{on_ok_weaker}
-use Rattle.art_bytes.proofs.Common.{bytes_cmp}
+use Rattle.art_bytes.proofs.Common.{bytes_cmp, pair_key}
 use Rattle.art_lines.proofs.Common.{Writes, tenant_in_place, number_in_place, bound_in_place}
-use Rattle.art_engine.proofs.Terms.{GrewBy, span_pairs, own_number, IsNumbered, NumberPair}
-use Rattle.art_engine.proofs.Listings.{never_falls}
+use Rattle.art_engine.proofs.Terms.{GrewBy, GrewUpTo, span_pairs, own_number, IsNumbered, NumberPair}
 use Rattle.art_engine.proofs.NumberKeys.{HaveBytes, numbers_in_order}
 use Rattle.art_engine.proofs.ListedLines.{numbers_all}
-use Rattle.art_engine.proofs.RecordCounts.{own_numbers, own_numbers_left, numbers_left_listed, numbers_left_few, numbers_left_grew, numbers_left_most, numbers_within}
+use Rattle.art_engine.proofs.RecordCounts.{own_numbers, own_numbers_left, numbers_left_listed, numbers_left_few, numbers_left_grew, numbers_left_most, numbers_open}
 use Rattle.art_engine.proofs.SpanLemmas.{span_left}
 use Rattle.art_engine.proofs.listing.write_numbers_between.Goals as goal
 
@@ -50,10 +49,8 @@ returns-clause-visits g c = λ ns r.
     let fits_high : HaveBytes t high = (c.number_key-low.ensures.tenant, c.bound_key-high.ensures.bound) in
     let left = span_left _ ns _ _ (c.range-span.ensures.value ns r.read)
     ∙ ap₂ (λ a b. filter (λ (p : NumberPair). range_contains bytes_cmp (Included a) (Included b) p.0) ns) c.number_key-low.ensures.value c.bound_key-high.ensures.value in
-    let first = ap length c.number_key-low.ensures.value in
-    let second = ap length c.bound_key-high.ensures.value in
-    on_ok_weaker c.write_pairs.result (λ is. numbers_left_grew t low high fits_low fits_high ns r.are _ _ _ r.few (never_falls c.args.numbers.now.root _ _ c.range-span.ensures.least)
-    (c.range-span.ensures.few ns r.read 12 12 (numbers_within ns r.are.stand) (omega arith) (omega arith))
+    let opens = numbers_open g.row.PREFIX_LEN ns r.are _ _ _ _ (pair_key (t, low)) (pair_key (t, high)) c.number_key-low.ensures.value c.bound_key-high.ensures.value (c.range-span.ensures.counts ns r.read) in
+    on_ok_weaker c.write_pairs.result (λ is. numbers_left_grew t low high fits_low fits_high ns r.are _ _ _ _ r.few opens
     (subst (λ (l : List NumberPair). GrewBy (length l) c.range-span.new.self.count c.write_pairs.new.records.count) left is)) c.write_pairs.ensures.counts
 
 pub returns-clause-few : goal.returns-clause-few
@@ -63,8 +60,6 @@ returns-clause-few g c = λ ns r.
     let fits_high : HaveBytes t high = (c.number_key-low.ensures.tenant, c.bound_key-high.ensures.bound) in
     let left = span_left _ ns _ _ (c.range-span.ensures.value ns r.read)
     ∙ ap₂ (λ a b. filter (λ (p : NumberPair). range_contains bytes_cmp (Included a) (Included b) p.0) ns) c.number_key-low.ensures.value c.bound_key-high.ensures.value in
-    let first = ap length c.number_key-low.ensures.value in
-    let second = ap length c.bound_key-high.ensures.value in
-    numbers_left_most t low high fits_low fits_high ns r.are _ _ _
-    (c.range-span.ensures.few ns r.read 12 12 (numbers_within ns r.are.stand) (omega arith) (omega arith))
-    (subst (λ (l : List NumberPair). c.write_pairs.new.records.count ≤ c.range-span.new.self.count + length l) left c.write_pairs.ensures.few)
+    let opens = numbers_open g.row.PREFIX_LEN ns r.are _ _ _ _ (pair_key (t, low)) (pair_key (t, high)) c.number_key-low.ensures.value c.bound_key-high.ensures.value (c.range-span.ensures.counts ns r.read) in
+    numbers_left_most t low high fits_low fits_high ns r.are _ _ _ _ r.few opens
+    (subst (λ (l : List NumberPair). GrewUpTo (length l) c.range-span.new.self.count c.write_pairs.new.records.count) left c.write_pairs.ensures.few)

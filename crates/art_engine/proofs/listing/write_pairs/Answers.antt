@@ -30,7 +30,7 @@ pairs-init g c =
       closed = subst (λ os. IsClosed deref_pair os L) (sym none) tt;
       counted = omega arith;
       same = (refl, refl);
-      visits = (omega arith, omega arith);
+      visits = λ fits. omega arith;
     }
 
 pub gather-requires-clause-listed : goal.gather-requires-clause-listed
@@ -75,7 +75,6 @@ pairs-preserved g c =
     let output = lines_next g.K.ListedKey.words last p rest left _ (take c.pairs.held c.pairs.room) step refl in
     let taken = taken_through _ _ _ _ _ _ _ (taken_from _ _ _ _ _ output c.pairs.invariant.taken) (rw kept at c.in_ok-next.ensures.taken) in
     let visits = c.in-Some.ensures.counts c.pairs.count c.args.records.now.count c.pairs.invariant.visits in
-    let low = visits.0 in let high = visits.1 in
     record {
       taken = taken_from _ _ _ _ _ (ap (λ n. take c.in_ok-next.next c.gather.new.room ++ lines_from g.K.ListedKey.words (list_end n) rest) (sym total)) taken;
       fine = sym c.in_ok-next.ensures.failed;
@@ -86,7 +85,7 @@ pairs-preserved g c =
       closed = c.next.ensures.closed;
       counted = omega arith;
       same = c.next.ensures.kept c.args.records.now c.pairs.invariant.same;
-      visits = (omega arith, omega arith);
+      visits = λ fits. let is = visits fits in omega arith;
     }
 
 pub returns-clause-written : goal.returns-clause-written
@@ -112,8 +111,7 @@ returns-clause-counts g c =
     let given = ap (λ o. length (pending (option_map deref_pair o) (pending_all deref_pair read []))) c.in_default.is in
     let counted = c.pairs.invariant.counted in
     let visits = c.next.ensures.counts c.pairs.count c.args.records.now.count c.pairs.invariant.visits in
-    let low = visits.0 in let high = visits.1 in
-    when_ok c.write_end.result (omega arith, omega arith)
+    when_ok c.write_end.result (λ fits. let is = visits fits in omega arith)
 
 pub returns-in_err-next-clause-kept : goal.returns-in_err-next-clause-kept
 returns-in_err-next-clause-kept g c = c.next.ensures.kept c.args.records.now c.pairs.invariant.same
@@ -128,8 +126,7 @@ returns-in_err-next-clause-few g c =
     let step = ap length c.in-Some.ensures.gives in
     let counted = c.pairs.invariant.counted in
     let visits = c.in-Some.ensures.counts c.pairs.count c.args.records.now.count c.pairs.invariant.visits in
-    let high = visits.1 in
-    omega arith
+    (c.pairs.count + 1 + length (pending_all deref_pair read []), omega arith, λ fits. let is = visits fits in omega arith)
 
 pub returns-clause-few : goal.returns-clause-few
 returns-clause-few g c =
@@ -142,5 +139,4 @@ returns-clause-few g c =
     let given = ap (λ o. length (pending (option_map deref_pair o) (pending_all deref_pair read []))) c.in_default.is in
     let counted = c.pairs.invariant.counted in
     let visits = c.next.ensures.counts c.pairs.count c.args.records.now.count c.pairs.invariant.visits in
-    let high = visits.1 in
-    omega arith
+    (c.pairs.count + length (pending_all deref_pair read []), omega arith, λ fits. let is = visits fits in omega arith)

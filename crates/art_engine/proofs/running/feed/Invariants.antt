@@ -6,7 +6,7 @@ use Rattle.art_engine.proofs.running.feed.Given as goal
 -- the part of the piece before the rest is carried
 abbrev pub invariant-lines : goal.invariant-lines
 invariant-lines g l = record {
-  carried : (done : List ℕ) × (l.piece ≡ done ++ l.rest) × ((start : State) (text before : List ℕ)
+  carried : (done : List ℕ) × (l.piece ≡ done ++ l.rest) × ((start : State g.row.PREFIX_LEN) (text before : List ℕ)
       → Carried start l.fn.index text l.fn.held.items before (g.W.Sink.taken l.fn.sink)
       → Carried start l.index (text ++ done) l.held.items before (g.W.Sink.taken l.sink));
   comes : AreNext (texts_of (to_come l.read_ahead)) l.rest;
