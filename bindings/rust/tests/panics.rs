@@ -193,6 +193,33 @@ fn an_iterator() {
     }
 }
 
+/// Numbers, of which it tells that there are so many, or panics.
+struct Lying(std::ops::Range<u32>, Option<usize>);
+
+impl Iterator for Lying {
+    type Item = (u32, u32);
+
+    fn next(&mut self) -> Option<(u32, u32)> {
+        self.0.next().map(|it| (it, it))
+    }
+
+    fn size_hint(&self) -> (usize, Option<usize>) {
+        (self.1.expect("a size"), None)
+    }
+}
+
+#[test]
+fn a_size_that_is_not_so() {
+    for size in [0, 1, 7, 5000, usize::MAX] {
+        let mut map: ArtMap<_, _> = Lying(0..300, Some(size)).collect();
+        map.extend(Lying(200..400, Some(size)));
+        assert!(map.iter().map(|(key, value)| (*key, *value)).eq((0..400).map(|it| (it, it))), "{size}");
+        panics(|| map.extend(Lying(0..1, None)));
+        assert_eq!(map.len(), 400);
+    }
+    panics(|| drop(Lying(0..300, None).collect::<ArtMap<_, _>>()));
+}
+
 #[test]
 fn a_conversion() {
     let state: Rc<State> = Rc::default();
