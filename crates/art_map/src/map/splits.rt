@@ -38,7 +38,8 @@ impl<K: AsBytes, V, const PREFIX_LEN: usize> TreeMap<K, V, PREFIX_LEN> {
     ///
     /// If few leave, they move one by one. If many do, all leaves that go are moved along their list, and the inner
     /// nodes of both maps are made anew. So the cost never goes by more than the pairs of the map. The others keep
-    /// their leaves. If all leave, the nodes go with them, and all room. If none do, all room stays, in an empty map too.
+    /// their leaves. If all leave, the nodes go with them, and all room. If none do, all room stays, in an empty map
+    /// too.
     ///
     /// A pair that leaves gives room for a leaf back. Of each other kind it uses room for four nodes at most.
     ///
