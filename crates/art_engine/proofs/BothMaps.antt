@@ -4,7 +4,7 @@ use Rattle.std.specs.Prelude.{Some, None, int_lt}
 use Rattle.art_engine.specs.declared.change.Changed.{Changed}
 use Rattle.art_engine.specs.declared.change.Changed.TheVariants as changed
 use Rattle.art_lines.proofs.Common.{put, over, del, nput, ndel, of_tenant}
-use Rattle.art_engine.proofs.Terms.{KeyRecord, NumberRecord, InOrder, KeyComesBefore, NumberComesBefore, own, with_own, value_at, has_conflict, with_pair, with_value_over, without_at, puts, with_changed, Pair, NumberPair, record_of, number_record_of, records_of, number_records_of}
+use Rattle.art_engine.proofs.Terms.{InOrder, KeyComesBefore, NumberComesBefore, own, with_own, value_at, has_conflict, with_pair, with_value_over, without_at, puts, with_changed, Pair, NumberPair, record_of, number_record_of, records_of, number_records_of}
 use Rattle.art_engine.proofs.Terms.{all_records_of, IsChangeDone}
 use Rattle.art_engine.proofs.OwnLaws.{key_ascends, number_ascends, in_place, records_from_lists}
 use Rattle.std.specs.Str.{bytes_eq}

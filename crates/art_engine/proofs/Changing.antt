@@ -1,5 +1,5 @@
 -- How a prefix insertion and a deletion are answered, and what they leave, from what the map says of its pairs.
-use Rattle.std.proofs.Common.{◌≡◌, ℕ, ◌<◌, ◌^◌, List, [], ◌∷◌, length, map, refl, ap, sym, ◌∙◌, subst, Bool, true, false, Option, Some, None, bytes_eq}
+use Rattle.std.proofs.Common.{◌≡◌, ℕ, ◌<◌, ◌^◌, List, [], ◌∷◌, length, map, refl, ap, sym, ◌∙◌, subst, Bool, Option, Some, None, bytes_eq}
 use Rattle.std.specs.Prelude.{option_map, not, codes}
 use Rattle.std.specs.Global.{Vec}
 use Rattle.std.specs.List.{AllByRecursion}
@@ -15,7 +15,7 @@ use Rattle.art_engine.proofs.KeyKinds.{are_full, bytes_of, keys_ascend, keys_sta
 use Rattle.art_engine.proofs.Overwriting.{over_records, over_count}
 use Rattle.art_engine.proofs.OwnLaws.{records_from_lists}
 use Rattle.art_engine.proofs.Placing.{is_full_key}
-use Rattle.art_engine.proofs.TenantKeys.{Stands, found, refused, removed}
+use Rattle.art_engine.proofs.TenantKeys.{StandsUnder, found, refused, removed}
 use Rattle.art_engine.proofs.Terms.{full_key_of, KeyFits, own, value_at, Pair, record_of, records_of, IsFull, AreFull, ArePairs, IsChangeDone, changed_words}
 pub use Rattle.art_engine.proofs.TenantKeys.{itself}
 
@@ -42,7 +42,7 @@ pub absent_words : (o : Option (List ℕ)) → o ≡ None → changed_words chan
 absent_words o e = rw e refl
 
 module _ (t : ℕ) (k : List ℕ) (small : t < 2 ^ 32) (ps new : List Pair) (are : AreFull ps) where
-  stand : AllByRecursion (Stands under_keys) ps
+  stand : AllByRecursion (StandsUnder under_keys) ps
   stand = keys_stand ps are.full are.tenants
 
   at_key : option_map (λ w. w.items) (lookup (is_full_key t k) ps) ≡ value_at bytes_eq k (own t (records_of ps)).keys
@@ -53,7 +53,7 @@ module _ (t : ℕ) (k : List ℕ) (small : t < 2 ^ 32) (ps new : List Pair) (are
 
   pub del_keeps : AllByRecursion KeyFits (map record_of ps) → new ≡ without_key bytes_of (full_key t k) ps → ArePairs new
   del_keeps fit is = subst ArePairs (sym is) (record {
-    stand = are_full (without_key bytes_of (full_key t k) ps) (all-filter (Stands under_keys) other ps stand) (ascends-filter bytes_of other ps (keys_ascend ps are));
+    stand = are_full (without_key bytes_of (full_key t k) ps) (all-filter (StandsUnder under_keys) other ps stand) (ascends-filter bytes_of other ps (keys_ascend ps are));
     fit = All-left_out KeyFits record_of other ps fit;
   })
 

@@ -15,12 +15,12 @@ use Rattle.art_engine.proofs.Terms.{AreFull, has_conflict, own, Pair, record_of,
 pub use Rattle.art_engine.proofs.KeyKinds.{bytes_of}
 
 module _ {X : Type 0} where
-  abbrev some : List X → Bool
+  abbrev pub some : List X → Bool
   some [] = false
   some (x ∷ xs) = true
 
   -- whether one passes
-  any-some : (p : X → Bool) (xs : List X) → list_any p xs ≡ some (filter p xs)
+  pub any-some : (p : X → Bool) (xs : List X) → list_any p xs ≡ some (filter p xs)
   any-some p [] = refl
   any-some p (x ∷ xs) = let ih = any-some p xs in cond_both (p x) (x ∷ filter p xs) (filter p xs) (λ l. (p x || list_any p xs) ≡ some l) (λ e. rw e refl) (λ e. rw e ih)
 

@@ -1,11 +1,10 @@
 -- All that a tenant has is dropped: how that is answered, what it leaves, and when it may find no memory.
-use Rattle.std.proofs.Common.{◌≡◌, ◌≢◌, ℕ, ℤ, ◌+◌, ◌-◌, ◌<◌, ◌≤◌, ◌^◌, min, List, [], ◌∷◌, ◌++◌, length, map, refl, ap, ap₂, sym, ◌∙◌, subst, Bool, true, not, arith, inl, inr}
-use Rattle.std.specs.Prelude.{◌==◌, ◌&&◌, nat_lt, filter, codes}
+use Rattle.std.proofs.Common.{◌≡◌, ◌≢◌, ℕ, ◌+◌, ◌-◌, ◌<◌, ◌≤◌, ◌^◌, min, List, [], ◌∷◌, length, map, refl, ap, ap₂, sym, ◌∙◌, subst, Bool, true, not, arith, inl, inr}
+use Rattle.std.specs.Prelude.{◌==◌, filter, codes}
 use Rattle.std.specs.Global.{Vec}
-use Rattle.std.specs.Int.{w64}
 use Rattle.std.specs.List.{AllByRecursion}
-use Rattle.art_bytes.proofs.Common.{BeginsWith, common_prefix, pair_key, big_endian, flipped}
-use Rattle.art_arena.proofs.Common.{AscendsByKey, IsLimit, begins_with, with_front, without_front, in_map, in_unmap, all_weaker}
+use Rattle.art_bytes.proofs.Common.{BeginsWith, common_prefix}
+use Rattle.art_arena.proofs.Common.{AscendsByKey, IsLimit, begins_with, with_front, without_front, in_map, in_unmap}
 use Rattle.art_map.proofs.Common.{ascends-filter, cut_visits}
 use Rattle.art_map.specs.PrefixBlocks.{cut_reads}
 use Rattle.art_operations.proofs.Common.{node_count, ShrinksWithout, width_of-map, without-shrinks}
@@ -13,7 +12,7 @@ use Rattle.art_operations.proofs.NodeCounts.{counted-map}
 use Rattle.art_engine.specs.declared.drop_tenant.Dropped.{Dropped}
 use Rattle.art_engine.specs.declared.drop_tenant.Dropped.TheVariants as dropped
 use Rattle.art_lines.proofs.Common.{name, natural, full_key}
-use Rattle.art_engine.proofs.Terms.{drop_nodes, exactly, part_opening, IsWithin, full_key_of, number_key_of, Own, KeyFits, KeyRecord, NumberFits, NumberRecord, Record, Records, own, own_part, with_own, with_part, Pair, NumberPair, record_of, number_record_of, all_records_of, IsFull, IsOfTenant, IsNumberPair, ArePairs, AreNumberPairs}
+use Rattle.art_engine.proofs.Terms.{drop_nodes, exactly, part_opening, IsWithin, full_key_of, number_key_of, KeyFits, KeyRecord, NumberFits, NumberRecord, Record, Records, own, own_part, with_own, with_part, Pair, NumberPair, record_of, number_record_of, all_records_of, IsNumberPair, ArePairs, AreNumberPairs}
 use Rattle.art_engine.specs.Dropped.{IsDropDone}
 use Rattle.art_engine.proofs.Changing.{itself, keys_are}
 use Rattle.art_engine.proofs.Conflicts.{bytes_of}
@@ -25,7 +24,7 @@ use Rattle.art_engine.proofs.KeyKinds.{are_full, keys_ascend, keys_stand, number
 use Rattle.art_engine.proofs.NumberPlaces.{number_bytes, number_keys_are}
 use Rattle.art_engine.proofs.OwnPrefixes.{front_tests, own_front}
 use Rattle.art_engine.proofs.OwnLaws.{mine, part_of, records_from_lists}
-use Rattle.art_engine.proofs.TenantKeys.{Held, Kind, Stands, key_in, keys_are as pairs_keys, record_in, whole_of, without}
+use Rattle.art_engine.proofs.TenantKeys.{HeldPair, Kind, StandsUnder, key_in, keys_are as pairs_keys, record_in, whole_of, without}
 
 -- where all pass, none is left
 none_left : {X : Type 0} (xs : List X) → filter (λ (x : X). not true) xs ≡ []
@@ -66,8 +65,8 @@ visits_same bytes visits reads f g qs ps same are is = is ∙ ap₂ (λ h xs. cu
 
 -- what begins with a tenant's four bytes is its own
 module _ {K M : Type 0} {bytes : M → List ℕ} {rest : K → List ℕ} {back : List ℕ → K} {Fits : K → Type 0} {lt same : K → K → Bool} {Before : Record K → Record K → Type 0}
-    (kind : Kind bytes rest back Fits lt same Before) (t : ℕ) (small : t < 2 ^ 32) (ps : List (Held kind)) (stand : AllByRecursion (Stands kind) ps) where
-  abbrev own_pairs : List (Held kind)
+    (kind : Kind bytes rest back Fits lt same Before) (t : ℕ) (small : t < 2 ^ 32) (ps : List (HeldPair kind)) (stand : AllByRecursion (StandsUnder kind) ps) where
+  abbrev own_pairs : List (HeldPair kind)
   own_pairs = with_front (key_in kind) (full_key t []) ps
 
   counted : length (own_part t (map (record_in kind) ps)) ≡ length own_pairs
@@ -77,7 +76,7 @@ module _ {K M : Type 0} {bytes : M → List ℕ} {rest : K → List ℕ} {back :
   freed : node_count (key_in kind) own_pairs ≡ node_count (whole_of kind) (mine t (map (record_in kind) ps))
   freed =
       counted-map (key_in kind) own_pairs
-      ∙ ap (node_count itself) (pairs_keys kind own_pairs (all-filter (Stands kind) (λ p. begins_with (full_key t []) (key_in kind p)) ps stand) ∙ ap (map (whole_of kind)) (own_front kind t small ps stand))
+      ∙ ap (node_count itself) (pairs_keys kind own_pairs (all-filter (StandsUnder kind) (λ p. begins_with (full_key t []) (key_in kind p)) ps stand) ∙ ap (map (whole_of kind)) (own_front kind t small ps stand))
       ∙ sym (counted-map (whole_of kind) (mine t (map (record_in kind) ps)))
 
   -- and the others are of the records where the tenant has nothing
@@ -100,10 +99,10 @@ module _ (t : ℕ) (small : t < 2 ^ 32) (ps : List Pair) (ns : List NumberPair) 
   abbrev old : Records
   old = all_records_of ps ns
 
-  key_stand : AllByRecursion (Stands under_keys) ps
+  key_stand : AllByRecursion (StandsUnder under_keys) ps
   key_stand = keys_stand ps are.stand.full are.stand.tenants
 
-  stand : AllByRecursion (Stands under_numbers) ns
+  stand : AllByRecursion (StandsUnder under_numbers) ns
   stand = numbers_stand ns nums.stand nums.fit
 
   abbrev apart : List ℕ → Bool
@@ -112,7 +111,7 @@ module _ (t : ℕ) (small : t < 2 ^ 32) (ps : List Pair) (ns : List NumberPair) 
   -- they are as an index holds them
   pub keys_kept : ArePairs keys_left
   keys_kept = record {
-    stand = are_full keys_left (all-filter (Stands under_keys) (λ p. apart (bytes_of p)) ps key_stand) (ascends-filter bytes_of (λ p. apart (bytes_of p)) ps (keys_ascend ps are.stand));
+    stand = are_full keys_left (all-filter (StandsUnder under_keys) (λ p. apart (bytes_of p)) ps key_stand) (ascends-filter bytes_of (λ p. apart (bytes_of p)) ps (keys_ascend ps are.stand));
     fit = All-left_out KeyFits record_of (λ p. apart (bytes_of p)) ps are.fit;
   }
 

@@ -7,7 +7,7 @@ use Rattle.std.specs.Ordering.{nat_cmp, is_lt, ordering_reverse, ordering_then}
 use Rattle.std.proofs.Math.Bool.{and-or_distrib_left}
 use Rattle.std.proofs.lemmas.Bool.{eq-eqb, ne_eqb, eqb-true, lt-ltb, le-ltb, cases_eq, cases_lt, cases_order, true≢false}
 use Rattle.std.proofs.lemmas.Cmp.{nat_list_cmp_total}
-use Rattle.art_bytes.proofs.Common.{bytes_cmp, is_proper_front, conflicts, IsBefore, before_cmp, cmp_before, conflict_told}
+use Rattle.art_bytes.proofs.Common.{bytes_cmp, is_proper_front, IsBefore, before_cmp, cmp_before, conflict_told}
 use Rattle.art_engine.proofs.Terms.{KeyRecord, KeyComesBefore, FullKeysKeepOrder, FullKeysKeepConflicts}
 use Rattle.art_engine.proofs.KeyOrder.{cmp_less}
 use Rattle.art_lines.proofs.Common.{full_key}
@@ -32,13 +32,19 @@ full_from_parts t u k j ht hu (inl low) =
     let whole = four t ht in let other_whole = four u hu in
     elim (cases_lt (t / 16777216 % 256) (u / 16777216 % 256)) [
       | inl lt ↦ inl lt
-      | inr a ↦ inr (omega arith, elim (cases_lt (t / 65536 % 256) (u / 65536 % 256)) [
-        | inl lt ↦ inl lt
-        | inr b ↦ inr (omega arith, elim (cases_lt (t / 256 % 256) (u / 256 % 256)) [
+      | inr a ↦ inr (
+        omega arith,
+        elim (cases_lt (t / 65536 % 256) (u / 65536 % 256)) [
           | inl lt ↦ inl lt
-          | inr c ↦ inr (omega arith, inl (omega arith))
-        ])
-      ])
+          | inr b ↦ inr (
+            omega arith,
+            elim (cases_lt (t / 256 % 256) (u / 256 % 256)) [
+              | inl lt ↦ inl lt
+              | inr c ↦ inr (omega arith, inl (omega arith))
+            ],
+          )
+        ],
+      )
     ]
 
 pub parts_from_full : (t u : ℕ) (k j : List ℕ) → t < 2 ^ 32 → u < 2 ^ 32 → IsBefore (full_key t k) (full_key u j) → (t < u) ⊎ ((t ≡ u) × IsBefore k j)
@@ -70,12 +76,6 @@ full_keys_keep_order t u k j ht hu = ap is_lt (cmp-full_key t u k j ht hu) ∙ e
   ]
 ]
 
-lt-suc : (m n : ℕ) → nat_lt (suc m) (suc n) ≡ nat_lt m n
-lt-suc m n = elim (cases_lt m n) [
-  | inl low ↦ lt-ltb (suc m) (suc n) (omega arith) ∙ sym (lt-ltb m n low)
-  | inr high ↦ le-ltb (suc m) (suc n) (omega arith) ∙ sym (le-ltb m n high)
-]
-
 -- two tenants differ in one of their four bytes
 apart : (t u : ℕ) (w x y z r : Bool) → t < 2 ^ 32 → u < 2 ^ 32 → (t / 16777216 % 256 == u / 16777216 % 256) ≡ w → (t / 65536 % 256 == u / 65536 % 256) ≡ x → (t / 256 % 256 == u / 256 % 256) ≡ y → (t % 256 == u % 256) ≡ z
     → (t ≡ u → ⊥) → (w && (x && (y && (z && r)))) ≡ false
@@ -94,8 +94,13 @@ pub same_tenants : (t u : ℕ) (r : Bool) → t < 2 ^ 32 → u < 2 ^ 32
     → ((t / 16777216 % 256 == u / 16777216 % 256) && ((t / 65536 % 256 == u / 65536 % 256) && ((t / 256 % 256 == u / 256 % 256) && ((t % 256 == u % 256) && r)))) ≡ ((t == u) && r)
 same_tenants t u r ht hu = elim (cases_eq t u) [
   | inl same ↦
-      rw (eq-eqb (t / 16777216 % 256) (u / 16777216 % 256) (ap (λ n. n / 16777216 % 256) same), eq-eqb (t / 65536 % 256) (u / 65536 % 256) (ap (λ n. n / 65536 % 256) same), eq-eqb (t / 256 % 256) (u / 256 % 256) (ap (λ n. n / 256 % 256) same),
-      eq-eqb (t % 256) (u % 256) (ap (λ n. n % 256) same), eq-eqb t u same) refl
+      rw (
+        eq-eqb (t / 16777216 % 256) (u / 16777216 % 256) (ap (λ n. n / 16777216 % 256) same),
+        eq-eqb (t / 65536 % 256) (u / 65536 % 256) (ap (λ n. n / 65536 % 256) same),
+        eq-eqb (t / 256 % 256) (u / 256 % 256) (ap (λ n. n / 256 % 256) same),
+        eq-eqb (t % 256) (u % 256) (ap (λ n. n % 256) same),
+        eq-eqb t u same,
+      ) refl
   | inr other ↦
       apart t u (t / 16777216 % 256 == u / 16777216 % 256) (t / 65536 % 256 == u / 65536 % 256) (t / 256 % 256 == u / 256 % 256) (t % 256 == u % 256) r ht hu refl refl refl refl other
       ∙ sym (ap (λ b. b && r) (ne_eqb t u other))
@@ -105,7 +110,10 @@ front-full_key : (t u : ℕ) (k j : List ℕ) → t < 2 ^ 32 → u < 2 ^ 32 → 
 front-full_key t u k j ht hu = rw (four_lt (length k) (length j)) (ap (λ b. nat_lt (length k) (length j) && b) (same_tenants t u (starts_with nat_eq j k) ht hu) ∙ turned (nat_lt (length k) (length j)) (t == u) (starts_with nat_eq j k))
   where
     four_lt : (m n : ℕ) → nat_lt (suc (suc (suc (suc m)))) (suc (suc (suc (suc n)))) ≡ nat_lt m n
-    four_lt m n = lt-suc (suc (suc (suc m))) (suc (suc (suc n))) ∙ lt-suc (suc (suc m)) (suc (suc n)) ∙ lt-suc (suc m) (suc n) ∙ lt-suc m n
+    four_lt m n = elim (cases_lt m n) [
+      | inl low ↦ lt-ltb (suc (suc (suc (suc m)))) (suc (suc (suc (suc n)))) (omega arith) ∙ sym (lt-ltb m n low)
+      | inr high ↦ le-ltb (suc (suc (suc (suc m)))) (suc (suc (suc (suc n)))) (omega arith) ∙ sym (le-ltb m n high)
+    ]
 
     turned : (a b c : Bool) → (a && (b && c)) ≡ (b && (a && c))
     turned true b c = refl

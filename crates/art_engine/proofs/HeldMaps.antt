@@ -1,27 +1,25 @@
 -- Pairs that an index may be made of: under full keys of bytes that ascend, each with a line that is short enough.
-use Rattle.std.proofs.Common.{◌≡◌, ℕ, ℤ, ◌-◌, min, ap₂, take-append-drop, length-drop, ◌+◌, ◌*◌, ◌<◌, ◌≤◌, ◌^◌, ◌⊎◌, List, [], ◌∷◌, ◌++◌, length, take, drop, map, get_or, refl, ap, sym, ◌∙◌, subst, true, false, inl, inr, arith, length-append}
-use Rattle.std.specs.Prelude.{◌==◌, ◌&&◌, nat_lt, decimal, FitsSigned, bit_xor}
+use Rattle.std.proofs.Common.{◌≡◌, ℕ, ℤ, ◌-◌, min, length-drop, ◌+◌, ◌*◌, ◌<◌, ◌≤◌, ◌^◌, List, [], ◌∷◌, ◌++◌, length, take, drop, map, get_or, refl, ap, sym, ◌∙◌, subst, false, arith, length-append}
+use Rattle.std.specs.Prelude.{◌==◌, decimal, FitsSigned, bit_xor}
 use Rattle.std.specs.Fmt.{signed_decimal}
 use Rattle.std.specs.List.{AllByRecursion}
 use Rattle.std.specs.Int.{to_be_bytes, from_be_bytes, w32, w64}
 use Rattle.std.proofs.lemmas.Int.{of_z-to_z}
 use borrow.Author.Gap.{read_sfits}
-use Rattle.std.proofs.lemmas.Nat.{be_bytes_4, be_bytes_8, xor_lt}
-use Rattle.std.specs.Ordering.{is_lt}
-use Rattle.std.proofs.lemmas.Bool.{eqb-true, ltb-true, or_cases, and_parts, false_from_ne_true, true≢false}
-use Rattle.std.proofs.lemmas.List.{get_or-drop, length-take-le}
-use Rattle.art_bytes.proofs.Common.{IsBefore, is_below, conflicts, pair_key, flipped, top_bit, told_conflict}
+use Rattle.std.proofs.lemmas.Nat.{be_bytes_8, xor_lt}
+use Rattle.std.proofs.lemmas.Bool.{true≢false}
+use Rattle.std.proofs.lemmas.List.{get_or-drop}
+use Rattle.art_bytes.proofs.Common.{pair_key, flipped, top_bit}
 use Rattle.art_arena.proofs.Common.{AscendsByKey, all_weaker}
-use Rattle.art_arena.proofs.tree.Lexicographic.{order_is_lexicographic}
-use Rattle.art_lines.proofs.Common.{nput_words, number_words, bytes, shown, text_of, line_of, nput_parts, number_parts}
-use Rattle.art_engine.proofs.Terms.{IsShortRecord, IsShortNumber, IsRecordIn, IsNumberRecordIn, full_key_of, number_of_bytes, KeyRecord, InOrder, KeyComesBefore, KeyFits, NumberFits, Pair, NumberPair, record_of, number_record_of, IsFull, IsOfTenant, ArePairs, IsNumberPair, AreNumberPairs}
+use Rattle.art_lines.proofs.Common.{full_key, nput_words, number_words, bytes, shown, text_of, line_of, nput_parts, number_parts}
+use Rattle.art_engine.proofs.Terms.{IsShortRecord, IsShortNumber, IsRecordIn, IsNumberRecordIn, number_of_bytes, KeyFits, NumberFits, Pair, NumberPair, record_of, number_record_of, IsFull, IsOfTenant, ArePairs, IsNumberPair, AreNumberPairs}
 use Rattle.art_engine.proofs.Conflicts.{bytes_of}
 use Rattle.hex.specs.Hex.{lower_digits}
 use Rattle.hex.proofs.HexLemmas.{length-encode_with}
 use Rattle.art_arena.proofs.tree.Paths.{all_map}
 use Rattle.art_engine.proofs.KeyKinds.{are_full, keys_stand}
 use Rattle.art_engine.proofs.NumberKeys.{flip_back}
-use Rattle.art_lines.proofs.FullKeys.{full_key_again, tenant_small, front_small}
+use Rattle.art_lines.proofs.FullKeys.{full_key_again, tenant_small}
 
 -- a pair under a full key, whose record fits
 abbrev pub IsRecord : Pair → Type 0
@@ -68,16 +66,14 @@ pub number_again : (xs : List ℕ) → length xs ≡ 12 → ((i : ℕ) → get_o
 number_again xs twelve small =
     let rest : List ℕ = drop 4 xs in
     let x : ℕ = from_be_bytes w64 rest in
-    let front : length (take 4 xs) ≡ 4 = length-take-le 4 xs (omega arith) in
     let eight : length rest ≡ 8 = length-drop 4 xs ∙ omega arith in
-    let tenant = be_bytes_4 (take 4 xs) (from_be_bytes w32 (take 4 xs)) front (λ i. front_small 4 xs small i) refl in
     let number : to_be_bytes w64 x ≡ rest = be_bytes_8 rest x eight (after_small 4 xs small) refl in
     let at = after_small 4 xs small in
     let a = at 0 in let b = at 1 in let c = at 2 in let d = at 3 in let e = at 4 in let f = at 5 in let g = at 6 in let h = at 7 in
     let low : x < 2 ^ 64 = omega arith in
     let turned : bit_xor x (top_bit w64) < 2 ^ 64 = xor_lt 64 x (top_bit w64) low (omega arith) in
     let back : flipped w64 (number_of_bytes rest) ≡ x = ap (λ y. bit_xor y (top_bit w64)) (of_z-to_z w64 (bit_xor x (top_bit w64)) turned) ∙ flip_back x (top_bit w64) in (
-      sym (ap₂ (λ a b. a ++ b) tenant (ap (to_be_bytes w64) back ∙ number) ∙ take-append-drop 4 xs),
+      full_key_again xs (omega arith) small ∙ ap (full_key (from_be_bytes w32 (take 4 xs))) (sym (ap (to_be_bytes w64) back ∙ number)),
       read_sfits w64 (bit_xor x (top_bit w64)),
     )
 

@@ -1,5 +1,5 @@
 -- Both kinds of key, bytes and numbers, and values as an index holds them under each.
-use Rattle.std.proofs.Common.{◌≡◌, ℕ, ℤ, ◌^◌, ◌<◌, List, map, refl, ap, sym, ◌∙◌, bytes_eq, inl, inr}
+use Rattle.std.proofs.Common.{ℕ, List, map, refl, ap, bytes_eq, inl, inr}
 use Rattle.std.specs.Prelude.{int_lt, FitsSigned}
 use Rattle.std.specs.Global.{Vec}
 use Rattle.std.specs.Int.{w64}
@@ -12,7 +12,7 @@ use Rattle.art_arena.proofs.tree.Paths.{all_map}
 use Rattle.art_engine.proofs.Filters.{All-both, All-made}
 use Rattle.art_engine.proofs.FullKeys.{key_parts}
 use Rattle.art_engine.proofs.NumberKeys.{before_lower, below_numbers, bytes_of_number, lower_before, number_back, same_numbers}
-use Rattle.art_engine.proofs.TenantKeys.{Kind, Stands, in_order, pairs_ascend}
+use Rattle.art_engine.proofs.TenantKeys.{Kind, StandsUnder, in_order, pairs_ascend}
 use Rattle.art_engine.proofs.Terms.{AreFull, AreNumberPairs, IsFull, IsNumberPair, IsOfTenant, KeyComesBefore, NumberComesBefore, NumberFits, NumberPair, Pair, number_of_bytes, number_record_of, record_of}
 
 -- the bytes of a pair's key
@@ -44,24 +44,24 @@ under_numbers = record {
 }
 
 -- pairs as an index holds them stand so
-pub keys_stand : (ps : List Pair) → AllByRecursion IsFull ps → AllByRecursion IsOfTenant (map record_of ps) → AllByRecursion (Stands under_keys) ps
-keys_stand ps full small = All-both IsFull (λ p. IsOfTenant (record_of p)) (Stands under_keys) (λ p f s. record { key = f; fits = (s, tt) }) ps full (All-made IsOfTenant record_of ps small)
+pub keys_stand : (ps : List Pair) → AllByRecursion IsFull ps → AllByRecursion IsOfTenant (map record_of ps) → AllByRecursion (StandsUnder under_keys) ps
+keys_stand ps full small = All-both IsFull (λ p. IsOfTenant (record_of p)) (StandsUnder under_keys) (λ p f s. record { key = f; fits = (s, tt) }) ps full (All-made IsOfTenant record_of ps small)
 
-pub numbers_stand : (ns : List NumberPair) → AllByRecursion IsNumberPair ns → AllByRecursion NumberFits (map number_record_of ns) → AllByRecursion (Stands under_numbers) ns
+pub numbers_stand : (ns : List NumberPair) → AllByRecursion IsNumberPair ns → AllByRecursion NumberFits (map number_record_of ns) → AllByRecursion (StandsUnder under_numbers) ns
 numbers_stand ns full fit =
-    All-both IsNumberPair (λ p. NumberFits (number_record_of p)) (Stands under_numbers) (λ p f s. record { key = f; fits = (s.tenant_fits, s.number_fits) }) ns full (All-made NumberFits number_record_of ns fit)
+    All-both IsNumberPair (λ p. NumberFits (number_record_of p)) (StandsUnder under_numbers) (λ p f s. record { key = f; fits = (s.tenant_fits, s.number_fits) }) ns full (All-made NumberFits number_record_of ns fit)
 
 -- and ascend
 pub keys_ascend : (ps : List Pair) → AreFull ps → AscendsByKey bytes_of ps
 keys_ascend ps are = pairs_ascend under_keys ps (keys_stand ps are.full are.tenants) are.in_order
 
 -- what stands so and ascends is full
-pub are_full : (ps : List Pair) → AllByRecursion (Stands under_keys) ps → AscendsByKey bytes_of ps → AreFull ps
+pub are_full : (ps : List Pair) → AllByRecursion (StandsUnder under_keys) ps → AscendsByKey bytes_of ps → AreFull ps
 are_full ps stand up = record {
-  full = all_weaker (Stands under_keys) IsFull (λ p s. s.key) ps stand;
+  full = all_weaker (StandsUnder under_keys) IsFull (λ p s. s.key) ps stand;
   in_order = in_order under_keys ps stand up;
-  tenants = all_map record_of IsOfTenant ps (all_weaker (Stands under_keys) (λ p. IsOfTenant (record_of p)) (λ p s. s.fits.0) ps stand);
+  tenants = all_map record_of IsOfTenant ps (all_weaker (StandsUnder under_keys) (λ p. IsOfTenant (record_of p)) (λ p s. s.fits.0) ps stand);
 }
 
-pub are_number_pairs : (ns : List NumberPair) → AllByRecursion (Stands under_numbers) ns → AscendsByKey number_bytes ns → AllByRecursion NumberFits (map number_record_of ns) → AreNumberPairs ns
-are_number_pairs ns stand up fit = record { stand = all_weaker (Stands under_numbers) IsNumberPair (λ p s. s.key) ns stand; ascend = up; fit = fit }
+pub are_number_pairs : (ns : List NumberPair) → AllByRecursion (StandsUnder under_numbers) ns → AscendsByKey number_bytes ns → AllByRecursion NumberFits (map number_record_of ns) → AreNumberPairs ns
+are_number_pairs ns stand up fit = record { stand = all_weaker (StandsUnder under_numbers) IsNumberPair (λ p s. s.key) ns stand; ascend = up; fit = fit }

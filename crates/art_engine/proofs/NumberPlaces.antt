@@ -1,5 +1,5 @@
 -- How a look-up, a put and a deletion at a tenant's number are answered, and what they leave, from what the map says of its pairs.
-use Rattle.std.proofs.Common.{◌≡◌, ℕ, ℤ, List, [], ◌∷◌, length, map, refl, ap, sym, ◌∙◌, subst, Bool, true, false, not, Option, Some, None, bytes_eq}
+use Rattle.std.proofs.Common.{◌≡◌, ℕ, ℤ, List, [], ◌∷◌, length, map, refl, ap, sym, ◌∙◌, subst, Bool, false, not, Option, Some, None, bytes_eq}
 use Rattle.std.specs.Prelude.{◌==◌, ◌&&◌, int_lt, filter, option_map}
 use Rattle.std.specs.Global.{Vec}
 use Rattle.std.specs.List.{AllByRecursion}
@@ -17,11 +17,11 @@ use Rattle.art_engine.proofs.Filters.{All-left_out, All-put, map-alike}
 use Rattle.art_engine.proofs.KeyKinds.{are_number_pairs, numbers_stand, number_bytes, under_numbers}
 use Rattle.art_engine.proofs.NumberKeys.{HaveBytes, as_long}
 use Rattle.art_engine.proofs.OwnLaws.{made, number_part, records_from_lists}
-use Rattle.art_engine.proofs.TenantKeys.{Stands, found, in_order, passing, put_ascends, put_records, put_stands, record_made, refused, removed}
+use Rattle.art_engine.proofs.TenantKeys.{StandsUnder, found, in_order, passing, put_ascends, put_records, put_stands, record_made, refused, removed}
 use Rattle.art_engine.proofs.Terms.{number_key_of, number_pair, NumberFits, own, with_part, InOrder, NumberComesBefore, value_at, with_pair, NumberPair, number_record_of, number_records_of, IsNumberPair, AreNumberPairs, IsChangeDone, changed_words}
 pub use Rattle.art_engine.proofs.KeyKinds.{number_bytes}
 
-pub stand_all : (ns : List NumberPair) → AllByRecursion IsNumberPair ns → AllByRecursion NumberFits (map number_record_of ns) → AllByRecursion (Stands under_numbers) ns
+pub stand_all : (ns : List NumberPair) → AllByRecursion IsNumberPair ns → AllByRecursion NumberFits (map number_record_of ns) → AllByRecursion (StandsUnder under_numbers) ns
 stand_all = numbers_stand
 
 -- the bytes of records are those that their pairs stand under
@@ -37,7 +37,7 @@ pub are_in_order : (ns : List NumberPair) → AreNumberPairs ns → InOrder Numb
 are_in_order ns are = in_order under_numbers ns (numbers_stand ns are.stand are.fit) are.ascend
 
 -- what passes a test of the bytes of a tenant's numbers is what of the tenant's numbers passes
-pub numbers_passing : (t : ℕ) (T : List ℕ → Bool) (G : ℤ → Bool) → ((u : ℕ) (m : ℤ) → HaveBytes u m → T (pair_key (u, m)) ≡ ((u == t) && G m)) → (ns : List NumberPair) → AllByRecursion (Stands under_numbers) ns
+pub numbers_passing : (t : ℕ) (T : List ℕ → Bool) (G : ℤ → Bool) → ((u : ℕ) (m : ℤ) → HaveBytes u m → T (pair_key (u, m)) ≡ ((u == t) && G m)) → (ns : List NumberPair) → AllByRecursion (StandsUnder under_numbers) ns
     → map number_part (map number_record_of (filter (λ p. T p.0) ns)) ≡ filter (λ p. G p.0) (own t (number_records_of ns)).numbers
 numbers_passing t T G tests ns stand = passing under_numbers t T G (λ u m s f. tests u m (s, f)) ns stand
 
@@ -46,18 +46,18 @@ module _ (t : ℕ) (n : ℤ) (fits : HaveBytes t n) where
   is_number_key k = bytes_eq k (pair_key (t, n))
 
   -- the value under the bytes of a tenant's number is the one at it
-  pub number_found : (ns : List NumberPair) → AllByRecursion (Stands under_numbers) ns → option_map (λ v. v.items) (lookup is_number_key ns) ≡ value_at int_eq n (own t (number_records_of ns)).numbers
+  pub number_found : (ns : List NumberPair) → AllByRecursion (StandsUnder under_numbers) ns → option_map (λ v. v.items) (lookup is_number_key ns) ≡ value_at int_eq n (own t (number_records_of ns)).numbers
   number_found = found under_numbers t n fits.0 fits.1
 
   -- a pair that is put at it
   module _ (v : List ℕ) (e : NumberPair) (full : e.0 ≡ pair_key (t, n)) (value : e.1.items ≡ v) (ns new : List NumberPair) (are : AreNumberPairs ns)
       (is : new ≡ put_in_order number_bytes e (without_key number_bytes (number_bytes e) ns)) where
-    stand : AllByRecursion (Stands under_numbers) ns
+    stand : AllByRecursion (StandsUnder under_numbers) ns
     stand = numbers_stand ns are.stand are.fit
 
     -- none is in conflict with it, since all are as long
     free : IsBlocked number_bytes (pair_key (t, n)) ns → ⊥
-    free (p, i, c) = as_long (pair_key (t, n)) p.0 12 refl (ap length (all_at (Stands under_numbers) p ns stand i).key) c
+    free (p, i, c) = as_long (pair_key (t, n)) p.0 12 refl (ap length (all_at (StandsUnder under_numbers) p ns stand i).key) c
 
     pub nput_keeps : NumberFits (made t (n, v)) → AreNumberPairs new
     nput_keeps fit =
@@ -91,7 +91,7 @@ module _ (t : ℕ) (n : ℤ) (fits : HaveBytes t n) where
 
   -- the pairs without the one at it
   module _ (ns new : List NumberPair) (are : AreNumberPairs ns) where
-    all_stand : AllByRecursion (Stands under_numbers) ns
+    all_stand : AllByRecursion (StandsUnder under_numbers) ns
     all_stand = numbers_stand ns are.stand are.fit
 
     abbrev other : NumberPair → Bool

@@ -7,7 +7,7 @@ use Rattle.std.proofs.lemmas.Bool.{both_ways, false_from_ne_true, not-true}
 use Rattle.std.proofs.lemmas.List.{length-map}
 use Rattle.std.proofs.lemmas.Slice.Eq.{bytes_eq-Decides}
 use Rattle.art_bytes.proofs.Common.{is_below}
-use Rattle.art_arena.proofs.Common.{AscendsByKey, put_in_order, all_at, all_weaker}
+use Rattle.art_arena.proofs.Common.{put_in_order, all_at, all_weaker}
 use Rattle.art_arena.proofs.tree.Filters.{filter_all, all_pass}
 use Rattle.art_map.proofs.Common.{ascends-filter}
 use Rattle.art_operations.proofs.Common.{IsBlocked, overlaps, overlapping, without_key, without_overlapping, overlaps_same, overlaps_conflict}
@@ -18,7 +18,7 @@ use Rattle.art_engine.proofs.FullTests.{overlaps_full}
 use Rattle.art_engine.proofs.KeyKinds.{are_full, bytes_of, keys_ascend, keys_stand, under_keys}
 use Rattle.art_engine.proofs.OwnLaws.{key_part, made, put_back_again, reads_back, records_from_lists}
 use Rattle.art_engine.proofs.Placing.{pair_made, put_keeps, records_put}
-use Rattle.art_engine.proofs.TenantKeys.{IsTest, Stands, passing, without}
+use Rattle.art_engine.proofs.TenantKeys.{IsTest, StandsUnder, passing, without}
 use Rattle.art_engine.proofs.Terms.{KeyFits, KeyRecord, own, own_part, with_own, with_pair, with_part, overlapped, with_value_over, Pair, record_of, records_of, AreFull, ArePairs}
 
 -- what does not overlap a key is not at it, and blocks it not
@@ -43,11 +43,11 @@ module _ (t : ℕ) (k v : List ℕ) (ps new : List Pair) (e : Pair) (are : AreFu
   tests : IsTest under_keys t (λ u. false) (overlaps (full_key t k)) (overlaps k)
   tests u j small f = overlaps_full t u k j fits small
 
-  stand : AllByRecursion (Stands under_keys) ps
+  stand : AllByRecursion (StandsUnder under_keys) ps
   stand = keys_stand ps are.full are.tenants
 
   others_are : AreFull others
-  others_are = are_full others (all-filter (Stands under_keys) (λ p. not (overlaps (full_key t k) (bytes_of p))) ps stand) (ascends-filter bytes_of (λ p. not (overlaps (full_key t k) (bytes_of p))) ps (keys_ascend ps are))
+  others_are = are_full others (all-filter (StandsUnder under_keys) (λ p. not (overlaps (full_key t k) (bytes_of p))) ps stand) (ascends-filter bytes_of (λ p. not (overlaps (full_key t k) (bytes_of p))) ps (keys_ascend ps are))
 
   new_is : new ≡ put_in_order bytes_of e (without_key bytes_of (bytes_of e) others)
   new_is = is ∙ ap (put_in_order bytes_of e) (ap (λ j. without_overlapping bytes_of j ps) full ∙ sym (none_at (full_key t k) ps) ∙ ap (λ j. without_key bytes_of j others) (sym full))

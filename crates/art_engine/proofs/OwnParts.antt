@@ -14,15 +14,15 @@ use Rattle.art_engine.proofs.Terms.{Record, own_part, with_part}
 
 module _ {K : Type 0} (t : ℕ) (S : ℕ → Bool) (T : Record K → Bool) (G : K → Bool) where
   -- it passes what tenants have that pass, and of the tenant's own what has a key that passes
-  abbrev pub IsCut : Record K → Type 0
-  IsCut r = T r ≡ (S r.tenant || ((r.tenant == t) && G r.key))
+  abbrev pub IsPartTest : Record K → Type 0
+  IsPartTest r = T r ≡ (S r.tenant || ((r.tenant == t) && G r.key))
 
-  module _ (others : S t ≡ false) (rs : List (Record K)) (cut : AllByRecursion IsCut rs) where
+  module _ (others : S t ≡ false) (rs : List (Record K)) (cut : AllByRecursion IsPartTest rs) where
     pub own_cut : own_part t (filter T rs) ≡ filter (λ p. G p.0) (own_part t rs)
     own_cut =
         ap (map part_of)
         (sym (filter-both T (λ r. r.tenant == t) rs) ∙ filter-same (λ r. T r && (r.tenant == t)) (λ r. (r.tenant == t) && G r.key) rs
-        (all_weaker IsCut (λ r. (T r && (r.tenant == t)) ≡ ((r.tenant == t) && G r.key)) (λ r. alike r (r.tenant == t) refl) rs cut)
+        (all_weaker IsPartTest (λ r. (T r && (r.tenant == t)) ≡ ((r.tenant == t) && G r.key)) (λ r. alike r (r.tenant == t) refl) rs cut)
         ∙ filter-both (λ r. r.tenant == t) (λ r. G r.key) rs)
         ∙ map-filter part_of (λ p. G p.0) (mine t rs)
       where
@@ -32,13 +32,13 @@ module _ {K : Type 0} (t : ℕ) (S : ℕ → Bool) (T : Record K → Bool) (G : 
 
     -- of tenants that all pass all is there, and of those that don't nothing
     pub kept : (q : ℕ → Bool) → ((u : ℕ) → q u ≡ true → S u ≡ true) → filter (λ r. q r.tenant) (filter T rs) ≡ filter (λ r. q r.tenant) rs
-    kept q within = filter-inside (λ r. q r.tenant) T rs (all_weaker IsCut (λ r. q r.tenant ≡ true → T r ≡ true) (λ r is e. is ∙ or_left _ _ (within r.tenant e)) rs cut)
+    kept q within = filter-inside (λ r. q r.tenant) T rs (all_weaker IsPartTest (λ r. q r.tenant ≡ true → T r ≡ true) (λ r is e. is ∙ or_left _ _ (within r.tenant e)) rs cut)
 
     pub gone : (q : ℕ → Bool) → q t ≡ false → ((u : ℕ) → q u ≡ true → S u ≡ false) → filter (λ r. q r.tenant) (filter T rs) ≡ []
     gone q not_own apart =
-        sym (filter-both T (λ r. q r.tenant) rs) ∙ filter_none (λ r. T r && q r.tenant) rs (all_weaker IsCut (λ r. (T r && q r.tenant) ≡ false) (λ r. none r (q r.tenant) refl) rs cut)
+        sym (filter-both T (λ r. q r.tenant) rs) ∙ filter_none (λ r. T r && q r.tenant) rs (all_weaker IsPartTest (λ r. (T r && q r.tenant) ≡ false) (λ r. none r (q r.tenant) refl) rs cut)
       where
-        none : (r : Record K) (b : Bool) → q r.tenant ≡ b → IsCut r → (T r && b) ≡ false
+        none : (r : Record K) (b : Bool) → q r.tenant ≡ b → IsPartTest r → (T r && b) ≡ false
         none r true e is =
             let other : (r.tenant == t) ≡ false = false_from_ne_true _ (λ same. both_ways (q t) not_own (sym (ap q (eqb-true r.tenant t same)) ∙ e)) in
             and-true (T r) ∙ is ∙ rw (apart r.tenant e, other) refl
@@ -50,12 +50,12 @@ module _ {K : Type 0} (t : ℕ) where
   by_parts ps rs new up low own high = sym (in_place t new up) ∙ rw (low, own, high) refl
 
   -- without those of the tenant that pass, they are what is left with the tenant's others in place
-  pub left_in_place : (T : Record K → Bool) (G : K → Bool) (rs : List (Record K)) → AllByRecursion (IsCut t (λ u. false) T G) rs → Ascends rs
+  pub left_in_place : (T : Record K → Bool) (G : K → Bool) (rs : List (Record K)) → AllByRecursion (IsPartTest t (λ u. false) T G) rs → Ascends rs
       → filter (λ r. not (T r)) rs ≡ with_part t (filter (λ p. not (G p.0)) (own_part t rs)) rs
   left_in_place T G rs cut up =
       let S : ℕ → Bool = λ u. not (u == t) in
       let apart : S t ≡ false = ap not (eq-eqb t t refl) in
-      let rest = all_weaker (IsCut t (λ u. false) T G) (IsCut t S (λ r. not (T r)) (λ k. not (G k))) (λ r is. ap not is ∙ turned (r.tenant == t) (G r.key)) rs cut in
+      let rest = all_weaker (IsPartTest t (λ u. false) T G) (IsPartTest t S (λ r. not (T r)) (λ k. not (G k))) (λ r is. ap not is ∙ turned (r.tenant == t) (G r.key)) rs cut in
       by_parts _ rs (filter (λ r. not (T r)) rs) (InOrder-filter _ (λ r. not (T r)) rs up)
       (kept t S (λ r. not (T r)) (λ k. not (G k)) apart rs rest (λ u. nat_lt u t) (λ u e. ap not (lower_other t u e)))
       (own_cut t S (λ r. not (T r)) (λ k. not (G k)) apart rs rest)
@@ -66,7 +66,7 @@ module _ {K : Type 0} (t : ℕ) where
       turned false b = refl
 
   -- one more part between what of the tenant's own is below it and what is above it
-  module _ (T U : Record K → Bool) (G H : K → Bool) (rs : List (Record K)) (below : AllByRecursion (IsCut t (λ u. nat_lt u t) T G) rs) (above : AllByRecursion (IsCut t (λ u. nat_lt t u) U H) rs) where
+  module _ (T U : Record K → Bool) (G H : K → Bool) (rs : List (Record K)) (below : AllByRecursion (IsPartTest t (λ u. nat_lt u t) T G) rs) (above : AllByRecursion (IsPartTest t (λ u. nat_lt t u) U H) rs) where
     pub put_in_place : (p : K × List ℕ) → Ascends (filter T rs ++ made t p ∷ filter U rs)
         → filter T rs ++ made t p ∷ filter U rs ≡ with_part t (filter (λ q. G q.0) (own_part t rs) ++ p ∷ filter (λ q. H q.0) (own_part t rs)) rs
     put_in_place p up =

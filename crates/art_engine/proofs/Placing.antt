@@ -5,7 +5,7 @@ use Rattle.std.specs.Global.{Vec}
 use Rattle.std.specs.List.{AllByRecursion}
 use Rattle.std.specs.Map.{lookup}
 use Rattle.art_bytes.proofs.Common.{is_below}
-use Rattle.art_arena.proofs.Common.{AscendsByKey, IsIn, all_weaker, other_key, put_in_order}
+use Rattle.art_arena.proofs.Common.{IsIn, all_weaker, other_key, put_in_order}
 use Rattle.art_operations.proofs.Common.{IsBlocked, stored-free, without_key}
 use Rattle.art_engine.specs.declared.change.Changed.TheVariants as changed
 use Rattle.art_lines.proofs.Common.{full_key, put_reply}
@@ -33,7 +33,7 @@ conflict_done : (t : ℕ) (mine : Own) (r : Records) (o : Option (List ℕ)) (c 
     → (changed_words changed.Conflict ∷ [] ≡ put_reply o c ∷ []) × (r ≡ with_changed t (if puts o c then Some mine else None) r)
 conflict_done t mine r o c e f = rw (e, f) (refl, refl)
 
-new_done : (t : ℕ) (mine : Own) (r new : Records) (o : Option (List ℕ)) (c : Bool) → o ≡ None → c ≡ false → new ≡ with_own t mine r
+pub new_done : (t : ℕ) (mine : Own) (r new : Records) (o : Option (List ℕ)) (c : Bool) → o ≡ None → c ≡ false → new ≡ with_own t mine r
     → (changed_words changed.New ∷ [] ≡ put_reply o c ∷ []) × (new ≡ with_changed t (if puts o c then Some mine else None) r)
 new_done t mine r new o c e f is = rw (e, f) (refl, is)
 

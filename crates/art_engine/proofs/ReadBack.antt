@@ -1,27 +1,28 @@
 -- The lines of a dump, carried out from no records: what they are answered, and what they leave.
-use Rattle.std.proofs.Common.{◌≡◌, ℕ, ℤ, ◌+◌, ◌<◌, ◌⊎◌, List, [], ◌∷◌, ◌++◌, length, map, refl, ap, ap₂, sym, ◌∙◌, subst, Bool, true, false, cond, arith, append-nil, append_assoc, inl, inr, Option, Some, None}
-use Rattle.std.specs.Prelude.{◌==◌, ◌||◌, ◌&&◌, nat_lt, int_lt, filter, flat_map, replicate, codes, IsTrue, option_map}
+use Rattle.std.proofs.Common.{◌≡◌, ℕ, ℤ, ◌+◌, ◌<◌, ◌⊎◌, List, [], ◌∷◌, ◌++◌, length, map, refl, ap, ap₂, sym, ◌∙◌, subst, Bool, true, false, arith, append-nil, append_assoc, inl, inr, Option, Some, None}
+use Rattle.std.specs.Prelude.{◌==◌, ◌||◌, ◌&&◌, nat_lt, int_lt, filter, flat_map, replicate, codes, option_map}
 use Rattle.std.specs.List.{AllByRecursion, fold}
 use Rattle.std.specs.Ordering.{int_eq}
-use Rattle.std.specs.declared.cmp.Ordering.TheVariants.{Less}
 use Rattle.std.proofs.Math.Bool.{or_comm}
-use Rattle.std.proofs.lemmas.Bool.{both_ways, cond_both, eq-eqb, ne_eqb, eqb-true, lt-ltb, le-ltb}
+use Rattle.std.proofs.lemmas.Bool.{both_ways, eq-eqb, ne_eqb, eqb-true, lt-ltb, le-ltb}
 use Rattle.std.proofs.lemmas.Grind.{flat_map-append}
 use Rattle.std.proofs.lemmas.List.{map-append, replicate-append-replicate}
 use Rattle.art_bytes.proofs.Common.{conflicts, is_below, is_proper_front}
 use Rattle.art_lines.proofs.Common.{lines_of, name, text_of, line_of, put, nput, Command, of_tenant, put_reply, end_words}
 use Rattle.art_lines.specs.Words.{Word}
 use Rattle.art_lines.specs.Reading.{command_of}
-use Rattle.art_engine.proofs.Terms.{Own, KeyRecord, NumberRecord, Record, Records, no_records, own, own_part, with_own, with_part, InOrder, KeyComesBefore, NumberComesBefore, KeyFits, NumberFits, AreRecords, value_at, has_conflict, with_pair, puts, command_reply, command_after, with_changed, key_lines, number_lines}
+use Rattle.art_engine.proofs.Terms.{KeyRecord, NumberRecord, Record, Records, no_records, own, own_part, with_part, InOrder, KeyComesBefore, NumberComesBefore, KeyFits, NumberFits, AreRecords, value_at, has_conflict, with_pair, command_reply, command_after, key_lines, number_lines}
 use Rattle.art_engine.proofs.Terms.{dump_of, answers, reply_to, records_after, dump_text, DumpsTellRecords, DumpsAreReadBack}
+use Rattle.art_engine.proofs.Conflicts.{any-some, some}
 use Rattle.art_engine.proofs.Dumping.{words_put, words_nput}
 use Rattle.art_engine.proofs.DumpTexts.{put_spelled, nput_spelled, end_spelled, put_lines, nput_lines, end_line, OneLine, lines_are}
 use Rattle.art_engine.proofs.Filters.{All-each, InOrder-before, InOrder-left, find-first, first}
 use Rattle.art_arena.proofs.tree.Filters.{filter_all, filter_none}
 use Rattle.art_arena.proofs.Common.{all_weaker, all_append, other_key}
-use Rattle.art_engine.proofs.OwnLaws.{Ascends, key_part, key_ascends, in_place, records_from_lists, tenants_ascend}
+use Rattle.art_engine.proofs.OwnLaws.{Ascends, key_ascends, in_place, records_from_lists, tenants_ascend}
 use Rattle.art_engine.proofs.NumberKeys.{int_lt_turned}
 use Rattle.art_engine.proofs.OwnParts.{own_cut, put_in_place}
+use Rattle.art_engine.proofs.Placing.{new_done}
 use Rattle.art_engine.proofs.KeyOrder.{not_below_itself, not_both_below}
 use Rattle.std.specs.Str.{bytes_eq}
 
@@ -66,26 +67,29 @@ module _ {K : Type 0} (lt same : K → K → Bool) (Before : Record K → Record
   abbrev is_higher : Record K → Bool
   is_higher r = nat_lt x.tenant r.tenant || ((r.tenant == x.tenant) && lt x.key r.key)
 
-  abbrev is_same : Record K → Bool
-  is_same r = (r.tenant == x.tenant) && same r.key x.key
-
-  stands : (r : Record K) → Before r x → (is_lower r ≡ true) × (is_higher r ≡ false) × (is_same r ≡ false)
+  stands : (r : Record K) → Before r x → (is_lower r ≡ true) × (is_higher r ≡ false)
   stands r b = elim (steps r x b) [
-    | inl low ↦ rw (lt-ltb r.tenant x.tenant low, le-ltb x.tenant r.tenant (omega arith), ne_eqb r.tenant x.tenant (λ e. omega arith)) (refl, refl, refl)
-    | inr up ↦
-        let e = up.0 in
-        rw (le-ltb r.tenant x.tenant (omega arith), le-ltb x.tenant r.tenant (omega arith), eq-eqb r.tenant x.tenant e) (up.1, turned r.key x.key up.1, differ r.key x.key up.1)
+    | inl low ↦ rw (lt-ltb r.tenant x.tenant low, le-ltb x.tenant r.tenant (omega arith), ne_eqb r.tenant x.tenant (λ e. omega arith)) (refl, refl)
+    | inr up ↦ let e = up.0 in rw (le-ltb r.tenant x.tenant (omega arith), le-ltb x.tenant r.tenant (omega arith), eq-eqb r.tenant x.tenant e) (up.1, turned r.key x.key up.1)
   ]
 
   befores : AllByRecursion (λ r. Before r x) fs
   befores = InOrder-before Before fs [] x order
 
+  nothing_passes : (G : K → Bool) → ((r : Record K) → Before r x → r.tenant ≡ x.tenant → G r.key ≡ false) → filter (λ p. G p.0) (own_part x.tenant fs) ≡ []
+  nothing_passes G fails =
+      sym (own_cut x.tenant (λ u. false) (λ r. (r.tenant == x.tenant) && G r.key) G refl fs (All-each _ (λ r. refl) fs))
+      ∙ ap (own_part x.tenant) (filter_none (λ r. (r.tenant == x.tenant) && G r.key) fs (all_weaker (λ r. Before r x) (λ r. ((r.tenant == x.tenant) && G r.key) ≡ false) (λ r b. none r b (r.tenant == x.tenant) refl) fs befores))
+    where
+      none : (r : Record K) → Before r x → (b : Bool) → (r.tenant == x.tenant) ≡ b → (b && G r.key) ≡ false
+      none r before true e = fails r before (eqb-true r.tenant x.tenant e)
+      none r before false e = refl
+
   nothing_there : value_at same x.key (own_part x.tenant fs) ≡ None
   nothing_there =
       ap (option_map (λ p. p.1))
       (find-first (λ p. same p.0 x.key) (own_part x.tenant fs)
-      ∙ ap first (sym (own_cut x.tenant (λ u. false) is_same (λ k. same k x.key) refl fs (All-each _ (λ r. refl) fs))
-      ∙ ap (own_part x.tenant) (filter_none is_same fs (all_weaker (λ r. Before r x) (λ r. is_same r ≡ false) (λ r b. (stands r b).2) fs befores))))
+      ∙ ap first (nothing_passes (λ k. same k x.key) (λ r b e. elim (steps r x b) [ inl low ↦ absurd (omega arith) | inr up ↦ differ r.key x.key up.1 ])))
 
   put_last : with_part x.tenant (with_pair lt x.key x.value (own_part x.tenant fs)) fs ≡ fs ++ x ∷ []
   put_last =
@@ -107,35 +111,26 @@ module _ (fs : List KeyRecord) (x : KeyRecord) (order : InOrder KeyComesBefore (
   absent : value_at bytes_eq x.key (own_part x.tenant fs) ≡ None
   absent = nothing_there is_below bytes_eq KeyComesBefore key_steps not_both_below keys_differ fs x order
 
-  free : (rs : List KeyRecord) → AllByRecursion (λ r. KeyComesBefore r x) rs → has_conflict x.key (own_part x.tenant rs) ≡ false
-  free [] h = refl
-  free (r ∷ rs) h =
-      let ih = free rs h.1 in
-      cond_both (r.tenant == x.tenant) (r ∷ filter (λ s. s.tenant == x.tenant) rs) (filter (λ s. s.tenant == x.tenant) rs) (λ l. has_conflict x.key (map key_part l) ≡ false)
-      (λ e. let none = apart h.0 (eqb-true r.tenant x.tenant e) in rw none ih) (λ e. ih)
+  free : has_conflict x.key (own_part x.tenant fs) ≡ false
+  free =
+      any-some (λ p. conflicts x.key p.0) (own_part x.tenant fs)
+      ∙ ap some (nothing_passes is_below bytes_eq KeyComesBefore key_steps not_both_below keys_differ fs x order (conflicts x.key) apart)
     where
-      apart : KeyComesBefore r x → r.tenant ≡ x.tenant → conflicts x.key r.key ≡ false
-      apart (inl lt) e = absurd (omega arith)
-      apart (inr up) e = or_comm (is_proper_front x.key r.key) (is_proper_front r.key x.key) ∙ up.2
-
-  conflict_free : has_conflict x.key (own_part x.tenant fs) ≡ false
-  conflict_free = free fs (InOrder-before KeyComesBefore fs [] x order)
+      apart : (r : KeyRecord) → KeyComesBefore r x → r.tenant ≡ x.tenant → conflicts x.key r.key ≡ false
+      apart r (inl low) e = absurd (omega arith)
+      apart r (inr up) e = or_comm (is_proper_front x.key r.key) (is_proper_front r.key x.key) ∙ up.2
 
   key_new : KeyFits x → reply_to (record { keys = fs; numbers = [] }) (text_of (words_put x)) ≡ new_line
   key_new fits =
       reply_by (record { keys = fs; numbers = [] }) (text_of (words_put x)) (Some (of_tenant x.tenant (put x.key x.value))) (put_spelled x fits)
-      ∙ ap₂ (λ o c. line_of (put_reply o c) ++ []) absent conflict_free ∙ append-nil new_line
-
-  changed : (o : Option (List ℕ)) (c : Bool) (mine : Own) (r : Records) → o ≡ None → c ≡ false → with_changed x.tenant (cond (puts o c) (Some mine) None) r ≡ with_own x.tenant mine r
-  changed o c mine r e f = rw (e, f) refl
+      ∙ ap₂ (λ o c. line_of (put_reply o c) ++ []) absent free ∙ append-nil new_line
 
   key_put : KeyFits x → records_after (record { keys = fs; numbers = [] }) (text_of (words_put x)) ≡ (let r : Records = record { keys = fs ++ x ∷ []; numbers = [] } in r)
   key_put fits =
       let old : Records = record { keys = fs; numbers = [] } in
       after_by old (text_of (words_put x)) (Some (of_tenant x.tenant (put x.key x.value))) (put_spelled x fits)
-      ∙ changed (value_at bytes_eq x.key (own x.tenant old).keys) (has_conflict x.key (own x.tenant old).keys)
-      (record { keys = with_pair is_below x.key x.value (own x.tenant old).keys; numbers = (own x.tenant old).numbers }) old absent conflict_free
-      ∙ records_from_lists _ _ _ _ (put_last is_below bytes_eq KeyComesBefore key_steps not_both_below keys_differ fs x order) refl
+      ∙ sym (new_done x.tenant (record { keys = with_pair is_below x.key x.value (own x.tenant old).keys; numbers = (own x.tenant old).numbers }) old _ _ _ absent free
+      (sym (records_from_lists _ _ _ _ (put_last is_below bytes_eq KeyComesBefore key_steps not_both_below keys_differ fs x order) refl))).1
 
 -- so of all, where the lines of the records after some are each answered `new` and put one more in
 module _ {X : Type 0} (words : X → List Word) (held : List X → Records) (Before : X → X → Type 0) (Fits : X → Type 0)

@@ -23,7 +23,7 @@ use Rattle.art_engine.proofs.FullKeys.{full_from_parts, eq_turned, parts_from_fu
 use Rattle.art_engine.proofs.FullTests.{same_full}
 use Rattle.art_engine.proofs.KeyOrder.{cmp_equal, cmp_greater, cmp_less, not_below_itself, not_both_below}
 use Rattle.art_engine.proofs.OwnLaws.{Ascends, made, mine, part_of}
-use Rattle.art_engine.proofs.OwnParts.{IsCut, left_in_place, put_in_place}
+use Rattle.art_engine.proofs.OwnParts.{IsPartTest, left_in_place, put_in_place}
 use Rattle.art_engine.proofs.Terms.{InOrder, Record, own_part, value_at, with_pair, with_part, without_at}
 
 -- an item is put between those whose keys are below its key and those whose keys are above
@@ -84,13 +84,13 @@ pub record Kind {K M : Type 0} (bytes : M → List ℕ) (rest : K → List ℕ) 
 module _ {K M : Type 0} {bytes : M → List ℕ} {rest : K → List ℕ} {back : List ℕ → K} {Fits : K → Type 0} {lt same : K → K → Bool} {Before : Record K → Record K → Type 0}
     (kind : Kind bytes rest back Fits lt same Before) where
   -- a value under a full key, this key, and the record that it stands for
-  abbrev pub Held : Type 0
-  Held = M × Vec ℕ
+  abbrev pub HeldPair : Type 0
+  HeldPair = M × Vec ℕ
 
-  abbrev pub key_in : Held → List ℕ
+  abbrev pub key_in : HeldPair → List ℕ
   key_in p = bytes p.0
 
-  abbrev pub record_in : Held → Record K
+  abbrev pub record_in : HeldPair → Record K
   record_in p = record { tenant = from_be_bytes w32 (take 4 (bytes p.0)); key = back (drop 4 (bytes p.0)); value = p.1.items }
 
   -- the full key of a record, whose tenant and key have bytes of their own
@@ -101,22 +101,22 @@ module _ {K M : Type 0} {bytes : M → List ℕ} {rest : K → List ℕ} {back :
   RecordFits r = (r.tenant < 2 ^ 32) × Fits r.key
 
   -- a value stands under the full key of its record
-  pub record Stands (p : Held) : Type 0 where
+  pub record StandsUnder (p : HeldPair) : Type 0 where
     pub key : key_in p ≡ whole_of (record_in p)
     pub fits : RecordFits (record_in p)
 
-  pub record_made : (t : ℕ) (k : K) (p : Held) → t < 2 ^ 32 → Fits k → key_in p ≡ full_key t (rest k) → record_in p ≡ made t (k, p.1.items)
+  pub record_made : (t : ℕ) (k : K) (p : HeldPair) → t < 2 ^ 32 → Fits k → key_in p ≡ full_key t (rest k) → record_in p ≡ made t (k, p.1.items)
   record_made t k p small fits full =
       let tenant : from_be_bytes w32 (take 4 (bytes p.0)) ≡ t = ap (λ b. from_be_bytes w32 (take 4 b)) full ∙ from_be_bytes-to_be_bytes_4 t small in
       let key : back (drop 4 (bytes p.0)) ≡ k = ap (λ b. back (drop 4 b)) full ∙ kind.back_is k fits in
       rw (tenant, key) refl
 
-  pub made_stands : (t : ℕ) (k : K) (p : Held) → t < 2 ^ 32 → Fits k → key_in p ≡ full_key t (rest k) → Stands p
+  pub made_stands : (t : ℕ) (k : K) (p : HeldPair) → t < 2 ^ 32 → Fits k → key_in p ≡ full_key t (rest k) → StandsUnder p
   made_stands t k p small fits full = let is = record_made t k p small fits full in record { key = full ∙ sym (ap whole_of is); fits = subst RecordFits (sym is) (small, fits) }
 
   -- what is told by the keys alone is told by the records
-  pub keys_are : (ps : List Held) → AllByRecursion Stands ps → map key_in ps ≡ map whole_of (map record_in ps)
-  keys_are ps stand = sym (map-alike whole_of record_in key_in ps (all_weaker Stands (λ p. whole_of (record_in p) ≡ key_in p) (λ p s. sym s.key) ps stand))
+  pub keys_are : (ps : List HeldPair) → AllByRecursion StandsUnder ps → map key_in ps ≡ map whole_of (map record_in ps)
+  keys_are ps stand = sym (map-alike whole_of record_in key_in ps (all_weaker StandsUnder (λ p. whole_of (record_in p) ≡ key_in p) (λ p s. sym s.key) ps stand))
 
   -- full keys of records are in order where the records are
   pub ascend : (rs : List (Record K)) → AllByRecursion RecordFits rs → InOrder Before rs → AscendsByKey whole_of rs
@@ -126,12 +126,12 @@ module _ {K M : Type 0} {bytes : M → List ℕ} {rest : K → List ℕ} {back :
       before : (s : Record K) → RecordFits s → Before r s → IsBefore (whole_of r) (whole_of s)
       before s small b = full_from_parts r.tenant s.tenant (rest r.key) (rest s.key) fits.0.0 small.0 (kind.before_is r s fits.0.1 small.1 b)
 
-  pub pairs_ascend : (ps : List Held) → AllByRecursion Stands ps → InOrder Before (map record_in ps) → AscendsByKey key_in ps
+  pub pairs_ascend : (ps : List HeldPair) → AllByRecursion StandsUnder ps → InOrder Before (map record_in ps) → AscendsByKey key_in ps
   pairs_ascend [] stand order = tt
   pairs_ascend (p ∷ ps) stand order =
-      (All-both Stands (λ q. Before (record_in p) (record_in q)) (λ q. IsBefore (key_in p) (key_in q)) before ps stand.1 (All-made (Before (record_in p)) record_in ps order.0), pairs_ascend ps stand.1 order.1)
+      (All-both StandsUnder (λ q. Before (record_in p) (record_in q)) (λ q. IsBefore (key_in p) (key_in q)) before ps stand.1 (All-made (Before (record_in p)) record_in ps order.0), pairs_ascend ps stand.1 order.1)
     where
-      before : (q : Held) → Stands q → Before (record_in p) (record_in q) → IsBefore (key_in p) (key_in q)
+      before : (q : HeldPair) → StandsUnder q → Before (record_in p) (record_in q) → IsBefore (key_in p) (key_in q)
       before q s b =
           let r = record_in p in let o = record_in q in
           subst (λ k. IsBefore k (key_in q)) (sym stand.0.key) (subst (IsBefore (whole_of r)) (sym s.key)
@@ -139,36 +139,36 @@ module _ {K M : Type 0} {bytes : M → List ℕ} {rest : K → List ℕ} {back :
 
   -- and the other way
   turned : (B : Record K → Record K → Type 0) → ((r s : Record K) → RecordFits r → RecordFits s → (r.tenant < s.tenant) ⊎ ((r.tenant ≡ s.tenant) × IsBefore (rest r.key) (rest s.key)) → B r s)
-      → (ps : List Held) → AllByRecursion Stands ps → AscendsByKey key_in ps → InOrder B (map record_in ps)
+      → (ps : List HeldPair) → AllByRecursion StandsUnder ps → AscendsByKey key_in ps → InOrder B (map record_in ps)
   turned B means [] stand up = tt
   turned B means (p ∷ ps) stand up =
-      (all_map record_in (B (record_in p)) ps (All-both Stands (λ q. IsBefore (key_in p) (key_in q)) (λ q. B (record_in p) (record_in q)) comes ps stand.1 up.0), turned B means ps stand.1 up.1)
+      (all_map record_in (B (record_in p)) ps (All-both StandsUnder (λ q. IsBefore (key_in p) (key_in q)) (λ q. B (record_in p) (record_in q)) comes ps stand.1 up.0), turned B means ps stand.1 up.1)
     where
-      comes : (q : Held) → Stands q → IsBefore (key_in p) (key_in q) → B (record_in p) (record_in q)
+      comes : (q : HeldPair) → StandsUnder q → IsBefore (key_in p) (key_in q) → B (record_in p) (record_in q)
       comes q s b =
           let r = record_in p in let o = record_in q in
           means r o stand.0.fits s.fits (parts_from_full r.tenant o.tenant (rest r.key) (rest o.key) stand.0.fits.0 s.fits.0 (subst (λ k. IsBefore k (whole_of o)) stand.0.key (subst (IsBefore (key_in p)) s.key b)))
 
-  pub in_order : (ps : List Held) → AllByRecursion Stands ps → AscendsByKey key_in ps → InOrder Before (map record_in ps)
+  pub in_order : (ps : List HeldPair) → AllByRecursion StandsUnder ps → AscendsByKey key_in ps → InOrder Before (map record_in ps)
   in_order = turned Before (λ r s fr fs. kind.comes r s fr.1 fs.1)
 
-  tenants_ascend : (ps : List Held) → AllByRecursion Stands ps → AscendsByKey key_in ps → Ascends (map record_in ps)
+  tenants_ascend : (ps : List HeldPair) → AllByRecursion StandsUnder ps → AscendsByKey key_in ps → Ascends (map record_in ps)
   tenants_ascend = turned (λ r s. r.tenant ≤ s.tenant) (λ r s fr fs b. elim b [ inl lower ↦ omega arith | inr equal ↦ let e = equal.0 in omega arith ])
 
   -- a test of full keys passes all keys of tenants that pass, and of one tenant's the keys that pass
   abbrev pub IsTest : ℕ → (ℕ → Bool) → (List ℕ → Bool) → (K → Bool) → Type 0
   IsTest t S T G = (u : ℕ) (m : K) → u < 2 ^ 32 → Fits m → T (full_key u (rest m)) ≡ (S u || ((u == t) && G m))
 
-  records_filter : (T : List ℕ → Bool) (ps : List Held) → AllByRecursion Stands ps → map record_in (filter (λ p. T (key_in p)) ps) ≡ filter (λ r. T (whole_of r)) (map record_in ps)
-  records_filter T ps stand = filter-mapped record_in (λ p. T (key_in p)) (λ r. T (whole_of r)) ps (all_weaker Stands (λ p. T (key_in p) ≡ T (whole_of (record_in p))) (λ p s. ap T s.key) ps stand)
+  records_filter : (T : List ℕ → Bool) (ps : List HeldPair) → AllByRecursion StandsUnder ps → map record_in (filter (λ p. T (key_in p)) ps) ≡ filter (λ r. T (whole_of r)) (map record_in ps)
+  records_filter T ps stand = filter-mapped record_in (λ p. T (key_in p)) (λ r. T (whole_of r)) ps (all_weaker StandsUnder (λ p. T (key_in p) ≡ T (whole_of (record_in p))) (λ p s. ap T s.key) ps stand)
 
-  records_cut : (t : ℕ) (S : ℕ → Bool) (T : List ℕ → Bool) (G : K → Bool) → IsTest t S T G → (ps : List Held) → AllByRecursion Stands ps → AllByRecursion (IsCut t S (λ r. T (whole_of r)) G) (map record_in ps)
+  records_cut : (t : ℕ) (S : ℕ → Bool) (T : List ℕ → Bool) (G : K → Bool) → IsTest t S T G → (ps : List HeldPair) → AllByRecursion StandsUnder ps → AllByRecursion (IsPartTest t S (λ r. T (whole_of r)) G) (map record_in ps)
   records_cut t S T G tests ps stand =
-      let passes : Record K → Type 0 = IsCut t S (λ r. T (whole_of r)) G in
-      all_map record_in passes ps (all_weaker Stands (λ p. passes (record_in p)) (λ p s. tests (record_in p).tenant (record_in p).key s.fits.0 s.fits.1) ps stand)
+      let passes : Record K → Type 0 = IsPartTest t S (λ r. T (whole_of r)) G in
+      all_map record_in passes ps (all_weaker StandsUnder (λ p. passes (record_in p)) (λ p s. tests (record_in p).tenant (record_in p).key s.fits.0 s.fits.1) ps stand)
 
   -- a test of one tenant's keys
-  module _ (t : ℕ) (T : List ℕ → Bool) (G : K → Bool) (tests : IsTest t (λ u. false) T G) (ps : List Held) (stand : AllByRecursion Stands ps) where
+  module _ (t : ℕ) (T : List ℕ → Bool) (G : K → Bool) (tests : IsTest t (λ u. false) T G) (ps : List HeldPair) (stand : AllByRecursion StandsUnder ps) where
     -- what passes is the tenant's whose keys pass
     pub passing : map part_of (map record_in (filter (λ p. T (key_in p)) ps)) ≡ filter (λ p. G p.0) (own_part t (map record_in ps))
     passing =
@@ -179,7 +179,7 @@ module _ {K M : Type 0} {bytes : M → List ℕ} {rest : K → List ℕ} {back :
 
     pub first_passing : option_map part_of (option_map record_in (lookup_entry (λ m. T (bytes m)) ps)) ≡ find (λ p. G p.0) (own_part t (map record_in ps))
     first_passing =
-        let left : List Held = filter (λ p. T (key_in p)) ps in
+        let left : List HeldPair = filter (λ p. T (key_in p)) ps in
         ap (λ o. option_map part_of (option_map record_in o)) (entry-first (λ m. T (bytes m)) ps)
         ∙ ap (option_map part_of) (sym (first-map record_in left)) ∙ sym (first-map part_of (map record_in left)) ∙ ap first passing
         ∙ sym (find-first (λ p. G p.0) (own_part t (map record_in ps)))
@@ -187,7 +187,7 @@ module _ {K M : Type 0} {bytes : M → List ℕ} {rest : K → List ℕ} {back :
     pub value_passing : option_map (λ v. v.items) (lookup (λ m. T (bytes m)) ps) ≡ option_map (λ p. p.1) (find (λ p. G p.0) (own_part t (map record_in ps)))
     value_passing = ap (option_map (λ v. v.items)) (lookup-entry (λ m. T (bytes m)) ps) ∙ go (lookup_entry (λ m. T (bytes m)) ps) ∙ ap (option_map (λ p. p.1)) first_passing
       where
-        go : (o : Option Held) → option_map (λ (v : Vec ℕ). v.items) (option_map (λ p. p.1) o) ≡ option_map (λ (p : K × List ℕ). p.1) (option_map part_of (option_map record_in o))
+        go : (o : Option HeldPair) → option_map (λ (v : Vec ℕ). v.items) (option_map (λ p. p.1) o) ≡ option_map (λ (p : K × List ℕ). p.1) (option_map part_of (option_map record_in o))
         go None = refl
         go (Some p) = refl
 
@@ -195,7 +195,7 @@ module _ {K M : Type 0} {bytes : M → List ℕ} {rest : K → List ℕ} {back :
     pub without : AscendsByKey key_in ps → map record_in (filter (λ p. not (T (key_in p))) ps) ≡ with_part t (filter (λ p. not (G p.0)) (own_part t (map record_in ps))) (map record_in ps)
     without up = records_filter (λ k. not (T k)) ps stand ∙ left_in_place t (λ r. T (whole_of r)) G (map record_in ps) (records_cut t (λ u. false) T G tests ps stand) (tenants_ascend ps stand up)
 
-  module _ (t : ℕ) (k : K) (small : t < 2 ^ 32) (fits : Fits k) (ps : List Held) (stand : AllByRecursion Stands ps) where
+  module _ (t : ℕ) (k : K) (small : t < 2 ^ 32) (fits : Fits k) (ps : List HeldPair) (stand : AllByRecursion StandsUnder ps) where
     abbrev here : List ℕ
     here = full_key t (rest k)
 
@@ -217,7 +217,7 @@ module _ {K M : Type 0} {bytes : M → List ℕ} {rest : K → List ℕ} {back :
     )
 
     -- a value that is put at it
-    module _ (up : AscendsByKey key_in ps) (e : Held) (full : key_in e ≡ here) (free : IsBlocked key_in here ps → ⊥) (new : List Held) (is : new ≡ put_in_order key_in e (without_key key_in (key_in e) ps)) where
+    module _ (up : AscendsByKey key_in ps) (e : HeldPair) (full : key_in e ≡ here) (free : IsBlocked key_in here ps → ⊥) (new : List HeldPair) (is : new ≡ put_in_order key_in e (without_key key_in (key_in e) ps)) where
       put : AscendsByKey key_in (around key_in e here ps) × (new ≡ around key_in e here ps)
       put =
           let all = put_between key_in e ps up (subst (λ j. IsBlocked key_in j ps → ⊥) (sym full) free) in
@@ -226,10 +226,10 @@ module _ {K M : Type 0} {bytes : M → List ℕ} {rest : K → List ℕ} {back :
       pub put_ascends : AscendsByKey key_in new
       put_ascends = subst (AscendsByKey key_in) (sym put.1) put.0
 
-      pub put_stands : AllByRecursion Stands new
-      put_stands = subst (AllByRecursion Stands) (sym put.1)
-          (all_append Stands (filter (λ p. is_below (key_in p) here) ps) (e ∷ filter (λ p. is_below here (key_in p)) ps) (all-filter Stands (λ p. is_below (key_in p) here) ps stand)
-          (made_stands t k e small fits full, all-filter Stands (λ p. is_below here (key_in p)) ps stand))
+      pub put_stands : AllByRecursion StandsUnder new
+      put_stands = subst (AllByRecursion StandsUnder) (sym put.1)
+          (all_append StandsUnder (filter (λ p. is_below (key_in p) here) ps) (e ∷ filter (λ p. is_below here (key_in p)) ps) (all-filter StandsUnder (λ p. is_below (key_in p) here) ps stand)
+          (made_stands t k e small fits full, all-filter StandsUnder (λ p. is_below here (key_in p)) ps stand))
 
       pub put_records : map record_in new ≡ with_part t (with_pair lt k e.1.items (own_part t (map record_in ps))) (map record_in ps)
       put_records =

@@ -12,11 +12,9 @@ use Rattle.std.proofs.lemmas.Slice.Eq.{bytes_eq-Decides}
 use Rattle.std.specs.declared.cmp.Ordering.{Ordering}
 use Rattle.std.specs.declared.cmp.Ordering.TheVariants.{Less, Equal, Greater}
 use Rattle.std.proofs.lemmas.Bool.{cond_both, eqb-true}
-use Rattle.std.proofs.lemmas.List.Elements.{filter-append}
 use Rattle.art_bytes.proofs.Common.{is_below}
 use Rattle.art_lines.proofs.Common.{name, put, del, of_tenant, put_reply}
 use Rattle.art_arena.proofs.tree.Filters.{filter_all, filter_none}
-use Rattle.art_walks.proofs.Common.{all-filter}
 use Rattle.art_arena.proofs.Common.{all_weaker}
 use Rattle.art_engine.proofs.OwnLaws.{mine, own_from, own_reads_back, own_is_in_place, part_of, with_own_again}
 use Rattle.art_engine.proofs.KeyOrder.{cmp_equal, cmp_greater, below_trans, not_both_below}
