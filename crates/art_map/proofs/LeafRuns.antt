@@ -1,22 +1,23 @@
 -- A leaf that a hint names, and the leaves between two bounds that are found by it.
-use Rattle.std.proofs.Common.{◌≡◌, ℕ, Bool, true, false, not, List, [], ◌∷◌, ◌++◌, Option, Some, None, IsSome, refl, sym, ap, subst, ◌∙◌}
+use Rattle.std.proofs.Common.{◌≡◌, ◌==◌, ℕ, suc, arith, inl, inr, Bool, true, false, not, length, is_some, List, [], ◌∷◌, ◌++◌, Option, Some, None, IsSome, refl, sym, ap, subst, ◌∙◌}
 use Rattle.std.specs.Prelude.{IfSome}
 use Rattle.std.specs.List.{AllByRecursion}
 use Rattle.std.specs.BTreeMap.Range.{is_from_start, is_past_end, range_contains}
 use Rattle.std.specs.declared.ops.Bound.{Bound}
+use Rattle.std.proofs.lemmas.Bool.Decides.{eqb_tells}
 use Rattle.std.proofs.lemmas.List.Elements.{filter-append}
 use Rattle.art_bytes.proofs.Common.{IsBefore, bytes_cmp}
 use Rattle.art_nodes.proofs.Common.{Name}
 use Rattle.art_nodes.specs.declared.leaf.LeafNode.{LeafNode}
-use Rattle.art_arena.proofs.Common.{Arena, leaf_held, held_at, node_at, cell_of, links_of, links_at, pair, leaf_name, passing, Links, AreLinked, first_slot, last_slot, Shape, LeafAt, leaves, Stores}
+use Rattle.art_arena.proofs.Common.{Arena, leaf_held, held_at, node_at, cell_of, links_of, links_at, pair, leaf_name, passing, Links, AreLinked, first_slot, last_slot, Shape, LeafAt, leaves, pairs_of, Stores}
 use Rattle.art_arena.proofs.Common.{AscendsByKey, IsIn, AreLinked-right, last_slot-append, leaves_are_held, holds_pair, nodes-subtree, all_at, all_weaker}
 use Rattle.art_operations.proofs.Common.{AreEndsWhere, HasLeaves, tree_ascends, written}
 use Rattle.art_operations.proofs.KeyedLists.{none-pass}
 use Rattle.art_operations.proofs.RangeEnds.{StartsAt, starts-at}
 use Rattle.art_operations.proofs.Stretches.{from_later, past_later}
 use Rattle.art_operations.proofs.Terms.{slot_inside}
-use Rattle.art_walks.proofs.Terms.{Ends, IsCounted, IsWalk, leaves_left, pairs_left}
-use Rattle.art_walks.proofs.RunLengths.{Stepped, put_at, stepped}
+use Rattle.art_walks.proofs.Terms.{Ends, HasEnds, IsCounted, IsWalk, leaves_left, pairs_left}
+use Rattle.art_walks.proofs.RunLengths.{Stepped, put_at, run-pairs, stepped}
 use Rattle.art_arena.specs.declared.ends.End.{End}
 use Rattle.art_map.proofs.Terms.{contents, AreLeaves, IsMap}
 use Rattle.art_map.proofs.MapLeaves.{map-leaves}
@@ -177,3 +178,18 @@ module _ {K V : Type 0} (arena : Arena K V) (end : End) (old new : Ends) (first 
   pub run-reads : (leaf : LeafNode K V) → held_at arena (leaf_name slot) ≡ Some (leaf_held leaf) → (k : K) (v : V) → k ≡ leaf.key → v ≡ leaf.value → pairs_left arena old ≡ put_at end (k, v) (pairs_left arena new)
   run-reads leaf held k v key value =
       run-step.read k v (λ l e. let f = sym held ∙ e in let same : leaf ≡ l = cc in key ∙ ap (λ (m : LeafNode K V). m.key) same) (λ l e. let f = sym held ∙ e in let same : leaf ≡ l = cc in value ∙ ap (λ (m : LeafNode K V). m.value) same)
+
+not-zero : (n : ℕ) → (suc n == 0) ≡ false
+not-zero n = elim (eqb_tells (suc n) 0) [ inl same ↦ absurd (omega (arith, same.1)) | inr other ↦ other.0 ]
+
+-- a run has no end where no pair is left of it
+module _ {K V : Type 0} (arena : Arena K V) where
+  pub none-left : (ends : Ends) (r : Bool) → is_some ends ≡ not r → IsCounted arena ends (leaves_left arena ends) → r ≡ (length (pairs_left arena ends) == 0)
+  none-left None true e run = sym (ap (λ (ps : List (K × V)). length ps == 0) (run-pairs arena None (leaves_left arena None) run ∙ ap pairs_of run.walk.ends_are))
+  none-left None false e run = absurd (cc)
+  none-left (Some ends) true e run = absurd (cc)
+  none-left (Some ends) false e run = here run.leaves run.walk.ends_are (run-pairs arena (Some ends) (leaves_left arena (Some ends)) run)
+    where
+      here : (ls : List (LeafAt K V)) → HasEnds {K = K} {V = V} ls (Some ends) → pairs_left arena (Some ends) ≡ pairs_of ls → false ≡ (length (pairs_left arena (Some ends)) == 0)
+      here [] is pairs = let none = is.0 in absurd (cc)
+      here (l ∷ ls) is pairs = sym (ap (λ (ps : List (K × V)). length ps == 0) pairs ∙ not-zero (length (pairs_of ls)))

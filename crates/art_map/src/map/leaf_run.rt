@@ -1,5 +1,6 @@
 //! `LeafRun`: the pairs of a run of leaves, whose ends may be known from an earlier walk.
-ghost use Rattle.std.specs.Prelude.{◌≡◌, ◌∷◌, ◌++◌, [], IfSome, IsTrue, List, MatchOption, Some, ⊤, ℕ, false};
+ghost use Rattle.std.specs.Prelude.{◌≡◌, ◌==◌, ◌∷◌, ◌++◌, [], IfSome, IsTrue, List, MatchOption, Some, ⊤, ℕ, false};
+ghost use Rattle.std.specs.Prelude.{length};
 ghost use Rattle.std.specs.BTreeMap.Range.{range_contains};
 ghost use Rattle.std.specs.Map.Iter.{TakesFirst, TakesLast, deref_pair};
 ghost use Rattle.std.specs.Range.Bound.{bound_map};
@@ -47,9 +48,6 @@ pub struct LeafRun<'a, K, V, const PREFIX_LEN: usize, M: 'a = NodeArena<K, V, PR
     ends: Option<(LeafPtr, LeafPtr)>,
     root: Option<OpaqueNodePtr>,
     ahead: Prefetcher,
-    // What a hint says of the leaf that was passed last at each end.
-    first: usize,
-    last: usize,
     mark: PhantomData<M>,
 }
 
@@ -130,8 +128,6 @@ impl<'a, K: AsBytes, V, const PREFIX_LEN: usize> LeafRun<'a, K, V, PREFIX_LEN> {
             ends,
             root,
             ahead: Prefetcher::new(),
-            first: 0,
-            last: 0,
             mark: PhantomData,
         }
     }
@@ -145,7 +141,6 @@ impl<'a, K: AsBytes, V, const PREFIX_LEN: usize> LeafRun<'a, K, V, PREFIX_LEN> {
         let arena = self.arena;
         self.ahead
             .step(arena, self.root, RawIterator::new(first, last));
-        self.first = number_of(first);
         let (leaf, left) = first_of(arena, first, last);
         self.ends = left;
         Some(leaf.entry_ref())
@@ -158,21 +153,26 @@ impl<'a, K: AsBytes, V, const PREFIX_LEN: usize> LeafRun<'a, K, V, PREFIX_LEN> {
     {
         let (first, last) = self.ends?;
         let arena = self.arena;
-        self.last = number_of(last);
         let (leaf, left) = last_of(arena, first, last);
         self.ends = left;
         Some(leaf.entry_ref())
     }
 
-    /// Returns where the pair that was returned last and those still to come begin and end, for a run over them later.
+    /// Returns whether no pair is still to come. It reads no leaf.
+    pub fn is_empty(&self) -> bool
+        ensures { result ≡ (length self.now == 0) }
+    {
+        self.ends.is_none()
+    }
+
+    /// Returns where the pairs still to come begin and end, for a run over them later.
     pub fn hint(&self) -> RunHint {
-        let (first, last) = match self.ends {
-            Some((first, last)) => (number_of(first), number_of(last)),
-            None => (self.last, self.first),
-        };
-        RunHint {
-            first: if self.first == 0 { first } else { self.first },
-            last: if self.last == 0 { last } else { self.last },
+        match self.ends {
+            Some((first, last)) => RunHint {
+                first: number_of(first),
+                last: number_of(last),
+            },
+            None => RunHint { first: 0, last: 0 },
         }
     }
 }
@@ -358,8 +358,8 @@ impl<K: AsBytes, V, const PREFIX_LEN: usize> TreeMap<K, V, PREFIX_LEN> {
     /// Returns the pairs whose keys are between two bounds, by their bytes, as `range` does. No pair is between bounds
     /// that are not valid.
     ///
-    /// A hint of where they begin and end saves the way down the tree: that of an earlier run whose last pair is the
-    /// first of these. It is checked, and where it is wrong the leaves are found as without one. So it changes what the
+    /// A hint of where they begin and end saves the way down the tree: that of an earlier run, once these are what is
+    /// left of it. It is checked, and where it is wrong the leaves are found as without one. So it changes what the
     /// call costs, and not what it returns.
     ///
     /// ```
@@ -368,7 +368,6 @@ impl<K: AsBytes, V, const PREFIX_LEN: usize> TreeMap<K, V, PREFIX_LEN> {
     /// map.extend([(*b"ab", 1), (*b"cd", 2), (*b"ef", 3)])?;
     /// let mut run = map.range_run(Bound::Included(b"b"), Bound::Unbounded, RunHint::default());
     /// assert_eq!(rt; run.next(), Some((b"cd", &2)));
-    /// assert_eq!(rt; run.next(), Some((b"ef", &3)));
     /// let mut rest = map.range_run(Bound::Excluded(b"cd"), Bound::Unbounded, run.hint());
     /// assert_eq!(rt; rest.next(), Some((b"ef", &3)));
     /// assert_eq!(rt; rest.next(), None);
