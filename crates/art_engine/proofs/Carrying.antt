@@ -63,6 +63,7 @@ same_done {P} memory now new held line s d =
     record {
       lawful = λ yes. same_refusal now.records held line s (d.lawful yes);
       left = d.left ∙ same_left memory now.records held line s;
+      are = d.are;
       visits = d.visits;
       within = same_visits P memory now.records held line d.visits s d.within;
       short = subst (λ o. IsShort o d.visits) s.command d.short;
@@ -157,6 +158,7 @@ done_from {P} memory first old new line r e a d =
     record {
       lawful = s.lawful;
       left = s.left;
+      are = s.are;
       visits = s.visits;
       within = s.within;
       short = s.short;

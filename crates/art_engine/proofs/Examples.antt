@@ -1,11 +1,12 @@
 -- A worked example beside each definition, computed by the checker.
-use Rattle.std.proofs.Common.{◌≡◌, ℕ, ◌<◌, List, [], ◌∷◌, ◌++◌, refl, false, true, negsuc, lit<, lit≤, arith, inl, inr}
+use Rattle.std.proofs.Common.{◌≡◌, ℕ, zero, suc, ◌<◌, List, [], ◌∷◌, ◌++◌, refl, false, true, negsuc, lit<, lit≤, arith, inl, inr}
 use Rattle.std.specs.Prelude.{codes, flat_map, map, replicate, Some, None}
+use Rattle.hex.specs.Hex.{IsBytes}
 use Rattle.art_lines.specs.Lines.{whole_lines_of, unfinished_line_of}
 use Rattle.art_lines.proofs.Common.{lines_of, lines_so_far, name, natural, signed, bytes, shown, line_of, span, put, get, nget, drop, of_tenant, dump, Spells, list, full_key, IsCut}
 use Rattle.art_lines.specs.Reading.{command_of, natural_in, tenant_in, number_in, bytes_in}
 use Rattle.art_bytes.proofs.Common.{is_below, conflicts}
-use Rattle.art_engine.proofs.Terms.{number_key_of, number_of_bytes, full_key_of, exactly, visits_of, visit_bounds, path_nodes, fronts_shared, KeyRecord, KeyFits, Records, no_records, own, with_own, State, unread, most_ahead, dump_of, audit_lines, MayRefuse, LineMayRefuse, answers, IsLineDone, reply_to}
+use Rattle.art_engine.proofs.Terms.{number_key_of, number_of_bytes, full_key_of, exactly, visits_of, visit_bounds, path_nodes, fronts_shared, AreRecords, KeyRecord, KeyFits, Records, no_records, own, with_own, State, unread, most_ahead, dump_of, audit_lines, MayRefuse, LineMayRefuse, answers, IsLineDone, reply_to}
 use Rattle.art_engine.proofs.Terms.{IsAnswerCut, IsOutcome, AfterWriteFault, IsCutLine}
 use Rattle.hex.proofs.OnLiterals.{hex_on_literals}
 use Rattle.std.specs.Fmt.{digits}
@@ -201,11 +202,26 @@ empty = unread no_records
 one_record : Records
 one_record = record { keys = (record { tenant = 1; key = 10 ∷ []; value = 97 ∷ [] }) ∷ []; numbers = [] }
 
+one_byte : (b : ℕ) → b < 256 → IsBytes (b ∷ [])
+one_byte b fits zero = fits
+one_byte b fits (suc i) = lit< tt
+
+-- it is one that an index may hold
+one-fits : AreRecords one_record
+unfolding one_record computed
+one-fits = record {
+  keys_in_order = (tt, tt);
+  numbers_in_order = tt;
+  keys_fit = (record { tenant_fits = lit< tt; key_fits = one_byte 10 (lit< tt); value_fits = one_byte 97 (lit< tt); line_fits = lit≤ tt }, tt);
+  numbers_fit = tt;
+}
+
 put-done : IsLineDone false empty (codes "put 1 0a 61") (record { records = one_record; reads = 0 ∷ []; ahead = 0 ∷ []; prefetched = [] })
 unfolding one_record computed
 put-done = record {
   lawful = λ no_memory. absurd (false≢true no_memory);
   left = refl;
+  are = one-fits;
   visits = 0;
   within = (lit≤ tt, lit≤ tt);
   short = tt;

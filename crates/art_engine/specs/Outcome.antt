@@ -5,7 +5,7 @@ use Rattle.art_lines.specs.Words.{name, line_of}
 use Rattle.art_lines.specs.Reading.{command_of}
 use Rattle.art_engine.specs.Ahead.{most_ahead}
 use Rattle.art_engine.specs.Counts.{IsWithin, IsShort, ReadsOwnPath, line_visits}
-use Rattle.art_engine.specs.Records.{Records}
+use Rattle.art_engine.specs.Records.{Records, AreRecords}
 use Rattle.art_engine.specs.Replies.{command_reply, command_after}
 use Rattle.art_engine.specs.Refusals.{LineMayRefuse}
 use Rattle.art_engine.specs.State.{State}
@@ -31,11 +31,12 @@ abbrev pub answers : Records → List (List ℕ × Bool) → List ℕ
 answers records [] = []
 answers records (l ∷ lines) = answer l.1 records l.0 ++ answers (left_by l.1 records l.0) lines
 
--- A line was carried out, and found no memory only if it may. What it has read is counted after what was read before,
--- and so is what was read ahead of it.
+-- A line was carried out, and found no memory only if it may. It left records as an index may hold them. What it has
+-- read is counted after what was read before, and so is what was read ahead of it.
 pub record IsLineDone {P : ℕ} (memory : Bool) (old : State P) (line : List ℕ) (new : State P) : Type 0 where
   pub lawful : memory ≡ true → LineMayRefuse old.records line
   pub left : new.records ≡ left_by memory old.records line
+  pub are : AreRecords new.records
   pub visits : ℕ
   pub within : IsWithin (line_visits P memory line old.records) visits
   pub short : IsShort (command_of line) visits

@@ -248,7 +248,10 @@ fn execute_current<W: Sink, const PREFIX_LEN: usize>(
 {
     let parsed = read_ahead.parsed();
     match index.execute_parsed(line, parsed.word, parsed.fields, parsed.ahead, sink) {
-        Ok(_handled) => Ok(()),
+        Ok(_handled) => {
+            index.holds_records();
+            Ok(())
+        }
         Err(fault) => {
             count_unused(index, read_ahead);
             Err(fault)

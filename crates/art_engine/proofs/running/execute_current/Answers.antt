@@ -13,6 +13,7 @@ returns-in-Ok-clause-done g c =
       record {
         lawful = e.lawful;
         left = e.left;
+        are = c.holds_records.ensures;
         visits = c.in-Ok._handled.visits;
         within = e.visits;
         short = e.short;
