@@ -3,9 +3,7 @@ pub mod LineLemmas
 pub mod RunLemmas
 pub mod Carrying
 pub mod CutRuns
-pub mod Replies
 pub mod CarriedOut
-pub mod Families
 pub mod Dumping
 pub mod DumpReplies
 pub mod FullKeys

@@ -13,7 +13,7 @@ pub mod OwnAhead
 pub mod Laws
 pub mod Stored
 pub mod Changed
-pub mod Survey
+pub mod Done
 pub mod Dropped
 pub mod Progress
 pub mod Spans

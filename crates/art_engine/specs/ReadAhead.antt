@@ -1,12 +1,14 @@
 -- Lines that were parsed before their turn: those that are still to come, and what was prefetched for them.
 use Rattle.std.specs.Prelude.{◌≡◌, ℕ, ◌<◌, Bool, true, false, if◌then◌else◌, List, [], length, map, drop, take}
-use Rattle.std.specs.Prelude.{Option, Some, None, slice_get}
+use Rattle.std.specs.Prelude.{Option, Some, None, option_map, slice_get}
 use Rattle.std.specs.Global.{Vec}
 use Rattle.std.specs.List.{sum_by}
 use Rattle.art_nodes.specs.Name.{Name}
 use Rattle.art_arena.specs.arena.Arena.{Arena}
 use Rattle.art_lines.specs.declared.command.fields.Fields.{Fields}
 use Rattle.art_lines.specs.declared.command.word.Word.{Word}
+use Rattle.art_lines.specs.Commands.{Command}
+use Rattle.art_lines.specs.Parsed.{command_with}
 use Rattle.art_lines.specs.Reading.{command_of}
 use Rattle.art_engine.specs.Ahead.{AreOnOwnPath, IsWayAhead}
 use Rattle.art_engine.specs.declared.read_ahead.ReadAhead.{ReadAhead}
@@ -33,12 +35,15 @@ abbrev pub line_or : {X : Type 0} → X → (Line → X) → Option Line → X
 line_or own of None = own
 line_or own of (Some line) = of line
 
--- its word, its fields, and how many nodes were prefetched for it
+-- its word, its fields, its command, and how many nodes were prefetched for it
 abbrev pub word_now : ReadAhead → Option Word
 word_now ahead = line_or ahead.word (λ line. line.word) (line_found ahead.lines.items ahead.current)
 
 abbrev pub fields_now : ReadAhead → Fields
 fields_now ahead = line_or ahead.fields (λ line. line.fields) (line_found ahead.lines.items ahead.current)
+
+abbrev pub command_now : ReadAhead → Option Command
+command_now ahead = option_map (λ word. command_with word (fields_now ahead)) (word_now ahead)
 
 abbrev pub ahead_now : ReadAhead → ℕ
 ahead_now ahead = line_or 0 (λ line. line.read) (line_found ahead.lines.items ahead.current)

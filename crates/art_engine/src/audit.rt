@@ -1,12 +1,9 @@
 //! How many nodes of each kind trees have, as lines.
 ghost use Rattle.std.specs.Prelude.{◌≡◌, ◌+◌, ◌≤◌, ◌∷◌, [], length, decimal, codes, false, flat_map};
 ghost use Rattle.art_lines.specs.Words.{line_of};
-ghost use Rattle.art_engine.specs.Records.{no_records};
 ghost use Rattle.art_engine.specs.Replies.{count_words};
 ghost use Rattle.art_lines.specs.Writes.{Writes};
 ghost use Rattle.art_lines.specs.Gathered.{Puts};
-ghost use Rattle.art_engine.specs.Survey.{survey_words};
-ghost use Rattle.art_engine.specs.declared.records.survey.Survey.TheVariants.{Counts};
 
 use art_lines::reply::write_piece;
 use art_lines::room::{put_number, put_text};
@@ -51,7 +48,7 @@ pub(crate) fn write_audit<W: Sink>(
 ) -> Result<(), WriteFailed>
     requires { W.has_failed sink.old ≡ false }
     ensures { Writes result (W.taken sink.old) (W.taken sink.new)
-        (flat_map line_of (survey_words (Counts keys.now numbers.now) no_records))
+        (flat_map line_of (count_words (codes "bytes") keys.now ∷ count_words (codes "numbers") numbers.now ∷ []))
         (W.has_failed sink.new) }
 {
     let mut room = [0; ROOM];

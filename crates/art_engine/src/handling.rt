@@ -1,18 +1,21 @@
-//! What a line does to an index. No map is at hand here: an index lends readers, and makes changes.
-ghost use Rattle.std.specs.Prelude.{◌≡◌, ◌≤◌, ◌∷◌, [], ◌++◌, OnErr, IfOk, IfErr, is_err, true};
+//! What a line does: it is parsed, and its word's arm does the work and writes the answer. No map is at hand here, and
+//! what an arm has read can't be let go: it is told, and the index counts it.
+ghost use Rattle.std.specs.Prelude.{◌≡◌, ◌∷◌, [], ◌++◌, OnErr, IfOk, IfErr, is_err, true, List, ℕ};
 ghost use Rattle.std.specs.Prelude.{option_map, false, Some, None};
-ghost use Rattle.art_lines.specs.Parsed.{asks_all, changes, command_with, drops, looks_up};
+ghost use Rattle.art_lines.specs.Commands.{audit, dump, Spells};
+ghost use Rattle.art_lines.specs.Parsed.{changes, command_with, drops, looks_up};
 ghost use Rattle.art_lines.specs.Reading.{command_of};
 ghost use Rattle.art_engine.specs.Counts.{IsShort, IsWithin, ReadsOwnPath, line_visits};
-ghost use Rattle.art_engine.specs.Ahead.{most_ahead};
-ghost use Rattle.art_engine.specs.Faults.{IsAnswerCut, IsCutLine};
+ghost use Rattle.art_engine.specs.Done.{IsCommandDone};
+ghost use Rattle.art_engine.specs.Faults.{IsCutLine};
 ghost use Rattle.art_engine.specs.Outcome.{answer, left_by};
-ghost use Rattle.art_engine.specs.Progress.{IsLineAnswered};
 ghost use Rattle.art_engine.specs.Refusals.{LineMayRefuse};
 
+use crate::audit::write_audit;
 use crate::change::write_changed;
 use crate::drop_tenant::write_dropped;
-use crate::index::Index;
+use crate::index::{Index, Reads};
+use crate::records::Records;
 use art_lines::command::fields::Fields;
 use art_lines::command::read_line;
 use art_lines::command::word::{Change, LookUp, Whole, Word};
@@ -90,194 +93,130 @@ impl<const PREFIX_LEN: usize> Index<PREFIX_LEN> {
     {
         let mut fields = Fields::new();
         let word = read_line(line, &mut fields);
-        self.execute_parsed(line, word, &fields, 0, sink)
+        self.execute_parsed(word, &fields, 0, sink)
     }
+}
 
-    /// Executes one line as `handle` does, whose word and fields were read, as were so many nodes ahead of it.
-    pub(crate) fn execute_parsed<W: Sink>(
-        &mut self,
-        line: &[u8],
-        word: Option<Word>,
-        fields: &Fields,
-        ahead: u64,
-        sink: &mut W,
-    ) -> Result<Handled, RunFault>
-        requires open { W.has_failed sink.old ≡ false }
-        requires read { option_map (λ word. command_with word fields.now) word ≡ command_of line.now }
-        requires few { ahead ≤ most_ahead (command_of line.now) }
-        ensures output { IfOk result (λ done.
-            W.taken sink.new ≡ W.taken sink.old ++ answer done.memory self.old.records line.now) }
-        ensures left { IfOk result (λ done. self.new.records ≡ left_by done.memory self.old.records line.now) }
-        ensures lawful { IfOk result (λ done. done.memory ≡ true → LineMayRefuse self.old.records line.now) }
-        ensures visits { IfOk result (λ done.
-            IsWithin (line_visits PREFIX_LEN done.memory line.now self.old.records) done.visits) }
-        ensures short { IfOk result (λ done. IsShort (command_of line.now) done.visits) }
-        ensures own_path { IfOk result (λ done. ReadsOwnPath (command_of line.now) self.old.records done.visits) }
-        ensures counted { IfOk result (λ done. self.new.reads ≡ self.old.reads ++ done.visits ∷ []) }
-        ensures ahead { self.new.ahead ≡ self.old.ahead ++ ahead ∷ [] }
-        ensures prefetched { self.new.prefetched ≡ self.old.prefetched }
-        ensures err { IfErr result (λ fault. fault ≡ RunFault.Write) }
-        ensures failed { is_err result ≡ W.has_failed sink.new }
-        ensures cut { OnErr result (IsCutLine self.old line.now (W.taken sink.old) (W.taken sink.new) self.new) }
-    {
-        match self.execute(line, word, fields, sink) {
-            Ok(handled) => {
-                self.count_ahead(ahead);
-                Ok(handled)
-            }
-            Err(fault) => {
-                self.count_ahead(ahead);
-                Err(fault)
-            }
-        }
-    }
+/// What was done for a line.
+pub(crate) struct Done {
+    /// Whether its answer was written whole.
+    pub(crate) written: Result<(), WriteFailed>,
+    /// Whether its answer is `memory`.
+    pub(crate) memory: bool,
+    /// What it has read that counts.
+    pub(crate) reads: Reads,
+}
 
-    // Executes a line as `execute_parsed` does, and counts nothing of what was read ahead of it.
-    fn execute<W: Sink>(
+impl<const PREFIX_LEN: usize> Records<PREFIX_LEN> {
+    /// Executes a line whose word and fields were read, and writes its answer.
+    pub(crate) fn execute<W: Sink>(
         &mut self,
-        _line: &[u8],
         word: Option<Word>,
         fields: &Fields,
         sink: &mut W,
-    ) -> Result<Handled, RunFault>
+    ) -> Done
         requires open { W.has_failed sink.old ≡ false }
-        requires read { option_map (λ word. command_with word fields.now) word ≡ command_of _line.now }
-        ensures done { IfOk result (λ done. IsLineAnswered done.memory done.visits _line.now self.old self.new
-            (W.taken sink.old) (W.taken sink.new)) }
-        ensures kept { (self.new.ahead ≡ self.old.ahead) × (self.new.prefetched ≡ self.old.prefetched) }
-        ensures err { IfErr result (λ fault. fault ≡ RunFault.Write) }
-        ensures failed { is_err result ≡ W.has_failed sink.new }
-        ensures cut { OnErr result (IsAnswerCut self.old _line.now (W.taken sink.old) (W.taken sink.new) self.new) }
+        requires read { (line : List ℕ) × (option_map (λ word. command_with word fields.now) word ≡ command_of line) }
+        ensures { IsCommandDone PREFIX_LEN (option_map (λ word. command_with word fields.now) word) result.memory
+            result.reads.number self.old self.new result.written (W.taken sink.old) (W.taken sink.new)
+            (W.has_failed sink.new) }
     {
         match word {
-            Some(Word::LookUp(word)) => self.execute_look_up(_line, word, fields, sink),
-            Some(Word::Change(word)) => self.execute_change(_line, word, fields, sink),
-            Some(Word::Drop) => self.execute_drop(_line, fields, sink),
-            Some(Word::Whole(word)) => self.execute_survey(_line, word, fields, sink),
-            None => self.reply_bad(_line, sink),
+            Some(Word::LookUp(word)) => self.execute_look_up(word, fields, sink),
+            Some(Word::Change(word)) => self.execute_change(word, fields, sink),
+            Some(Word::Drop) => self.execute_drop(fields, sink),
+            Some(Word::Whole(Whole::Dump)) => self.execute_dump(sink),
+            Some(Word::Whole(Whole::Audit)) => self.execute_audit(sink),
+            None => self.reply_bad(sink),
         }
     }
 
-    // Answers a look-up.
-    fn execute_look_up<W: Sink>(
-        &mut self,
-        _line: &[u8],
-        word: LookUp,
-        fields: &Fields,
-        sink: &mut W,
-    ) -> Result<Handled, RunFault>
-        requires open { W.has_failed sink.old ≡ false }
-        requires read { Some (looks_up word fields.now) ≡ command_of _line.now }
-        ensures done { IfOk result (λ done. IsLineAnswered done.memory done.visits _line.now self.old self.new
-            (W.taken sink.old) (W.taken sink.new)) }
-        ensures kept { (self.new.ahead ≡ self.old.ahead) × (self.new.prefetched ≡ self.old.prefetched) }
-        ensures err { IfErr result (λ fault. fault ≡ RunFault.Write) }
-        ensures failed { is_err result ≡ W.has_failed sink.new }
-        ensures cut { OnErr result (IsAnswerCut self.old _line.now (W.taken sink.old) (W.taken sink.new) self.new) }
+    /// Answers a look-up.
+    fn execute_look_up<W: Sink>(&self, word: LookUp, fields: &Fields, sink: &mut W) -> Done
+        requires { W.has_failed sink.old ≡ false }
+        ensures { IsCommandDone PREFIX_LEN (Some (looks_up word fields.now)) result.memory result.reads.number
+            self.now self.now result.written (W.taken sink.old) (W.taken sink.new) (W.has_failed sink.new) }
     {
-        let looked = self.look_up(word, fields, sink);
-        match looked.0 {
-            Ok(()) => Ok(Handled {
-                memory: false,
-                visits: looked.1,
-            }),
-            Err(fault) => Err(fault),
+        let (written, reads) = self.look_up(word, fields, sink);
+        Done {
+            written,
+            memory: false,
+            reads,
         }
     }
 
-    // Makes a change, and writes how it went.
-    fn execute_change<W: Sink>(
-        &mut self,
-        _line: &[u8],
-        word: Change,
-        fields: &Fields,
-        sink: &mut W,
-    ) -> Result<Handled, RunFault>
+    /// Makes a change, and writes how it went.
+    fn execute_change<W: Sink>(&mut self, word: Change, fields: &Fields, sink: &mut W) -> Done
         requires open { W.has_failed sink.old ≡ false }
-        requires read { Some (changes word fields.now) ≡ command_of _line.now }
-        ensures done { IfOk result (λ done. IsLineAnswered done.memory done.visits _line.now self.old self.new
-            (W.taken sink.old) (W.taken sink.new)) }
-        ensures kept { (self.new.ahead ≡ self.old.ahead) × (self.new.prefetched ≡ self.old.prefetched) }
-        ensures err { IfErr result (λ fault. fault ≡ RunFault.Write) }
-        ensures failed { is_err result ≡ W.has_failed sink.new }
-        ensures cut { OnErr result (IsAnswerCut self.old _line.now (W.taken sink.old) (W.taken sink.new) self.new) }
+        requires spelled { (line : List ℕ) × Spells line (changes word fields.now) }
+        ensures { IsCommandDone PREFIX_LEN (Some (changes word fields.now)) result.memory result.reads.number
+            self.old self.new result.written (W.taken sink.old) (W.taken sink.new) (W.has_failed sink.new) }
     {
-        let done = self.change(word, fields);
-        self.count(0);
-        write_changed(sink, &done)?;
-        Ok(Handled {
-            memory: done.is_memory(),
-            visits: 0,
-        })
+        let changed = self.change(word, fields);
+        Done {
+            written: write_changed(sink, &changed),
+            memory: changed.is_memory(),
+            reads: Reads::of(0),
+        }
     }
 
-    // Drops a tenant, and writes how that went.
-    fn execute_drop<W: Sink>(
-        &mut self,
-        _line: &[u8],
-        fields: &Fields,
-        sink: &mut W,
-    ) -> Result<Handled, RunFault>
-        requires open { W.has_failed sink.old ≡ false }
-        requires read { Some (drops fields.now) ≡ command_of _line.now }
-        ensures done { IfOk result (λ done. IsLineAnswered done.memory done.visits _line.now self.old self.new
-            (W.taken sink.old) (W.taken sink.new)) }
-        ensures kept { (self.new.ahead ≡ self.old.ahead) × (self.new.prefetched ≡ self.old.prefetched) }
-        ensures err { IfErr result (λ fault. fault ≡ RunFault.Write) }
-        ensures failed { is_err result ≡ W.has_failed sink.new }
-        ensures cut { OnErr result (IsAnswerCut self.old _line.now (W.taken sink.old) (W.taken sink.new) self.new) }
+    /// Drops a tenant, and writes how that went.
+    fn execute_drop<W: Sink>(&mut self, fields: &Fields, sink: &mut W) -> Done
+        requires { W.has_failed sink.old ≡ false }
+        ensures { IsCommandDone PREFIX_LEN (Some (drops fields.now)) result.memory result.reads.number self.old self.new
+            result.written (W.taken sink.old) (W.taken sink.new) (W.has_failed sink.new) }
     {
         let dropped = self.drop_tenant(fields);
-        self.count(dropped.visits());
-        write_dropped(sink, dropped)?;
-        Ok(Handled {
+        Done {
+            written: write_dropped(sink, dropped),
             memory: dropped.is_memory(),
-            visits: dropped.visits(),
-        })
+            reads: Reads::of(dropped.visits()),
+        }
     }
 
-    // Writes what is asked of all records.
-    fn execute_survey<W: Sink>(
-        &mut self,
-        _line: &[u8],
-        word: Whole,
-        _fields: &Fields,
-        sink: &mut W,
-    ) -> Result<Handled, RunFault>
-        requires open { W.has_failed sink.old ≡ false }
-        requires read { Some (asks_all word) ≡ command_of _line.now }
-        ensures done { IfOk result (λ done. IsLineAnswered done.memory done.visits _line.now self.old self.new
-            (W.taken sink.old) (W.taken sink.new)) }
-        ensures kept { (self.new.ahead ≡ self.old.ahead) × (self.new.prefetched ≡ self.old.prefetched) }
-        ensures err { IfErr result (λ fault. fault ≡ RunFault.Write) }
-        ensures failed { is_err result ≡ W.has_failed sink.new }
-        ensures cut { OnErr result (IsAnswerCut self.old _line.now (W.taken sink.old) (W.taken sink.new) self.new) }
+    /// Writes every record.
+    fn execute_dump<W: Sink>(&self, sink: &mut W) -> Done
+        requires { W.has_failed sink.old ≡ false }
+        ensures { IsCommandDone PREFIX_LEN (Some dump) result.memory result.reads.number self.now self.now
+            result.written (W.taken sink.old) (W.taken sink.new) (W.has_failed sink.new) }
     {
-        let found = self.survey(word);
-        self.count(0);
-        self.write_survey(found, sink)?;
-        Ok(Handled {
-            memory: found.is_memory(),
-            visits: 0,
-        })
-    }
-
-    // Answers a line that spells no command.
-    fn reply_bad<W: Sink>(&mut self, _line: &[u8], sink: &mut W) -> Result<Handled, RunFault>
-        requires open { W.has_failed sink.old ≡ false }
-        requires read { command_of _line.now ≡ None }
-        ensures done { IfOk result (λ done. IsLineAnswered done.memory done.visits _line.now self.old self.new
-            (W.taken sink.old) (W.taken sink.new)) }
-        ensures kept { (self.new.ahead ≡ self.old.ahead) × (self.new.prefetched ≡ self.old.prefetched) }
-        ensures err { IfErr result (λ fault. fault ≡ RunFault.Write) }
-        ensures failed { is_err result ≡ W.has_failed sink.new }
-        ensures cut { OnErr result (IsAnswerCut self.old _line.now (W.taken sink.old) (W.taken sink.new) self.new) }
-    {
-        self.count(0);
-        write_piece(sink, b"bad\n")?;
-        Ok(Handled {
+        Done {
+            written: self.write_dump(sink),
             memory: false,
-            visits: 0,
-        })
+            reads: Reads::of(0),
+        }
+    }
+
+    /// Counts the nodes of both trees, and writes how many they are.
+    fn execute_audit<W: Sink>(&self, sink: &mut W) -> Done
+        requires { W.has_failed sink.old ≡ false }
+        ensures { IsCommandDone PREFIX_LEN (Some audit) result.memory result.reads.number self.now self.now
+            result.written (W.taken sink.old) (W.taken sink.new) (W.has_failed sink.new) }
+    {
+        match self.count_nodes() {
+            Ok((keys, numbers)) => Done {
+                written: write_audit(sink, &keys, &numbers),
+                memory: false,
+                reads: Reads::of(0),
+            },
+            Err(_) => Done {
+                written: write_piece(sink, b"memory\n"),
+                memory: true,
+                reads: Reads::of(0),
+            },
+        }
+    }
+
+    /// Answers a line that spells no command.
+    fn reply_bad<W: Sink>(&self, sink: &mut W) -> Done
+        requires { W.has_failed sink.old ≡ false }
+        ensures { IsCommandDone PREFIX_LEN None result.memory result.reads.number self.now self.now
+            result.written (W.taken sink.old) (W.taken sink.new) (W.has_failed sink.new) }
+    {
+        Done {
+            written: write_piece(sink, b"bad\n"),
+            memory: false,
+            reads: Reads::of(0),
+        }
     }
 }

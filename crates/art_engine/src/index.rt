@@ -1,36 +1,42 @@
 //! An index: the records, and for proofs alone what its lines have read.
-ghost use Rattle.std.specs.Prelude.{◌≡◌, ◌⊎◌, ◌+◌, ◌≤◌, ◌∷◌, [], ◌++◌, List, ℕ, map, OnOk, IfErr, Some, false};
-ghost use Rattle.std.specs.Prelude.{flat_map};
-ghost use Rattle.art_lines.specs.Commands.{Spells};
-ghost use Rattle.art_lines.specs.Parsed.{asks_all, changes, looks_up, tenant_in_place};
-ghost use Rattle.art_lines.specs.Words.{line_of};
-ghost use Rattle.art_lines.specs.Writes.{Writes};
-ghost use Rattle.art_engine.specs.Ahead.{AreNext, total};
-ghost use Rattle.art_engine.specs.Changed.{IsChangeDone};
-ghost use Rattle.art_engine.specs.Counts.{IsWithin, visits_of};
-ghost use Rattle.art_engine.specs.Dropped.{IsDropDone};
+ghost use Rattle.std.specs.Prelude.{◌≡◌, ◌⊎◌, ◌+◌, ◌≤◌, ◌∷◌, [], ◌++◌, map, OnErr, IfErr, IfOk, is_err, option_map};
+ghost use Rattle.std.specs.Prelude.{false, List, ℕ};
+ghost use Rattle.art_lines.specs.Parsed.{command_with};
+ghost use Rattle.art_lines.specs.Reading.{command_of};
+ghost use Rattle.art_engine.specs.Ahead.{AreNext, most_ahead, total};
+ghost use Rattle.art_engine.specs.Done.{IsLineAnswered};
+ghost use Rattle.art_engine.specs.Faults.{IsCutLine};
 ghost use Rattle.art_engine.specs.Keys.{full_pair, number_pair};
 ghost use Rattle.art_engine.specs.OwnAhead.{AreReadAhead};
 ghost use Rattle.art_engine.specs.Records.{AreRecords, no_records};
-ghost use Rattle.art_engine.specs.Replies.{command_reply};
 ghost use Rattle.art_engine.specs.State.{unread};
 ghost use Rattle.art_engine.specs.Stored.{all_records_of, ArePairs, AreNumberPairs};
-ghost use Rattle.art_engine.specs.Survey.{IsSurvey, survey_words};
 ghost use Rattle.art_engine.specs.ReadAhead.{to_come, read_of, texts_of};
 
-use crate::change::Changed;
-use crate::drop_tenant::Dropped;
-use crate::handling::RunFault;
+use crate::handling::{Done, Handled, RunFault};
 use crate::read_ahead::ReadAhead;
 use crate::records::Records;
-use crate::records::survey::Survey;
 use art_bytes::{Count, History};
+use art_lines::Sink;
 use art_lines::command::fields::{Fields, NUMBER_KEY};
-use art_lines::command::word::{Change, LookUp, Whole};
-use art_lines::{Sink, WriteFailed};
+use art_lines::command::word::Word;
 use art_map::TreeMap;
 use std::alloc::Global;
 use std::marker::Model;
+
+/// How many nodes were read. It can't be let go: an index alone ends it, and counts it.
+pub(crate) struct Reads {
+    number: u64,
+}
+
+impl Reads {
+    /// So many.
+    pub(crate) fn of(number: u64) -> Self
+        ensures { result.number ≡ number }
+    {
+        Reads { number }
+    }
+}
 
 /// The records of all tenants. For proofs alone, it also keeps how many nodes each line has read, how many were
 /// read ahead of it, and what the readers counted that went ahead.
@@ -154,39 +160,16 @@ impl<const PREFIX_LEN: usize> Index<PREFIX_LEN> {
         self.records.number_map()
     }
 
-    /// Executes a look-up through a reader of each map. Also returns how many nodes both have read, whatever became of
-    /// the reply. That is counted.
-    pub(crate) fn look_up<W: Sink>(
-        &mut self,
-        word: LookUp,
-        fields: &Fields,
-        sink: &mut W,
-    ) -> (Result<(), RunFault>, u64)
-        requires open { W.has_failed sink.old ≡ false }
-        ensures output { Writes result.0 (W.taken sink.old) (W.taken sink.new)
-            (flat_map line_of (command_reply (Some (looks_up word fields.now)) self.old.records))
-            (W.has_failed sink.new) }
-        ensures err { IfErr result.0 (λ fault. fault ≡ RunFault.Write) }
-        ensures visits { OnOk result.0
-            (IsWithin (visits_of PREFIX_LEN (Some (looks_up word fields.now)) self.old.records) result.1) }
-        ensures few { result.1 ≤ (visits_of PREFIX_LEN (Some (looks_up word fields.now)) self.old.records).most }
-        ensures counted { self.new.reads ≡ self.old.reads ++ result.1 ∷ [] }
-        ensures kept { (self.new.records ≡ self.old.records) × (self.new.ahead ≡ self.old.ahead)
-            × (self.new.prefetched ≡ self.old.prefetched) }
-        ensures are { AreRecords self.old.records }
-    {
-        let executed = self.records.look_up(word, fields, sink);
-        self.count(executed.1);
-        executed
-    }
-
-    /// Counts what a line has read.
-    pub(crate) fn count(&mut self, visits: u64)
-        ensures counted { self.new.reads ≡ self.old.reads ++ visits ∷ [] }
+    /// Counts what a line has read, and returns how many nodes these were.
+    fn count(&mut self, reads: Reads) -> u64
+        ensures number { result ≡ reads.number }
+        ensures counted { self.new.reads ≡ self.old.reads ++ reads.number ∷ [] }
         ensures kept { (self.new.records ≡ self.old.records) × (self.new.ahead ≡ self.old.ahead)
             × (self.new.prefetched ≡ self.old.prefetched) }
     {
-        self.reads = self.reads.then_count(&Count { number: visits });
+        let Reads { number } = reads;
+        self.reads = self.reads.then_count(&Count { number });
+        number
     }
 
     /// Counts how many nodes were read ahead of a line.
@@ -227,47 +210,50 @@ impl<const PREFIX_LEN: usize> Index<PREFIX_LEN> {
             × (self.new.ahead ≡ self.old.ahead) }
     {
         let (keys, numbers) = self.records.prefetch(read_ahead, text);
-        let of_keys = Count { number: keys };
-        let of_numbers = Count { number: numbers };
-        self.prefetched = self.prefetched.then_count(&of_keys).then_count(&of_numbers);
+        self.count_prefetched(keys);
+        self.count_prefetched(numbers);
     }
 
-    /// Makes a change, and returns how it went. If it was out of memory, nothing is changed.
-    pub(crate) fn change(&mut self, word: Change, fields: &Fields) -> Changed
-        requires spelled { (line : List ℕ) × Spells line (changes word fields.now) }
-        ensures done { IsChangeDone result (changes word fields.now) self.old.records self.new.records }
-        ensures kept { (self.new.reads ≡ self.old.reads) × (self.new.ahead ≡ self.old.ahead)
-            × (self.new.prefetched ≡ self.old.prefetched) }
+    /// Counts what a reader has read that went ahead of lines.
+    fn count_prefetched(&mut self, reads: Reads)
+        ensures counted { self.new.prefetched ≡ self.old.prefetched ++ reads.number ∷ [] }
+        ensures kept { (self.new.records ≡ self.old.records) × (self.new.reads ≡ self.old.reads)
+            × (self.new.ahead ≡ self.old.ahead) }
     {
-        self.records.change(word, fields)
+        let Reads { number } = reads;
+        self.prefetched = self.prefetched.then_count(&Count { number });
     }
 
-    /// Removes all records of the tenant that was read. If it is out of memory, nothing is changed.
-    pub(crate) fn drop_tenant(&mut self, fields: &Fields) -> Dropped
-        ensures done { IsDropDone PREFIX_LEN result (tenant_in_place fields.now) self.old.records self.new.records }
-        ensures kept { (self.new.reads ≡ self.old.reads) × (self.new.ahead ≡ self.old.ahead)
-            × (self.new.prefetched ≡ self.old.prefetched) }
-    {
-        self.records.drop_tenant(fields)
-    }
-
-    /// Surveys all records.
-    pub(crate) fn survey(&self, word: Whole) -> Survey
-        ensures { IsSurvey result (asks_all word) self.now.records }
-    {
-        self.records.survey(word)
-    }
-
-    /// Writes a survey of all records.
-    pub(crate) fn write_survey<W: Sink>(
-        &self,
-        found: Survey,
+    /// Executes one line as `handle` does, whose word and fields were read, as were so many nodes ahead of it.
+    pub(crate) fn execute_parsed<W: Sink>(
+        &mut self,
+        word: Option<Word>,
+        fields: &Fields,
+        ahead: u64,
         sink: &mut W,
-    ) -> Result<(), WriteFailed>
-        requires { W.has_failed sink.old ≡ false }
-        ensures { Writes result (W.taken sink.old) (W.taken sink.new)
-            (flat_map line_of (survey_words found self.now.records)) (W.has_failed sink.new) }
+    ) -> Result<Handled, RunFault>
+        requires open { W.has_failed sink.old ≡ false }
+        requires read { (line : List ℕ) × (option_map (λ word. command_with word fields.now) word ≡ command_of line) }
+        requires few { ahead ≤ most_ahead (option_map (λ word. command_with word fields.now) word) }
+        ensures done { (line : List ℕ) → option_map (λ word. command_with word fields.now) word ≡ command_of line
+            → IfOk result (λ done. IsLineAnswered done.memory done.visits line self.old self.new
+            (W.taken sink.old) (W.taken sink.new)) }
+        ensures ahead { self.new.ahead ≡ self.old.ahead ++ ahead ∷ [] }
+        ensures prefetched { self.new.prefetched ≡ self.old.prefetched }
+        ensures err { IfErr result (λ fault. fault ≡ RunFault.Write) }
+        ensures failed { is_err result ≡ W.has_failed sink.new }
+        ensures cut { (line : List ℕ) → option_map (λ word. command_with word fields.now) word ≡ command_of line
+            → OnErr result (IsCutLine self.old line (W.taken sink.old) (W.taken sink.new) self.new) }
     {
-        self.records.write_survey(found, sink)
+        let done = self.records.execute(word, fields, sink);
+        let Done {
+            written,
+            memory,
+            reads,
+        } = done;
+        let visits = self.count(reads);
+        self.count_ahead(ahead);
+        written?;
+        Ok(Handled { memory, visits })
     }
 }

@@ -130,7 +130,7 @@ pub fn look_up<W: Sink, const PREFIX_LEN: usize>(
 }
 
 /// Answers a look-up as `look_up` does, and returns the sink's own fault.
-fn write_look_up<W: Sink, const PREFIX_LEN: usize>(
+pub(crate) fn write_look_up<W: Sink, const PREFIX_LEN: usize>(
     bytes: &mut MapReader<'_, Vec<u8>, Vec<u8>, PREFIX_LEN>,
     numbers: &mut MapReader<'_, [u8; NUMBER_KEY], Vec<u8>, PREFIX_LEN>,
     word: LookUp,

@@ -1,21 +1,21 @@
 //! The records of all tenants: both maps, and all that touches them. No file outside this module can name a map of an
 //! index, or a function that takes one. So what is told of reads is believed of this module's files, and of no other.
-ghost use Rattle.std.specs.Prelude.{◌≡◌, ◌+◌, ◌≤◌, List, ℕ, length, map, max, flat_map, OnOk, IfErr, Some, false};
+ghost use Rattle.std.specs.Prelude.{◌≡◌, ◌+◌, ◌≤◌, List, ℕ, length, map, max, flat_map, IfOk, OnOk, Some, false};
+ghost use Rattle.art_map.specs.Audit.{audit_of};
 ghost use Rattle.art_lines.specs.Commands.{Spells};
-ghost use Rattle.art_lines.specs.Parsed.{asks_all, changes, looks_up, tenant_in_place};
+ghost use Rattle.art_lines.specs.Parsed.{changes, looks_up, tenant_in_place};
 ghost use Rattle.art_lines.specs.Words.{line_of};
 ghost use Rattle.art_lines.specs.Writes.{Writes};
 ghost use Rattle.art_engine.specs.Ahead.{AreNext};
 ghost use Rattle.art_engine.specs.Changed.{IsChangeDone};
 ghost use Rattle.art_engine.specs.Counts.{IsWithin, visits_of};
 ghost use Rattle.art_engine.specs.Dropped.{IsDropDone};
-ghost use Rattle.art_engine.specs.Keys.{full_pair, number_pair};
+ghost use Rattle.art_engine.specs.Keys.{full_key_of, full_pair, number_key_of, number_pair};
 ghost use Rattle.art_engine.specs.OwnAhead.{AreReadAhead};
 ghost use Rattle.art_engine.specs.ReadAhead.{to_come, read_of, texts_of};
 ghost use Rattle.art_engine.specs.Records.{AreRecords, no_records};
-ghost use Rattle.art_engine.specs.Replies.{command_reply};
+ghost use Rattle.art_engine.specs.Replies.{command_reply, dump_of};
 ghost use Rattle.art_engine.specs.Stored.{all_records_of, ArePairs, AreNumberPairs};
-ghost use Rattle.art_engine.specs.Survey.{IsSurvey, survey_words};
 
 mod change;
 mod drop_tenant;
@@ -23,22 +23,21 @@ mod dump;
 mod maps;
 mod path_reader;
 mod readers;
-pub(crate) mod survey;
 
 use crate::change::Changed;
 use crate::drop_tenant::Dropped;
-use crate::handling::RunFault;
+use crate::index::Reads;
 use crate::read_ahead::{MIN_RECORDS, ReadAhead};
 use art_lines::command::fields::{Fields, NUMBER_KEY};
-use art_lines::command::word::{Change, LookUp, Whole};
+use art_lines::command::word::{Change, LookUp};
 use art_lines::{Sink, WriteFailed};
 use art_map::TreeMap;
+use art_walks::WellFormedTreeStats;
 pub use maps::are_records;
 pub use path_reader::PathReader;
 use readers::Readers;
-use std::alloc::Global;
+use std::alloc::{AllocError, Global};
 use std::marker::Model;
-use survey::{Survey, take_survey, write_survey};
 
 /// The records of all tenants: those under keys in one map, and those under numbers in the other.
 #[derive(Drop)]
@@ -130,15 +129,14 @@ impl<const PREFIX_LEN: usize> Records<PREFIX_LEN> {
         word: LookUp,
         fields: &Fields,
         sink: &mut W,
-    ) -> (Result<(), RunFault>, u64)
+    ) -> (Result<(), WriteFailed>, Reads)
         requires open { W.has_failed sink.old ≡ false }
         ensures output { Writes result.0 (W.taken sink.old) (W.taken sink.new)
             (flat_map line_of (command_reply (Some (looks_up word fields.now)) self.now))
             (W.has_failed sink.new) }
-        ensures err { IfErr result.0 (λ fault. fault ≡ RunFault.Write) }
         ensures visits { OnOk result.0
-            (IsWithin (visits_of PREFIX_LEN (Some (looks_up word fields.now)) self.now) result.1) }
-        ensures few { result.1 ≤ (visits_of PREFIX_LEN (Some (looks_up word fields.now)) self.now).most }
+            (IsWithin (visits_of PREFIX_LEN (Some (looks_up word fields.now)) self.now) result.1.number) }
+        ensures few { result.1.number ≤ (visits_of PREFIX_LEN (Some (looks_up word fields.now)) self.now).most }
         ensures are { AreRecords self.now }
     {
         let readers = Readers::new(&self.keys, &self.numbers);
@@ -147,15 +145,15 @@ impl<const PREFIX_LEN: usize> Records<PREFIX_LEN> {
 
     /// Prefetches for the next lines of a text through a reader of each map, and returns how many nodes each has read.
     /// What was read ahead of each line are the first nodes of the path of its own full key.
-    pub(crate) fn prefetch(&self, read_ahead: &mut ReadAhead, text: &[u8]) -> (u64, u64)
+    pub(crate) fn prefetch(&self, read_ahead: &mut ReadAhead, text: &[u8]) -> (Reads, Reads)
         ensures comes { AreNext (texts_of (to_come read_ahead.new)) text.now }
-        ensures counted { result.0 + result.1 ≡ read_of (to_come read_ahead.new) }
+        ensures counted { result.0.number + result.1.number ≡ read_of (to_come read_ahead.new) }
         ensures ahead { AreReadAhead PREFIX_LEN self.now (to_come read_ahead.new) }
     {
         let mut keys = PathReader::new(&self.keys);
         let mut numbers = PathReader::new(&self.numbers);
         read_ahead.read_maps(&mut keys, &mut numbers, MIN_RECORDS, text);
-        (keys.end(), numbers.end())
+        (Reads::of(keys.end()), Reads::of(numbers.end()))
     }
 
     /// Makes a change, and returns how it went. If it was out of memory, nothing is changed.
@@ -173,23 +171,25 @@ impl<const PREFIX_LEN: usize> Records<PREFIX_LEN> {
         drop_tenant::drop_tenant(&mut self.keys, &mut self.numbers, fields)
     }
 
-    /// Surveys all records.
-    pub(crate) fn survey(&self, word: Whole) -> Survey
-        ensures { IsSurvey result (asks_all word) self.now }
+    /// Writes every record, as the line that would make it, and how many they are.
+    pub(crate) fn write_dump<W: Sink>(&self, sink: &mut W) -> Result<(), WriteFailed>
+        requires { W.has_failed sink.old ≡ false }
+        ensures { Writes result (W.taken sink.old) (W.taken sink.new) (flat_map line_of (dump_of self.now))
+            (W.has_failed sink.new) }
     {
-        take_survey(&self.keys, &self.numbers, word)
+        dump::write_dump(&self.keys, &self.numbers, sink)
     }
 
-    /// Writes a survey of all records.
-    pub(crate) fn write_survey<W: Sink>(
+    /// Returns how many nodes of each kind the tree of all records under keys has, and that of all under numbers. It
+    /// allocates, and fails if there is no memory for that.
+    pub(crate) fn count_nodes(
         &self,
-        found: Survey,
-        sink: &mut W,
-    ) -> Result<(), WriteFailed>
-        requires { W.has_failed sink.old ≡ false }
-        ensures { Writes result (W.taken sink.old) (W.taken sink.new)
-            (flat_map line_of (survey_words found self.now)) (W.has_failed sink.new) }
+    ) -> Result<(WellFormedTreeStats, WellFormedTreeStats), AllocError>
+        ensures { IfOk result (λ counts. (counts.0 ≡ audit_of full_key_of self.now.keys)
+            × (counts.1 ≡ audit_of number_key_of self.now.numbers)) }
     {
-        write_survey(&self.keys, &self.numbers, found, sink)
+        let keys = self.keys.audit()?;
+        let numbers = self.numbers.audit()?;
+        Ok((keys, numbers))
     }
 }

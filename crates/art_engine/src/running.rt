@@ -1,13 +1,12 @@
 //! From a source to a sink.
 ghost use Rattle.std.specs.Prelude.{◌≡◌, ℕ, ◌+◌, ◌<◌, ◌≤◌, ◌++◌, ◌∷◌, ◌↔◌, ◌⊎◌, [], List, length, take, OnOk, OnErr};
-ghost use Rattle.std.specs.Prelude.{Bool, IfErr, IfOk, IsTrue, is_err, true, false, suc, Err, Ok, option_map};
+ghost use Rattle.std.specs.Prelude.{Bool, IfErr, IfOk, IsTrue, is_err, true, false, suc, Err, Ok};
 ghost use Rattle.art_lines.specs.Ends.{bytes_taken, calls_to_flush, has_write_failed, writes_unflushed};
 ghost use Rattle.art_lines.specs.Lines.{lines_of, whole_lines_of, lines_so_far};
 ghost use Rattle.art_engine.specs.State.{State};
-ghost use Rattle.art_lines.specs.Parsed.{command_with};
 ghost use Rattle.art_lines.specs.Reading.{command_of};
 ghost use Rattle.art_engine.specs.Ahead.{AreNext, IsAllTold, Tells, most_ahead, total};
-ghost use Rattle.art_engine.specs.ReadAhead.{ahead_now, fields_now, to_come, read_of, texts_of, word_now};
+ghost use Rattle.art_engine.specs.ReadAhead.{ahead_now, command_now, to_come, read_of, texts_of};
 ghost use Rattle.art_engine.specs.Outcome.{IsLineDone, IsOutcome, answer};
 ghost use Rattle.art_engine.specs.Faults.{AfterWriteFault, IsCutLine};
 ghost use Rattle.art_engine.specs.Progress.{Carried, IsCutRun, NoNewline};
@@ -123,7 +122,7 @@ fn run_held<S: Source, W: Sink, const PREFIX_LEN: usize>(
     }
     let line = held.as_slice();
     read_ahead.parse_now(line);
-    execute_current(index, read_ahead, line, sink)?;
+    execute_current(index, read_ahead, sink)?;
     Ok(())
 }
 
@@ -212,32 +211,31 @@ fn finish_line<W: Sink, const PREFIX_LEN: usize>(
     if held.is_empty() {
         index.prefetch(read_ahead, rest);
         read_ahead.next(part);
-        execute_current(index, read_ahead, part, sink)?;
+        execute_current(index, read_ahead, sink)?;
         return Ok(());
     }
     append_capped(held, part);
     let line = held.as_slice();
     read_ahead.parse_now(line);
-    execute_current(index, read_ahead, line, sink)?;
+    execute_current(index, read_ahead, sink)?;
     held.clear();
     Ok(())
 }
 
-/// Executes the line that came last, whose bytes these are. If the sink fails, what was read ahead of lines that do not
-/// come is counted, too.
+/// Executes the line that came last. If the sink fails, what was read ahead of lines that do not come is counted, too.
 fn execute_current<W: Sink, const PREFIX_LEN: usize>(
     index: &mut Index<PREFIX_LEN>,
     read_ahead: &mut ReadAhead,
-    line: &[u8],
     sink: &mut W,
 ) -> Result<(), RunFault>
     requires open { W.has_failed sink.old ≡ false }
-    requires read { option_map (λ word. command_with word (fields_now read_ahead.old)) (word_now read_ahead.old)
-        ≡ command_of line.now }
-    requires few { ahead_now read_ahead.old ≤ most_ahead (command_of line.now) }
-    ensures done { OnOk result ((memory : Bool) × IsLineDone memory index.old line.now index.new
-        × (W.taken sink.new ≡ W.taken sink.old ++ answer memory index.old.records line.now)) }
-    ensures cut { OnErr result (IsCutLine index.old line.now (W.taken sink.old) (W.taken sink.new) index.new) }
+    requires read { (line : List ℕ) × (command_now read_ahead.old ≡ command_of line) }
+    requires few { ahead_now read_ahead.old ≤ most_ahead (command_now read_ahead.old) }
+    ensures done { (line : List ℕ) → command_now read_ahead.old ≡ command_of line
+        → OnOk result ((memory : Bool) × IsLineDone memory index.old line index.new
+        × (W.taken sink.new ≡ W.taken sink.old ++ answer memory index.old.records line)) }
+    ensures cut { (line : List ℕ) → command_now read_ahead.old ≡ command_of line
+        → OnErr result (IsCutLine index.old line (W.taken sink.old) (W.taken sink.new) index.new) }
     ensures kept { OnOk result (to_come read_ahead.new ≡ to_come read_ahead.old) }
     ensures used_up { OnErr result (to_come read_ahead.new ≡ []) }
     ensures counted { total index.new.ahead + read_of (to_come read_ahead.new)
@@ -247,7 +245,7 @@ fn execute_current<W: Sink, const PREFIX_LEN: usize>(
     ensures failed { is_err result ≡ W.has_failed sink.new }
 {
     let parsed = read_ahead.parsed();
-    match index.execute_parsed(line, parsed.word, parsed.fields, parsed.ahead, sink) {
+    match index.execute_parsed(parsed.word, parsed.fields, parsed.ahead, sink) {
         Ok(_handled) => {
             index.holds_records();
             Ok(())

@@ -1,5 +1,5 @@
 //! What a look-up is given: a reader of each map, and no map.
-ghost use Rattle.std.specs.Prelude.{◌≡◌, ◌≤◌, List, Some, false, flat_map, IfErr, OnOk};
+ghost use Rattle.std.specs.Prelude.{◌≡◌, ◌≤◌, List, Some, false, flat_map, OnOk};
 ghost use Rattle.art_lines.specs.Words.{line_of};
 ghost use Rattle.art_engine.specs.Counts.{visits_of, IsWithin};
 ghost use Rattle.art_lines.specs.Writes.{Writes};
@@ -8,11 +8,11 @@ ghost use Rattle.art_engine.specs.Replies.{command_reply};
 ghost use Rattle.art_engine.specs.Spans.{ReadsRecords, ReadsNumbers};
 ghost use Rattle.art_engine.specs.Stored.{Pair, NumberPair, all_records_of, ArePairs, AreNumberPairs};
 
-use crate::handling::RunFault;
-use crate::lookup::look_up;
-use art_lines::Sink;
+use crate::index::Reads;
+use crate::lookup::write_look_up;
 use art_lines::command::fields::{Fields, NUMBER_KEY};
 use art_lines::command::word::LookUp;
+use art_lines::{Sink, WriteFailed};
 use art_map::TreeMap;
 use art_walks::MapReader;
 
@@ -49,7 +49,7 @@ impl<'a, const PREFIX_LEN: usize> Readers<'a, PREFIX_LEN> {
         word: LookUp,
         fields: &Fields,
         sink: &mut W,
-    ) -> (Result<(), RunFault>, u64)
+    ) -> (Result<(), WriteFailed>, Reads)
         requires open { W.has_failed sink.old ≡ false }
         requires bytes { (ps : List Pair) × ReadsRecords PREFIX_LEN self.keys ps }
         requires numbers { (ns : List NumberPair) × ReadsNumbers PREFIX_LEN self.numbers ns }
@@ -58,19 +58,19 @@ impl<'a, const PREFIX_LEN: usize> Readers<'a, PREFIX_LEN> {
             → ReadsNumbers PREFIX_LEN self.entry.numbers ns → Writes result.0 (W.taken sink.old) (W.taken sink.new)
             (flat_map line_of (command_reply (Some (looks_up word fields.now)) (all_records_of ps ns)))
             (W.has_failed sink.new) }
-        ensures err { IfErr result.0 (λ fault. fault ≡ RunFault.Write) }
         ensures visits { (ps : List Pair) (ns : List NumberPair) → ReadsRecords PREFIX_LEN self.entry.keys ps
             → ReadsNumbers PREFIX_LEN self.entry.numbers ns → OnOk result.0 (IsWithin
-            (visits_of PREFIX_LEN (Some (looks_up word fields.now)) (all_records_of ps ns)) result.1) }
+            (visits_of PREFIX_LEN (Some (looks_up word fields.now)) (all_records_of ps ns)) result.1.number) }
         ensures few { (ps : List Pair) (ns : List NumberPair) → ReadsRecords PREFIX_LEN self.entry.keys ps
             → ReadsNumbers PREFIX_LEN self.entry.numbers ns
-            → result.1 ≤ (visits_of PREFIX_LEN (Some (looks_up word fields.now)) (all_records_of ps ns)).most }
+            → result.1.number ≤ (visits_of PREFIX_LEN (Some (looks_up word fields.now)) (all_records_of ps ns)).most }
     {
         let Readers {
             mut keys,
             mut numbers,
         } = self;
-        let done = look_up(&mut keys, &mut numbers, word, fields, sink);
-        (done, keys.visits().saturating_add(numbers.visits()))
+        let written = write_look_up(&mut keys, &mut numbers, word, fields, sink);
+        let visits = keys.visits().saturating_add(numbers.visits());
+        (written, Reads::of(visits))
     }
 }

@@ -1,27 +1,40 @@
-use Rattle.std.proofs.Common.{◌≡◌, ℕ, ◌+◌, ◌≤◌, List, ◌++◌, ap, sym, ◌∙◌, subst, arith}
+use Rattle.std.proofs.Common.{rules, ◌≡◌, ℕ, ◌+◌, ◌≤◌, List, ◌++◌, ap, ap₂, sym, ◌∙◌, subst, arith}
+use Rattle.std.specs.Prelude.{option_map}
 use Rattle.std.proofs.lemmas.List.Sums.{sum_by-append}
 use Rattle.art_lines.specs.Reading.{command_of}
+use Rattle.art_lines.proofs.Common.{command_with}
+use Rattle.art_engine.specs.ReadAhead.{ahead_now, command_now}
 use Rattle.art_engine.proofs.Terms.{most_ahead, read_of, total}
 use Rattle.art_engine.proofs.CutRuns.{told_unused}
 use Rattle.art_engine.proofs.LinesAhead.{told_more}
 use Rattle.art_engine.proofs.running.execute_current.Goals as goal
 
+pub execute_parsed-requires : goal.execute_parsed-requires
+execute_parsed-requires g c =
+    let p = c.parsed-parsed.ensures in let r = c.parsed-parsed.result in
+    let same : option_map (λ w. command_with w r.fields.now) r.word ≡ command_now c.args.read_ahead.now = ap₂ (λ f o. option_map (λ w. command_with w f) o) p.fields p.word in
+    let few : r.ahead ≤ most_ahead (option_map (λ w. command_with w r.fields.now) r.word) =
+    subst (λ n. n ≤ most_ahead (option_map (λ w. command_with w r.fields.now) r.word)) (sym p.ahead) (subst (λ o. ahead_now c.args.read_ahead.now ≤ most_ahead o) (sym same) c.requires.few) in
+    (search rules, (c.requires.open, ((c.requires.read.0, same ∙ c.requires.read.1), few)))
+
 pub returns-in-Ok-clause-done : goal.returns-in-Ok-clause-done
-returns-in-Ok-clause-done g c =
-    let e = c.in-Ok.ensures in (
+returns-in-Ok-clause-done g c = λ line is.
+    let p = c.parsed-parsed.ensures in let r = c.parsed-parsed.result in
+    let same : option_map (λ w. command_with w r.fields.now) r.word ≡ command_now c.args.read_ahead.now = ap₂ (λ f o. option_map (λ w. command_with w f) o) p.fields p.word in
+    let e = c.in-Ok.ensures.done line (same ∙ is) in (
       c.in-Ok._handled.memory,
       record {
         lawful = e.lawful;
         left = e.left;
         are = c.holds_records.ensures;
         visits = c.in-Ok._handled.visits;
-        within = e.visits;
+        within = e.within;
         short = e.short;
         own_path = e.own_path;
         counted = e.counted;
-        visits_ahead = c.parsed-parsed.result.ahead;
-        few = subst (λ n. n ≤ most_ahead (command_of c.args.line.now)) (sym c.parsed-parsed.ensures.ahead) c.requires.few;
-        counted_ahead = e.ahead;
+        visits_ahead = r.ahead;
+        few = subst (λ n. n ≤ most_ahead (command_of line)) (sym p.ahead) (subst (λ o. ahead_now c.args.read_ahead.now ≤ most_ahead o) is c.requires.few);
+        counted_ahead = c.in-Ok.ensures.ahead;
       },
       e.output,
     )
@@ -42,6 +55,7 @@ returns-in-Err-clause-counted g c =
     omega arith
 
 pub returns-in-Err-clause-cut : goal.returns-in-Err-clause-cut
-returns-in-Err-clause-cut g c =
-    let u = c.count_unused.ensures in
-    told_unused c.args.index.now c.execute_parsed.new.self c.count_unused.new.index c.args.line.now _ _ u.told.0 c.in-Err.ensures.cut u.kept.0 u.kept.1 u.told.1
+returns-in-Err-clause-cut g c = λ line is.
+    let u = c.count_unused.ensures in let p = c.parsed-parsed.ensures in let r = c.parsed-parsed.result in
+    let same : option_map (λ w. command_with w r.fields.now) r.word ≡ command_now c.args.read_ahead.now = ap₂ (λ f o. option_map (λ w. command_with w f) o) p.fields p.word in
+    told_unused c.args.index.now c.execute_parsed.new.self c.count_unused.new.index line _ _ u.told.0 (c.in-Err.ensures.cut line (same ∙ is)) u.kept.0 u.kept.1 u.told.1

@@ -1,9 +1,10 @@
-use Rattle.std.proofs.Common.{arith, ◌≡◌, ℕ, Bool, List, [], ◌++◌, sym, ◌∙◌, refl, ap, length, subst}
+use Rattle.std.proofs.Common.{rules, arith, ◌≡◌, ℕ, ◌≤◌, Bool, List, [], ◌++◌, sym, ◌∙◌, refl, ap, length, subst}
 use Rattle.std.proofs.Common.{inl, inr}
 use Rattle.std.proofs.lemmas.Bool.{eqb-true, eqb-false}
 use Rattle.std.proofs.lemmas.List.{nil_from_length}
 use Rattle.art_lines.specs.Lines.{whole_lines_of}
-use Rattle.art_engine.proofs.Terms.{AreNext, IsLineDone, answer, to_come, read_of, texts_of, total}
+use Rattle.art_engine.proofs.Terms.{AreNext, IsLineDone, answer, most_ahead, to_come, read_of, texts_of, total}
+use Rattle.art_engine.specs.ReadAhead.{ahead_now, command_now}
 use Rattle.art_engine.proofs.Carrying.{carried_line, done_from, whole_in_piece, put_together}
 use Rattle.art_lines.proofs.Common.{when_err}
 use Rattle.art_engine.proofs.CutRuns.{cut_from, cut_run-line}
@@ -15,9 +16,21 @@ next-requires g c =
     let p = c.requires.part in
     record { comes = (next_is (texts_of (to_come c.prefetch.new.read_ahead)) c.args.part.now p.1.0 c.args.rest.now p.0 p.1.1 c.prefetch.ensures.comes).0 }
 
+pub execute_current-requires : goal.execute_current-requires
+execute_current-requires g c =
+    let e = c.next.ensures in
+    let few : ahead_now c.next.new.self ≤ most_ahead (command_now c.next.new.self) = subst (λ o. ahead_now c.next.new.self ≤ most_ahead o) (sym e.read) e.few in
+    (search rules, (c.requires.open, ((c.args.part.now, e.read), few)))
+
+pub execute_current-requires-2 : goal.execute_current-requires-2
+execute_current-requires-2 g c =
+    let e = c.parse_now.ensures in let none = e.ahead in
+    let few : ahead_now c.parse_now.new.self ≤ most_ahead (command_now c.parse_now.new.self) = omega arith in
+    (search rules, (c.requires.open, ((c.as_slice-line.result.now, e.read), few)))
+
 pub returns-then-is_empty-clause-carried : goal.returns-then-is_empty-clause-carried
 returns-then-is_empty-clause-carried g c = λ start text before none h.
-    let d = c.in_ok-execute_current.ensures.done in let k = c.prefetch.ensures.kept in
+    let d = c.in_ok-execute_current.ensures.done c.args.part.now c.next.ensures.read in let k = c.prefetch.ensures.kept in
     let held : List ℕ = c.args.held.now.items in let part : List ℕ = c.args.part.now in
     let empty : held ≡ [] = nil_from_length held (eqb-true _ _ (sym c.if-is_empty.ensures)) in
     let memory : Bool = d.0 in
@@ -48,7 +61,7 @@ returns-in_err-execute_current-clause-counted g c =
 
 pub returns-clause-carried : goal.returns-clause-carried
 returns-clause-carried g c = λ start text before none h.
-    let d = c.in_ok-execute_current-2.ensures.done in
+    let d = c.in_ok-execute_current-2.ensures.done c.as_slice-line.result.now c.parse_now.ensures.read in
     let held : List ℕ = c.args.held.now.items in let handled : List ℕ = c.as_slice-line.result.now in
     carried_line start c.args.index.now c.execute_current-2.new.index text c.args.part.now handled held c.clear.new.self.items before (g.W.Sink.taken c.args.sink.now) (g.W.Sink.taken c.execute_current-2.new.sink) d.0
     h none (put_together start c.args.index.now text held before (g.W.Sink.taken c.args.sink.now) c.args.part.now handled h (c.as_slice-line.ensures.value ∙ c.append_capped.ensures))
@@ -81,13 +94,13 @@ returns-in_err-execute_current-clause-cut g c = when_err c.from_residual.result 
     let empty : held ≡ [] = nil_from_length held (eqb-true _ _ (sym c.if-is_empty.ensures)) in
     cut_run-line start c.args.index.now c.execute_current.new.index text c.args.part.now c.args.part.now held before (g.W.Sink.taken c.args.sink.now) (g.W.Sink.taken c.execute_current.new.sink)
     h none (whole_in_piece start c.args.index.now text held before (g.W.Sink.taken c.args.sink.now) c.args.part.now c.args.part.now h empty refl)
-    (cut_from c.args.index.now c.prefetch.new.self c.execute_current.new.index c.args.part.now (g.W.Sink.taken c.args.sink.now) (g.W.Sink.taken c.execute_current.new.sink) k.0 k.1 k.2 c.in_err-execute_current.ensures.cut))
+    (cut_from c.args.index.now c.prefetch.new.self c.execute_current.new.index c.args.part.now (g.W.Sink.taken c.args.sink.now) (g.W.Sink.taken c.execute_current.new.sink) k.0 k.1 k.2 (c.in_err-execute_current.ensures.cut c.args.part.now c.next.ensures.read)))
 
 pub returns-in_err-execute_current-2-clause-cut : goal.returns-in_err-execute_current-2-clause-cut
 returns-in_err-execute_current-2-clause-cut g c = when_err c.from_residual-in_err-execute_current-2.result (λ start text before none h.
     let held : List ℕ = c.args.held.now.items in let handled : List ℕ = c.as_slice-line.result.now in
     cut_run-line start c.args.index.now c.execute_current-2.new.index text c.args.part.now handled held before (g.W.Sink.taken c.args.sink.now) (g.W.Sink.taken c.execute_current-2.new.sink)
-    h none (put_together start c.args.index.now text held before (g.W.Sink.taken c.args.sink.now) c.args.part.now handled h (c.as_slice-line.ensures.value ∙ c.append_capped.ensures)) c.in_err-execute_current-2.ensures.cut)
+    h none (put_together start c.args.index.now text held before (g.W.Sink.taken c.args.sink.now) c.args.part.now handled h (c.as_slice-line.ensures.value ∙ c.append_capped.ensures)) (c.in_err-execute_current-2.ensures.cut c.as_slice-line.result.now c.parse_now.ensures.read))
 
 pub returns-in_err-execute_current-clause-used_up : goal.returns-in_err-execute_current-clause-used_up
 returns-in_err-execute_current-clause-used_up g c = when_err c.from_residual.result c.in_err-execute_current.ensures.used_up

@@ -1,8 +1,7 @@
 use Rattle.std.proofs.Common.{rules, ◌≡◌, ℕ, ◌<◌, ◌≤◌, ◌++◌, [], List, length, take, sym, ◌∙◌, ap, arith, append-nil, append_assoc, subst, true, false, Ok}
 use Rattle.std.proofs.lemmas.Bool.{eqb-false}
 use Rattle.art_lines.proofs.Common.{lines_so_far}
-use Rattle.art_lines.specs.Reading.{command_of}
-use Rattle.art_engine.specs.ReadAhead.{ahead_now}
+use Rattle.art_engine.specs.ReadAhead.{ahead_now, command_now}
 use Rattle.art_engine.proofs.Terms.{answer, most_ahead, AfterWriteFault, Carried, read_of, total}
 use Rattle.art_engine.proofs.Carrying.{carried_none, outcome_last}
 use Rattle.art_engine.proofs.CutRuns.{cut_run-last}
@@ -25,13 +24,13 @@ reads-init g c = record {
 pub execute_current-requires : goal.execute_current-requires
 execute_current-requires g c =
     let e = c.parse_now.ensures in let none = e.ahead in
-    let few : ahead_now c.parse_now.new.self ≤ most_ahead (command_of c.as_slice-line.result.now) = omega arith in
-    search (rules, e.read, few)
+    let few : ahead_now c.parse_now.new.self ≤ most_ahead (command_now c.parse_now.new.self) = omega arith in
+    (search rules, (search rules, ((c.as_slice-line.result.now, e.read), few)))
 
 pub returns-clause-outcome : goal.returns-clause-outcome
 returns-clause-outcome g c =
     let i = c.reads.invariant.carried in let text : List ℕ = i.0 in
-    let carried = i.2 in let d = c.in_ok-execute_current.ensures.done in let memory = d.0 in
+    let carried = i.2 in let d = c.in_ok-execute_current.ensures.done c.as_slice-line.result.now c.parse_now.ensures.read in let memory = d.0 in
     let held : List ℕ = c.reads.held.items in let line = c.as_slice-line.ensures.value in
     let some : 0 < length held = let h = eqb-false _ _ (sym c.if-is_empty.ensures) in omega arith in
     let last = outcome_last c.args.index.now c.reads.index c.execute_current.new.index text held (g.W.Sink.taken c.args.sink.now) (g.W.Sink.taken c.reads.sink) c.as_slice-line.result.now carried some line memory d.1 in (
@@ -85,7 +84,7 @@ returns-in_err-execute_current-clause-after_write_fault g c = λ _.
     let some : 0 < length held = let h = eqb-false _ _ (sym c.if-is_empty.ensures) in omega arith in
     let sent = subst (Carried c.args.index.now c.reads.index text held (g.W.Sink.taken c.args.sink.now)) (sym c.send.ensures.keeps) i.2 in
     let run = cut_run-last c.args.index.now c.reads.index c.execute_current.new.index text held (g.W.Sink.taken c.args.sink.now) (g.W.Sink.taken c.send.new.self) (g.W.Sink.taken c.execute_current.new.sink) c.as_slice-line.result.now
-    sent some c.as_slice-line.ensures.value c.in_err-execute_current.ensures.cut in
+    sent some c.as_slice-line.ensures.value (c.in_err-execute_current.ensures.cut c.as_slice-line.result.now c.parse_now.ensures.read) in
     let ended : g.S.Source.has_ended c.read_piece.new.source ≡ true = c.in-Ok.ensures.ends (ap (λ n. Ok n) c.if-n-eq0.true) in (
       text,
       run.written,

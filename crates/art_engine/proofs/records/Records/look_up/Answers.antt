@@ -12,12 +12,12 @@ returns-clause-output g c =
 
 pub returns-clause-visits : goal.returns-clause-visits
 returns-clause-visits g c =
-    subst (λ (r : Records). OnOk c.execute.result.0 (IsWithin (visits_of g.row.PREFIX_LEN (Some (looks_up c.args.word c.args.fields.now)) r) c.execute.result.1))
+    subst (λ (r : Records). OnOk c.execute.result.0 (IsWithin (visits_of g.row.PREFIX_LEN (Some (looks_up c.args.word c.args.fields.now)) r) c.execute.result.1.number))
     c.self.view_is (c.execute.ensures.visits _ _ c.new-readers.ensures.bytes c.new-readers.ensures.numbers)
 
 pub returns-clause-few : goal.returns-clause-few
 returns-clause-few g c =
-    subst (λ (r : Records). c.execute.result.1 ≤ (visits_of g.row.PREFIX_LEN (Some (looks_up c.args.word c.args.fields.now)) r).most)
+    subst (λ (r : Records). c.execute.result.1.number ≤ (visits_of g.row.PREFIX_LEN (Some (looks_up c.args.word c.args.fields.now)) r).most)
     c.self.view_is (c.execute.ensures.few _ _ c.new-readers.ensures.bytes c.new-readers.ensures.numbers)
 
 pub returns-clause-are : goal.returns-clause-are

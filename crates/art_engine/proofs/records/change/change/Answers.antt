@@ -4,7 +4,7 @@ use Rattle.art_engine.proofs.Terms.{all_records_of, IsChangeDone}
 use Rattle.art_engine.proofs.BothMaps.{put_in_both, over_in_both, del_in_both, nput_in_both, ndel_in_both}
 use Rattle.art_engine.proofs.FieldLengths.{put_fits, over_fits, nput_fits}
 use Rattle.art_engine.proofs.NumberPlaces.{are_in_order}
-use Rattle.art_engine.proofs.Replies.{put_done}
+use Rattle.art_engine.proofs.CarriedOut.{put_done}
 use Rattle.art_engine.proofs.records.change.change.Goals as goal
 
 pub put_value-requires : goal.put_value-requires

@@ -4,13 +4,13 @@ use Rattle.art_engine.proofs.records.readers.Readers.execute.Goals as goal
 
 pub returns-clause-visits : goal.returns-clause-visits
 returns-clause-visits g c =
-    λ ps ns r s. on_both c.look_up-done.result
-    (counted_within g.row.PREFIX_LEN c.args.word c.args.fields.now _ _ _ c.look_up-done.new.bytes.count c.look_up-done.new.numbers.count c.saturating_add.result c.requires.unread.0 c.requires.unread.1
-    (c.saturating_add.ensures ∙ ap₂ (λ (a b : ℕ). min (a + b) (2 ^ 64 - 1)) c.visits.ensures c.visits-2.ensures))
-    (c.look_up-done.ensures.bytes_read ps ns r s) (c.look_up-done.ensures.numbers_read ps ns r s)
+    λ ps ns r s. on_both c.write_look_up-written.result
+    (counted_within g.row.PREFIX_LEN c.args.word c.args.fields.now _ _ _ c.write_look_up-written.new.bytes.count c.write_look_up-written.new.numbers.count c.of.result.number c.requires.unread.0 c.requires.unread.1
+    (c.of.ensures ∙ c.saturating_add-visits.ensures ∙ ap₂ (λ (a b : ℕ). min (a + b) (2 ^ 64 - 1)) c.visits.ensures c.visits-2.ensures))
+    (c.write_look_up-written.ensures.bytes_read ps ns r s) (c.write_look_up-written.ensures.numbers_read ps ns r s)
 
 pub returns-clause-few : goal.returns-clause-few
 returns-clause-few g c =
-    λ ps ns r s. few_within g.row.PREFIX_LEN c.args.word c.args.fields.now _ _ _ c.look_up-done.new.bytes.count c.look_up-done.new.numbers.count c.saturating_add.result c.requires.unread.0 c.requires.unread.1
-    (c.saturating_add.ensures ∙ ap₂ (λ (a b : ℕ). min (a + b) (2 ^ 64 - 1)) c.visits.ensures c.visits-2.ensures)
-    (c.look_up-done.ensures.bytes_few ps ns r s) (c.look_up-done.ensures.numbers_few ps ns r s)
+    λ ps ns r s. few_within g.row.PREFIX_LEN c.args.word c.args.fields.now _ _ _ c.write_look_up-written.new.bytes.count c.write_look_up-written.new.numbers.count c.of.result.number c.requires.unread.0 c.requires.unread.1
+    (c.of.ensures ∙ c.saturating_add-visits.ensures ∙ ap₂ (λ (a b : ℕ). min (a + b) (2 ^ 64 - 1)) c.visits.ensures c.visits-2.ensures)
+    (c.write_look_up-written.ensures.bytes_few ps ns r s) (c.write_look_up-written.ensures.numbers_few ps ns r s)
