@@ -55,6 +55,16 @@ passing_ahead (Some (of_tenant tenant (del key))) = ByLength
 passing_ahead (Some (of_tenant tenant (ndel number))) = ByLength
 passing_ahead other = ByBytes
 
+-- whether its answer shows the value of a record that its path leads to
+abbrev pub shows_value : Option Command → Bool
+shows_value (Some (of_tenant tenant (get key))) = true
+shows_value (Some (of_tenant tenant (find key))) = true
+shows_value (Some (of_tenant tenant (list front))) = true
+shows_value (Some (of_tenant tenant (span low high))) = true
+shows_value (Some (of_tenant tenant (nget number))) = true
+shows_value (Some (of_tenant tenant (nspan low high))) = true
+shows_value other = false
+
 module _ {K V : Type 0} (passing : Passing) (arena : Arena K V) (key : List ℕ) where
   -- From one place of a path, a node and how many bytes of the key lead there, to the next: the node is an inner one
   -- from which the key goes on by its next byte. By bytes the key meets its prefix, as much as is stored.

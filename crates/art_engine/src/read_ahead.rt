@@ -27,7 +27,7 @@ use art_bytes::AsBytes;
 use art_lines::command::fields::{Fields, NUMBER_KEY};
 use art_lines::command::read_line;
 use art_lines::command::word::Word;
-use art_nodes::{LeafNode, OpaqueNodePtr};
+use art_nodes::OpaqueNodePtr;
 use line::{KEY, Line, SHORT};
 use memchr::memchr;
 use std::alloc::Global;
@@ -83,20 +83,23 @@ struct Prefetched {
 }
 
 impl Prefetched {
-    /// Reads the keys and values of leaves. Their entries, which tell where these are, are read before.
-    fn read<K: AsBytes>(&mut self, leaves: &[Option<&LeafNode<K, Vec<u8>>>; LINES]) {
+    /// Reads the keys of leaves, and the values that are shown. Where these are is read before, of all of them. It is
+    /// given nothing else, so no other bytes are read early.
+    fn read<K: AsBytes>(&mut self, leaves: &[Option<(&K, Option<&Vec<u8>>)>; LINES]) {
         for leaf in leaves {
-            if let Some(leaf) = leaf {
-                let (_, value) = leaf.entry_ref();
-                self.checksum ^= u8::from(value.is_empty());
+            if let Some((key, value)) = *leaf {
+                self.checksum ^= match value {
+                    Some(value) => u8::from(value.is_empty()),
+                    None => u8::from(key.as_bytes().is_empty()),
+                };
                 self.leaves = self.leaves.saturating_add(1);
             }
         }
         for leaf in leaves {
-            if let Some(leaf) = leaf {
-                let (key, value) = leaf.entry_ref();
+            if let Some((key, value)) = *leaf {
                 let bytes = key.as_bytes();
-                let ends = [bytes.first(), bytes.last(), value.first()];
+                let shown = value.and_then(|it| it.first());
+                let ends = [bytes.first(), bytes.last(), shown];
                 for end in ends {
                     self.checksum ^= end.copied().unwrap_or_default();
                 }
@@ -105,13 +108,13 @@ impl Prefetched {
     }
 }
 
-/// Reads the next node of the path of each line that goes on in this map, and returns whether there was one. The leaf
-/// that a path ends at is kept at the line's place.
+/// Reads the next node of the path of each line that goes on in this map, and returns whether there was one. What is
+/// read early of the leaf that a path ends at is kept at the line's place.
 fn step_each<'a, K, const PREFIX_LEN: usize>(
     lines: &mut [Line],
     reader: &mut PathReader<'a, K, PREFIX_LEN>,
     of_number: bool,
-    leaves: &mut [Option<&'a LeafNode<K, Vec<u8>>>; LINES],
+    leaves: &mut [Option<(&'a K, Option<&'a Vec<u8>>)>; LINES],
 ) -> bool
     ensures counted { read_of lines.new + count_of reader.old.reader ≡ read_of lines.old + count_of reader.new.reader }
     ensures texts { texts_of lines.new ≡ texts_of lines.old }

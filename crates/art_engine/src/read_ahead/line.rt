@@ -1,5 +1,5 @@
 //! A line that is parsed before its turn, and how far the path of its key is descended.
-ghost use Rattle.std.specs.Prelude.{◌≡◌, ◌+◌, ◌<◌, ◌≤◌, ◌++◌, List, [], true, IsTrue, IfSome, drop, length};
+ghost use Rattle.std.specs.Prelude.{◌≡◌, ℕ, ◌+◌, ◌<◌, ◌≤◌, ◌++◌, List, [], true, IsTrue, IfSome, drop, length};
 ghost use Rattle.std.specs.Prelude.{Option, Some, option_map, if◌then◌else◌, nat_eq};
 ghost use Rattle.art_arena.specs.arena.Visited.{count_of};
 ghost use Rattle.art_arena.specs.arena.Arena.{held_at, leaf_held};
@@ -9,7 +9,10 @@ ghost use Rattle.art_lines.specs.Parsed.{command_with};
 ghost use Rattle.art_lines.specs.Reading.{command_of};
 ghost use Rattle.art_lines.specs.declared.command.fields.Fields.{Fields};
 ghost use Rattle.art_nodes.specs.Name.{Name};
-ghost use Rattle.art_engine.specs.Ahead.{path_ahead, most_ahead, is_in_numbers, passing_ahead, IsWayAhead, IsStepAhead};
+ghost use Rattle.art_engine.specs.Ahead.{path_ahead, most_ahead, is_in_numbers, passing_ahead, shows_value};
+ghost use Rattle.art_engine.specs.Ahead.{IsStepAhead, IsWayAhead};
+ghost use Rattle.art_nodes.specs.declared.leaf.LeafNode.{LeafNode};
+ghost use Rattle.std.specs.Global.{Vec};
 
 use crate::read_ahead::names::Names;
 use crate::read_ahead::{ParsedLine, PathReader, Roots};
@@ -156,6 +159,38 @@ fn passing_of(word: Word) -> Passing
     }
 }
 
+/// Whether the answer to a word shows the value of a record that its path leads to.
+fn is_value_shown(word: Word) -> bool
+    ensures { (fields : Fields) → result ≡ shows_value (Some (command_with word fields)) }
+{
+    match word {
+        Word::LookUp(_) => true,
+        Word::Change(_) => false,
+        Word::Whole(_) => false,
+        Word::Drop => false,
+    }
+}
+
+/// What is read early of a leaf: its key, and its value if the answer to the word shows it.
+#[inline(always)]
+fn early_of<'a, K>(
+    word: Option<Word>,
+    leaf: &'a LeafNode<K, Vec<u8>>,
+) -> (&'a K, Option<&'a Vec<u8>>)
+    ensures key { result.0.now ≡ leaf.now.key }
+    ensures value { IfSome result.1 (λ value. value.now ≡ leaf.now.value) }
+    ensures shown { IfSome result.1 (λ _. (fields : Fields)
+        → shows_value (option_map (λ word. command_with word fields) word) ≡ true) }
+{
+    let (key, value) = leaf.entry_ref();
+    if let Some(word) = word {
+        if is_value_shown(word) {
+            return (key, Some(value));
+        }
+    }
+    (key, None)
+}
+
 impl Line {
     /// The empty line.
     pub(crate) fn new() -> Self {
@@ -236,14 +271,15 @@ impl Line {
         self.left != 0 && self.of_number == of_number
     }
 
-    /// Reads the next node of the path, if there is one, and returns it if it is a leaf. That is the node under the
-    /// name that the step before came to. The next name is its child under the key's next byte. So what was visited for
-    /// the line stays a way from the root, and what the reader has visited more is what the line has more.
+    /// Reads the next node of the path, if there is one. That is the node under the name that the step before came to.
+    /// The next name is its child under the key's next byte. So what was visited for the line stays a way from the
+    /// root, and what the reader has visited more is what the line has more. If the node is a leaf, it returns what is
+    /// read of it early: its key, and its value if the line's answer shows it.
     #[inline(always)]
     pub(crate) fn step<'a, K, const PREFIX_LEN: usize>(
         &mut self,
         reader: &mut PathReader<'a, K, PREFIX_LEN>,
-    ) -> Option<&'a LeafNode<K, Vec<u8>>>
+    ) -> Option<(&'a K, Option<&'a Vec<u8>>)>
         ensures counted { self.new.read + count_of reader.old.reader ≡ self.old.read + count_of reader.new.reader }
         ensures one { self.new.read ≤ self.old.read + 1 }
         ensures named { (more : List Name) × (self.new.visited.items ≡ self.old.visited.items ++ more)
@@ -254,8 +290,11 @@ impl Line {
             self.old.visited.items self.old.left (self.old.node, self.old.depth)
             → IsWayAhead self.new.passing reader.new.arena.now self.new.key.items root
             self.new.visited.items self.new.left (self.new.node, self.new.depth) }
-        ensures leaf { IfSome result (λ leaf.
-            held_at reader.old.arena.now self.old.node ≡ Some (leaf_held leaf.now)) }
+        ensures leaf { IfSome result (λ early. (leaf : LeafNode K (Vec ℕ))
+            × (held_at reader.old.arena.now self.old.node ≡ Some (leaf_held leaf))
+            × (early.0.now ≡ leaf.key) × IfSome early.1 (λ value. value.now ≡ leaf.value)) }
+        ensures shown { IfSome result (λ early. IfSome early.1 (λ _.
+            shows_value (command_of self.old.text.items) ≡ true)) }
         ensures text { self.new.text.items ≡ self.old.text.items }
         ensures same_map { self.new.of_number ≡ self.old.of_number }
         ensures same_tree { (reader.new.arena.now ≡ reader.old.arena.now) × (reader.new.root ≡ reader.old.root) }
@@ -273,7 +312,7 @@ impl Line {
         match node.leaf() {
             Ok(leaf) => {
                 self.left = 0;
-                Some(leaf)
+                Some(early_of(self.word, leaf))
             }
             Err(inner) => {
                 match next_of(&inner, self.key.as_slice(), self.depth, self.passing) {

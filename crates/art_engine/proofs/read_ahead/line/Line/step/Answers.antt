@@ -29,3 +29,6 @@ returns-after-next_of-clause-way g c =
           visited_once s.passing c.args.reader.now.arena.now s.key.items c.visit.new.self.arena.now root s.visited.items c.then-self.result.items s.left 0 (s.node, s.depth) (s.node, s.depth) _
           c.in-Some.ensures.kept.0 c.then-self.ensures low c.in-Some.ensures.value (λ none. absurd (omega (arith, none))) way)
     ]
+
+pub returns-in-Ok-clause-leaf : goal.returns-in-Ok-clause-leaf
+returns-in-Ok-clause-leaf g c = (c.in-Ok.leaf.now, c.in-Some.ensures.value ∙ ap Some c.in-Ok.ensures, c.early_of.ensures.key, c.early_of.ensures.value)
