@@ -1,9 +1,9 @@
 -- What is done for a command, by the family of its word, and what that says of a line.
 use Rattle.std.proofs.Common.{◌≡◌, ℕ, ◌≤◌, List, [], ◌∷◌, ◌++◌, Bool, true, false, refl, ap, ap₂, sym, ◌∙◌, subst, append-nil, arith}
-use Rattle.std.specs.Prelude.{Option, Some, None, Result, Ok, Err, IfOk, OnOk, flat_map, codes}
+use Rattle.std.specs.Prelude.{Option, Some, Result, Ok, Err, IfOk, OnOk, flat_map, codes}
 use Rattle.std.proofs.lemmas.Bool.{false≢true}
 use Rattle.art_lines.specs.Words.{Word}
-use Rattle.art_lines.proofs.Common.{line_of, looks_up, changes, drops, tenant_in_place, spells, Command, Writes, writes_same, name, of_tenant, drop, put, dump, audit}
+use Rattle.art_lines.proofs.Common.{line_of, looks_up, changes, spells, Command, Writes, writes_same, name, of_tenant, drop, put, audit}
 use Rattle.art_lines.specs.declared.command.fields.Fields.{Fields}
 use Rattle.art_lines.specs.declared.command.word.LookUp.{LookUp}
 use Rattle.art_lines.specs.declared.command.word.LookUp.TheVariants as look_up

@@ -73,7 +73,7 @@ pub fn look<W: Sink, const PREFIX_LEN: usize>(
     look_up(bytes, numbers, word, &fields, sink)
 }
 
-/// Answers a look-up, which changes nothing, by its word and its fields in place: the one way of the program's six
+/// Answers a look-up, which changes nothing, by its word and its fields in place, as the program answers its six
 /// look-ups. It is given a reader of each map, those of an index's records. It requires a sink that has not failed, and
 /// returns `RunFault::Write` if the sink fails.
 ///
