@@ -2,16 +2,16 @@
 use Rattle.std.proofs.Common.{◌≡◌, ◌==◌, ℕ, suc, arith, inl, inr, Bool, true, false, not, length, is_some, List, [], ◌∷◌, ◌++◌, Option, Some, None, IsSome, refl, sym, ap, subst, ◌∙◌}
 use Rattle.std.specs.Prelude.{IfSome}
 use Rattle.std.specs.List.{AllByRecursion}
-use Rattle.std.specs.BTreeMap.Range.{is_from_start, is_past_end, range_contains}
+use Rattle.std.specs.BTreeMap.Range.{is_from_start, is_past_end}
 use Rattle.std.specs.declared.ops.Bound.{Bound}
 use Rattle.std.proofs.lemmas.Bool.Decides.{eqb_tells}
 use Rattle.std.proofs.lemmas.List.Elements.{filter-append}
-use Rattle.art_bytes.proofs.Common.{IsBefore, bytes_cmp}
+use Rattle.art_bytes.proofs.Common.{bytes_cmp}
 use Rattle.art_nodes.proofs.Common.{Name}
 use Rattle.art_nodes.specs.declared.leaf.LeafNode.{LeafNode}
 use Rattle.art_arena.proofs.Common.{Arena, leaf_held, held_at, node_at, cell_of, links_of, links_at, pair, leaf_name, passing, Links, AreLinked, first_slot, last_slot, Shape, LeafAt, leaves, pairs_of, Stores}
-use Rattle.art_arena.proofs.Common.{AscendsByKey, IsIn, AreLinked-right, last_slot-append, leaves_are_held, holds_pair, nodes-subtree, all_at, all_weaker}
-use Rattle.art_operations.proofs.Common.{AreEndsWhere, HasLeaves, tree_ascends, written}
+use Rattle.art_arena.proofs.Common.{AscendsByKey, AreLinked-right, last_slot-append, leaves_are_held, holds_pair, nodes-subtree, all_at, all_weaker}
+use Rattle.art_operations.proofs.Common.{HasLeaves, tree_ascends, written}
 use Rattle.art_operations.proofs.KeyedLists.{none-pass}
 use Rattle.art_operations.proofs.RangeEnds.{StartsAt, starts-at}
 use Rattle.art_operations.proofs.Stretches.{from_later, past_later}

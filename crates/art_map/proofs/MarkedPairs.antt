@@ -5,7 +5,7 @@ use Rattle.art_nodes.proofs.Common.{Name}
 use Rattle.art_arena.proofs.Common.{Arena, node_at, Shape, Stores, leaf_where, leaves, nodes-subtree}
 use Rattle.art_operations.proofs.Common.{HasPairs}
 use Rattle.art_operations.proofs.Terms.{longest_marked, marked_key, option_or}
-use Rattle.art_map.proofs.Terms.{Contents, contents, found_pair, has_bytes, marked_pair, pairs_from, HasPairAt, IsAt, IsFound, IsMap}
+use Rattle.art_map.proofs.Terms.{Contents, contents, found_pair, has_bytes, marked_pair, pairs_from, IsAt, IsFound, IsMap}
 use Rattle.art_map.proofs.Maps.{found}
 
 module _ {K V : Type 0} (m : Contents K V) where

@@ -1,4 +1,4 @@
-use Rattle.std.proofs.Common.{ℕ, sym, ap, ◌∙◌}
+use Rattle.std.proofs.Common.{sym, ap, ◌∙◌}
 use Rattle.std.specs.Range.Bound.{bound_map}
 use Rattle.art_map.specs.LeafRuns.{is_inside}
 use Rattle.art_map.proofs.LeafRuns.{FailsAt, named-at-bound, some-of}
