@@ -67,6 +67,18 @@ def memory_goes():
     assert grown < 20_000_000, f"{grown} bytes more"
 
 
+def no_room():
+    """A map that is made of pairs in order has no more memory than a compacted one."""
+    for size in (8, 64, 1000, 10_000):
+        pairs = [(b"%09d" % at, None) for at in range(size)]
+        tight, made, updated, loaded = Art(pairs), Art(pairs), Art(), Art()
+        tight.compact()
+        updated.update(dict(pairs))
+        loaded.load(pairs)
+        most = 1.05 * sys.getsizeof(tight)
+        assert all(sys.getsizeof(it) <= most for it in (made, updated, loaded)), size
+
+
 def refused():
     """Each allocation of Python's in each call fails once: the map is then as it was, or as the call leaves it."""
     try:
@@ -133,4 +145,4 @@ def interpreters():
 
 
 if __name__ == "__main__":
-    run([leaks, memory_goes, refused, interpreters], __doc__)
+    run([leaks, memory_goes, no_room, refused, interpreters], __doc__)

@@ -163,6 +163,7 @@ artmap_code store_put(Art *map, const Key *key, PyObject *value, PyObject **old)
 artmap_code store_take(Art *map, const Key *key, PyObject **value);
 artmap_code store_load(Art *map, Codec codec, const uint8_t *keys, size_t len, artmap_words_pair *pairs,
                        PyObject **values, size_t count, size_t *taken);
+void store_fit(Art *map);
 int store_first(Art *map, const artmap_span *span, PyObject **key, PyObject **value);
 int store_take_end(Art *map, bool is_last, PyObject **key, PyObject **value);
 /* A pair whose key, without its end mark, is the first `len` bytes of a query. The value is the caller's. */

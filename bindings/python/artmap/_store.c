@@ -134,6 +134,17 @@ artmap_code store_load(Art *map, Codec codec, const uint8_t *keys, size_t len, a
     return code;
 }
 
+/* Gives back what memory no pair uses. */
+void store_fit(Art *map) {
+    ALONE(map)
+    Store *store = &map->store;
+    artmap_words_shrink(&store->tree);
+    PyObject **slots = store->used ? PyMem_Realloc(store->slots, store->used * sizeof *slots) : NULL;
+    if (slots) store->slots = slots, store->places = store->used;
+    measure(store);
+    END_ALONE
+}
+
 /* A room for a key of so many bytes, or NULL with the exception set. `few` serves where it is large enough. */
 static uint8_t *larger(uint8_t *room, uint8_t *few, size_t size) {
     if (room != few) PyMem_Free(room);

@@ -7,11 +7,11 @@
 enum { FIRST = 64, MANY = 4096, BYTES = 1 << 15, REST = 4 };
 
 /* Pairs that ascend, which go in together: `most` have room. The first `before` bytes of `keys` are the key of the last
- * pair that went in, if `has_before` is. */
+ * pair that went in, if `has_before` is. Where the map `is_first` filled so, no memory stays that no pair uses. */
 typedef struct Bulk {
     Art *map;
     Codec codec;
-    bool must_ascend, has_before;
+    bool must_ascend, is_first, has_before;
     size_t count, most, before, len, places, flushed;
     uint8_t *keys;
     artmap_words_pair *pairs;
@@ -210,6 +210,7 @@ static int bulk_end(Bulk *bulk, int status) {
         Py_XDECREF(why);
         Py_XDECREF(trace);
     } else if (status) PyErr_Restore(type, why, trace);
+    if (bulk->is_first) store_fit(bulk->map);
     PyMem_Free(bulk->keys);
     PyMem_Free(bulk->pairs);
     PyMem_Free(bulk->values);
@@ -221,9 +222,9 @@ static PyObject *parts_of(PyObject *pair, size_t at) {
     PyObject *parts = pair;
     if (!PyTuple_CheckExact(pair)) {
         parts = PySequence_Tuple(pair);
-        Py_DECREF(pair);
         if (!parts && PyErr_ExceptionMatches(PyExc_TypeError))
             PyErr_Format(PyExc_TypeError, "element #%zu is no pair, and can't be made a sequence", at);
+        Py_DECREF(pair);
     }
     if (!parts || PyTuple_Size(parts) == 2) return parts;
     PyErr_Format(PyExc_ValueError, "element #%zu has length %zd; 2 is required", at, PyTuple_Size(parts));
@@ -287,7 +288,7 @@ int update_by(Art *map, PyObject *given, PyObject *names) {
     if (given && given != (PyObject *)map) {
         bool is_plain = IS_DICT_TO_WALK(given) || PyList_CheckExact(given) || PyTuple_CheckExact(given);
         if (is_plain || is_plain_art(map->state, given)) {
-            Bulk bulk = {.map = map, .codec = map->codec};
+            Bulk bulk = {.map = map, .codec = map->codec, .is_first = !store_len(map)};
             PyObject *items = is_plain ? kept(given) : walk_all((Art *)given, ITEMS, false);
             status = !items ? -1 : PyDict_Check(given) ? add_dict(&bulk, given) : add_pairs(map, items, &bulk);
             Py_XDECREF(items);
@@ -310,7 +311,7 @@ int update_by(Art *map, PyObject *given, PyObject *names) {
 
 PyObject *art_load(PyObject *self, PyObject *pairs) {
     Art *map = (Art *)self;
-    Bulk bulk = {.map = map, .codec = map->codec, .must_ascend = true};
+    Bulk bulk = {.map = map, .codec = map->codec, .must_ascend = true, .is_first = !store_len(map)};
     int has_keys = has_attr(pairs, "keys");
     if (has_keys < 0) return NULL;
     PyObject *items = has_keys ? PyMapping_Items(pairs) : kept(pairs);
