@@ -258,3 +258,39 @@ impl<K: Key, V> Drop for Filling<'_, K, V> {
         drop(self.load());
     }
 }
+
+#[cfg(test)]
+mod tests {
+    use super::*;
+
+    #[test]
+    fn a_key_is_placed_as_slices_are_ordered() {
+        let long: Vec<u8> = (0..40).map(|at| at % 5).collect();
+        let mut keys = vec![Vec::new()];
+        for len in 0..long.len() {
+            for last in [0, 1, 127, 128, 255] {
+                keys.push([&long[..len], &[last]].concat());
+                keys.push([&long[..len], &[last], &long[len..]].concat());
+            }
+        }
+        for greatest in &keys {
+            for key in &keys {
+                let is_right = match Place::after(greatest, key) {
+                    Place::AtEnd => key > greatest && !key.starts_with(greatest),
+                    Place::Under => key > greatest && key.starts_with(greatest),
+                    Place::Elsewhere => key <= greatest,
+                };
+                assert!(is_right, "{greatest:?} {key:?}");
+            }
+        }
+    }
+
+    #[test]
+    fn what_is_collected_has_no_room() {
+        for size in [1, 8, 5000] {
+            let up: ArtMap<u32, u32> = (0..size).map(|it| (it, it)).collect();
+            let down: ArtMap<u32, u32> = (0..size).rev().map(|it| (it, it)).collect();
+            assert!(up.slab.is_tight() && down.slab.is_tight() && up == down);
+        }
+    }
+}
