@@ -1,6 +1,6 @@
 -- What a listing or a drop reads lies between the bounds that are told without the tree.
-use Rattle.std.proofs.Common.{◌≡◌, ℕ, ◌+◌, ◌-◌, ◌*◌, ◌≤◌, ◌^◌, min, Bool, true, false, cond, List, [], ◌∷◌, length, refl, sym, subst, arith, Some}
-use Rattle.std.specs.Prelude.{◌==◌, filter, int_lt, max, Option}
+use Rattle.std.proofs.Common.{◌≡◌, ℕ, ◌+◌, ◌*◌, ◌≤◌, min, Bool, true, false, cond, List, [], ◌∷◌, length, refl, sym, subst, arith, Some}
+use Rattle.std.specs.Prelude.{int_lt, max, Option}
 use Rattle.std.specs.List.{AllByRecursion}
 use Rattle.std.specs.declared.ops.Bound.{Bound}
 use Rattle.std.specs.declared.ops.Bound.TheVariants.{Included, Excluded}
@@ -8,7 +8,6 @@ use Rattle.std.proofs.lemmas.Nat.{mul-le}
 use Rattle.art_bytes.proofs.Common.{is_below, pair_key}
 use Rattle.art_arena.proofs.Common.{AscendsByKey, Tree, all_weaker, tree_of_ascending}
 use Rattle.art_arena.proofs.Terms.{leaf, inner, tree_below}
-use Rattle.art_operations.proofs.Common.{node_count}
 use Rattle.art_operations.proofs.FewReads.{counts-few}
 use Rattle.art_operations.specs.Openings.{SpanReads, part_reads, range_reads}
 use Rattle.art_walks.specs.MapReads.{of_tree}

@@ -5,15 +5,14 @@ use Rattle.std.specs.Map.{lookup, lookup_entry}
 use Rattle.std.specs.Global.{Vec}
 use Rattle.std.specs.List.{AllByRecursion}
 use Rattle.std.proofs.lemmas.List.Filters.{length-filter_both}
-use Rattle.std.specs.declared.ops.Bound.{Bound}
 use Rattle.std.specs.declared.ops.Bound.TheVariants.{Included, Excluded}
 use Rattle.std.specs.BTreeMap.Range.{range_contains}
 use Rattle.art_bytes.proofs.Common.{is_below, bytes_cmp, pair_key}
-use Rattle.art_arena.proofs.Common.{begins_with, all_weaker, key_of}
+use Rattle.art_arena.proofs.Common.{begins_with, key_of}
 use Rattle.art_operations.specs.Openings.{part_reads, range_reads}
 use Rattle.art_walks.proofs.Common.{ReadsPathOf, all-filter}
 use Rattle.art_walks.specs.MapReads.{ReadsTree}
-use Rattle.art_engine.proofs.Terms.{exactly, listed_after, part_opening, path_nodes, range_opening, GrewBy, GrewUpTo, Grew, full_key_of, number_key_of, own, value_at, numbers_from_to, own_pair, IsListed, own_number, IsNumbered, Pair, NumberPair, record_of, records_of, number_record_of, number_records_of, IsNumberPair}
+use Rattle.art_engine.proofs.Terms.{exactly, listed_after, part_opening, path_nodes, range_opening, GrewBy, GrewUpTo, Grew, full_key_of, number_key_of, own, value_at, numbers_from_to, own_pair, IsListed, own_number, IsNumbered, Pair, NumberPair, record_of, records_of, number_record_of, number_records_of}
 use Rattle.art_engine.proofs.Terms.{AreFull, ArePairs, AreNumberPairs}
 use Rattle.art_lines.proofs.Common.{full_key}
 use Rattle.art_engine.proofs.Changing.{keys_are, option_map-map}

@@ -1,6 +1,6 @@
 -- How many nodes a line reads, told by the records alone, and by how many bytes of a prefix a node stores.
 use Rattle.std.specs.Prelude.{◌≡◌, ℕ, int_lt, ◌+◌, ◌-◌, ◌^◌, ◌≤◌, ◌==◌, not, min, bytes_eq}
-use Rattle.std.specs.Prelude.{if◌then◌else◌, List, [], ◌∷◌, length}
+use Rattle.std.specs.Prelude.{if◌then◌else◌, List, [], length}
 use Rattle.std.specs.Prelude.{Bool, map, filter, Option, Some, IsSome, ℤ}
 use Rattle.std.specs.Int.{to_be_bytes, w32}
 use Rattle.std.specs.Ordering.{int_eq}
