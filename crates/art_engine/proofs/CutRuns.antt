@@ -9,14 +9,15 @@ use Rattle.art_bytes.proofs.Common.{is_proper_front}
 use Rattle.art_lines.specs.Lines.{whole_lines_of, unfinished_line_of}
 use Rattle.art_lines.proofs.Common.{lines_of, IsCut}
 use Rattle.art_lines.specs.Reading.{command_of}
-use Rattle.art_engine.proofs.Terms.{State, LineMayRefuse, answer, left_by, line_visits, most_ahead, IsAnswerCut, IsCutLine, AfterWriteFault, Carried, IsCutRun, NoNewline}
+use Rattle.art_engine.specs.declared.read_ahead.line.Line.{Line}
+use Rattle.art_engine.proofs.Terms.{State, LineMayRefuse, answer, left_by, line_visits, most_ahead, records_in, IsAnswerCut, IsCutLine, IsOnOwnPathIn, AfterWriteFault, Carried, IsCutRun, NoNewline}
 use Rattle.art_engine.proofs.LineLemmas.{whole_lines_of-line, whole_lines_of-more}
 use Rattle.art_engine.proofs.Carrying.{IsReadAs, same_answer, same_left, same_most, same_refusal, closed, cut}
 
 -- other lines after do not matter
 fault_more : {P : ℕ} (start : State P) (ls more : List (List ℕ)) (written : List ℕ) (now : State P) → AfterWriteFault start ls written now → AfterWriteFault start (ls ++ more) written now
-fault_more start ls more written now (answered, others, line, output, middle, are, outcome, cut) =
-    (answered, others ++ more, line, output, middle, ap (λ t. t ++ more) are ∙ append_assoc answered (line ∷ others) more, outcome, cut)
+fault_more start ls more written now (answered, others, line, output, middle, are, outcome, cut, own) =
+    (answered, others ++ more, line, output, middle, ap (λ t. t ++ more) are ∙ append_assoc answered (line ∷ others) more, outcome, cut, own)
 
 pub cut_run-more : {P : ℕ} (start now : State P) (text more all before taken : List ℕ) → text ++ more ≡ all
     → IsCutRun start now (whole_lines_of text) before taken → IsCutRun start now (whole_lines_of all) before taken
@@ -29,9 +30,9 @@ cut_run-more start now text more all before taken e r =
     }
 
 -- the line after those that are carried out
-cut_next : {P : ℕ} (start now new : State P) (text held before taken taken' line handled : List ℕ) → Carried start now text held before taken → IsReadAs handled line
-    → IsCutLine now handled taken taken' new → IsCutRun start new (whole_lines_of text ++ line ∷ []) before taken'
-cut_next {P} start now new text held before taken taken' line handled c s l =
+cut_next : {P : ℕ} (start now new : State P) (text held before taken taken' line handled : List ℕ) (lines : List Line) (c : Carried start now text held before taken lines) → IsReadAs handled line
+    → (l : IsCutLine now handled taken taken' new) → IsOnOwnPathIn (records_in c.outcome) (command_of handled) l.visits_ahead → IsCutRun start new (whole_lines_of text ++ line ∷ []) before taken'
+cut_next {P} start now new text held before taken taken' line handled lines c s l own =
     let a = l.cut in
     let written : List ℕ = c.written ++ a.begun in
     let is_cut : IsCutLine now line c.written written new = record {
@@ -54,23 +55,25 @@ cut_next {P} start now new text held before taken taken' line handled c s l =
     record {
       written = written;
       output = a.output ∙ ap (λ t. t ++ a.begun) c.output ∙ append_assoc before c.written a.begun;
-      fault = (whole_lines_of text, [], line, c.written, now, refl, c.outcome, is_cut);
+      fault = (whole_lines_of text, [], line, c.written, now, refl, c.outcome, is_cut, subst (λ o. IsOnOwnPathIn (records_in c.outcome) o l.visits_ahead) s.command own);
     }
 
 -- a line that a newline ends
-pub cut_run-line : {P : ℕ} (start now new : State P) (text part handled held before taken taken' : List ℕ) → Carried start now text held before taken → NoNewline part
-    → IsReadAs handled (unfinished_line_of text ++ part) → IsCutLine now handled taken taken' new → IsCutRun start new (whole_lines_of (text ++ part ++ 10 ∷ [])) before taken'
-cut_run-line start now new text part handled held before taken taken' c none s l =
-    subst (λ ls. IsCutRun start new ls before taken') (sym (whole_lines_of-line text part none)) (cut_next start now new text held before taken taken' (unfinished_line_of text ++ part) handled c s l)
+pub cut_run-line : {P : ℕ} (start now new : State P) (text part handled held before taken taken' : List ℕ) (lines : List Line) (c : Carried start now text held before taken lines) → NoNewline part
+    → IsReadAs handled (unfinished_line_of text ++ part) → (l : IsCutLine now handled taken taken' new) → IsOnOwnPathIn (records_in c.outcome) (command_of handled) l.visits_ahead
+    → IsCutRun start new (whole_lines_of (text ++ part ++ 10 ∷ [])) before taken'
+cut_run-line start now new text part handled held before taken taken' lines c none s l own =
+    subst (λ ls. IsCutRun start new ls before taken') (sym (whole_lines_of-line text part none))
+    (cut_next start now new text held before taken taken' (unfinished_line_of text ++ part) handled lines c s l own)
 
 -- the last line, which no newline ends
-pub cut_run-last : {P : ℕ} (start now new : State P) (text held before taken taken' handled : List ℕ) → Carried start now text held before taken → 0 < length held → handled ≡ held
-    → IsCutLine now handled taken taken' new → IsCutRun start new (lines_of text) before taken'
-cut_run-last start now new text held before taken taken' handled c some same l =
+pub cut_run-last : {P : ℕ} (start now new : State P) (text held before taken taken' handled : List ℕ) (lines : List Line) (c : Carried start now text held before taken lines) → 0 < length held → handled ≡ held
+    → (l : IsCutLine now handled taken taken' new) → IsOnOwnPathIn (records_in c.outcome) (command_of handled) l.visits_ahead → IsCutRun start new (lines_of text) before taken'
+cut_run-last start now new text held before taken taken' handled lines c some same l own =
     let shorter = ap length c.rest ∙ length-take 4097 (unfinished_line_of text) in
     let long : 0 < length (unfinished_line_of text) = omega arith in
     subst (λ ls. IsCutRun start new (whole_lines_of text ++ ls) before taken') (sym (closed (unfinished_line_of text) long))
-    (cut_next start now new text held before taken taken' (unfinished_line_of text) handled c (cut (unfinished_line_of text) handled (same ∙ c.rest)) l)
+    (cut_next start now new text held before taken taken' (unfinished_line_of text) handled lines c (cut (unfinished_line_of text) handled (same ∙ c.rest)) l own)
 
 -- a beginning after which some bytes are missing
 is_proper : (begun missing text : List ℕ) → missing ≢ [] → begun ++ missing ≡ text → IsTrue (is_proper_front begun text)
@@ -109,7 +112,7 @@ told_ahead old now new line before after n a same few records reads ahead = reco
 }
 
 -- and then what was read ahead of lines that did not come
-pub told_unused : {P : ℕ} (old now new : State P) (line before after unused : List ℕ) → IsCutLine old line before after now
+unfoldable pub told_unused : {P : ℕ} (old now new : State P) (line before after unused : List ℕ) → IsCutLine old line before after now
     → new.records ≡ now.records → new.reads ≡ now.reads → new.ahead ≡ now.ahead ++ unused → IsCutLine old line before after new
 told_unused old now new line before after unused l records reads ahead =
     let a = l.cut in
@@ -122,16 +125,24 @@ told_unused old now new line before after unused l records reads ahead =
     }
 
 -- a line that was cut out of a state that has the same records, and of which the same is told
-pub cut_from : {P : ℕ} (first old new : State P) (line before after : List ℕ) → old.records ≡ first.records → old.reads ≡ first.reads → old.ahead ≡ first.ahead
+unfoldable pub cut_from : {P : ℕ} (first old new : State P) (line before after : List ℕ) → old.records ≡ first.records → old.reads ≡ first.reads → old.ahead ≡ first.ahead
     → IsCutLine old line before after new → IsCutLine first line before after new
 cut_from {P} first old new line before after r e a l =
-    let s : IsCutLine (record { records = first.records; reads = first.reads; ahead = first.ahead; prefetched = old.prefetched }) line before after new =
-    subst (λ (t : State P). IsCutLine t line before after new) (λ i. record { records = r i; reads = e i; ahead = a i; prefetched = old.prefetched }) l in
-    let c = s.cut in
+    let c = l.cut in
     record {
-      cut = record { memory = c.memory; lawful = c.lawful; begun = c.begun; is_cut = c.is_cut; output = c.output; left = c.left; visits = c.visits; few = c.few; counted = c.counted };
-      visits_ahead = s.visits_ahead;
-      few = s.few;
-      unused = s.unused;
-      counted_ahead = s.counted_ahead;
+      cut = record {
+        memory = c.memory;
+        lawful = λ yes. subst (λ s. LineMayRefuse s line) r (c.lawful yes);
+        begun = c.begun;
+        is_cut = subst (λ s. IsTrue (is_proper_front c.begun (answer c.memory s line))) r c.is_cut;
+        output = c.output;
+        left = c.left ∙ ap (λ s. left_by c.memory s line) r;
+        visits = c.visits;
+        few = subst (λ s. c.visits ≤ (line_visits P c.memory line s).most) r c.few;
+        counted = c.counted ∙ ap (λ ns. ns ++ c.visits ∷ []) e;
+      };
+      visits_ahead = l.visits_ahead;
+      few = l.few;
+      unused = l.unused;
+      counted_ahead = l.counted_ahead ∙ ap (λ ns. ns ++ l.visits_ahead ∷ l.unused) a;
     }

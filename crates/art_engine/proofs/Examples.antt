@@ -234,7 +234,7 @@ put-done = record {
 
 read_fault-after_a_line : IsOutcome empty (whole_lines_of (codes "put 1 0a 61" ++ 10 ∷ codes "get 1 0")) (codes "new" ++ 10 ∷ []) (record { records = one_record; reads = 0 ∷ []; ahead = 0 ∷ []; prefetched = [] })
 unfolding one_record computed
-read_fault-after_a_line = record { asked = (codes "put 1 0a 61", false) ∷ []; are = refl; output = refl; done = (record { records = one_record; reads = 0 ∷ []; ahead = 0 ∷ []; prefetched = [] }, put-done, refl) }
+read_fault-after_a_line = record { asked = (codes "put 1 0a 61", false) ∷ []; are = refl; output = refl; done = (record { records = one_record; reads = 0 ∷ []; ahead = 0 ∷ []; prefetched = [] }, put-done, refl); told = 0 ∷ []; told_ahead = refl; own_ahead = ((empty.records, inl refl, lit≤ tt), refl) }
 
 -- one byte of three was taken, after another
 text-cut_after_a_byte : IsCut (codes "o") (codes "on") (codes "new")
@@ -279,7 +279,8 @@ line-cut_within = record { cut = answer-cut_within; visits_ahead = 0; few = omeg
 
 -- so no line was answered whole
 write_fault-within_a_reply : AfterWriteFault empty (codes "put 1 0a 61" ∷ codes "get 1 0a" ∷ []) (codes "ne") after_put
-write_fault-within_a_reply = ([], codes "get 1 0a" ∷ [], codes "put 1 0a 61", [], empty, refl, record { asked = []; are = refl; output = refl; done = refl }, line-cut_within)
+unfolding line-cut_within
+write_fault-within_a_reply = ([], codes "get 1 0a" ∷ [], codes "put 1 0a 61", [], empty, refl, record { asked = []; are = refl; output = refl; done = refl; told = []; told_ahead = refl; own_ahead = refl }, line-cut_within, (empty.records, inl refl, omega arith))
 
 -- Records: a key is bytes, so that no record has 256 in its key.
 

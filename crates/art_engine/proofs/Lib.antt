@@ -34,6 +34,7 @@ pub mod ReadBack
 pub mod MappedTrees
 pub mod MappedReads
 pub mod FewVisits
+pub mod FrontPaths
 pub mod Counting
 pub mod CountLaws
 pub mod Listings
@@ -48,5 +49,6 @@ pub mod LinesAhead
 pub mod WaysAhead
 pub mod PathsAhead
 pub mod OwnAhead
+pub mod OwnPathsAhead
 pub mod Terms
 pub mod Common

@@ -1,6 +1,6 @@
 -- Lines that were read before their turn: what the next one is, and what is left.
 use Rattle.std.proofs.Common.{◌≡◌, ℕ, suc, zero, ◌+◌, ◌<◌, ◌≤◌, Some, List, [], ◌∷◌, ◌++◌, map, take, drop, length, get_or, refl, ap, sym, ◌∙◌, subst, arith}
-use Rattle.std.proofs.lemmas.List.Sums.{sum_by-cons, sum_by_push}
+use Rattle.std.proofs.lemmas.List.Sums.{sum_by-append, sum_by-cons, sum_by_push}
 use Rattle.std.proofs.Math.ListN.{set}
 use Rattle.std.specs.Prelude.{Option, None, option_map}
 use Rattle.std.proofs.Common.{append_assoc}
@@ -43,6 +43,12 @@ none_to_come text_of (l ∷ lines) rest none next = absurd (no_cons (sym (no_who
 -- what is told of one line more
 pub told_more : (ns : List ℕ) (n : ℕ) (output : List ℕ) → output ≡ ns ++ n ∷ [] → total output ≡ total ns + n
 told_more ns n output e = ap total e ∙ sum_by_push (λ (k : ℕ). k) ns n
+
+-- of one and some more, that one is no more than the sum
+pub told_cut : (ns output more : List ℕ) (n : ℕ) → output ≡ ns ++ n ∷ more → total ns + n ≤ total output
+told_cut ns output more n e =
+    let all = ap total e ∙ sum_by-append (λ (k : ℕ). k) ns (n ∷ more) in let first = sum_by-cons (λ (k : ℕ). k) n more in
+    omega arith
 
 -- what the line at a place tells, and what is left after it
 pub counted_after : (lines : List Line) (len at : ℕ) → at < len → at < length lines

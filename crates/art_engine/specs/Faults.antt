@@ -6,7 +6,7 @@ use Rattle.art_engine.specs.Ahead.{most_ahead}
 use Rattle.art_engine.specs.Counts.{line_visits}
 use Rattle.art_engine.specs.State.{State}
 use Rattle.art_engine.specs.Refusals.{LineMayRefuse}
-use Rattle.art_engine.specs.Outcome.{answer, left_by, IsOutcome}
+use Rattle.art_engine.specs.Outcome.{answer, left_by, records_in, IsOnOwnPathIn, IsOutcome}
 
 -- A line was carried out, and of its answer a beginning was taken that is not all of it. What it has read is counted,
 -- at most what a line may read whose answer is whole.
@@ -30,9 +30,11 @@ pub record IsCutLine {P : ℕ} (old : State P) (line before after : List ℕ) (n
   pub counted_ahead : new.ahead ≡ old.ahead ++ visits_ahead ∷ unused
 
 -- After a failed write, one line more than the `answered` ones was carried out. Their answers were written whole,
--- and of the answer to the last a beginning that is not all of it.
+-- and of the answer to the last a beginning that is not all of it. What was read ahead of it was read on its own path,
+-- too.
 abbrev pub AfterWriteFault : {P : ℕ} → State P → List (List ℕ) → List ℕ → State P → Type 0
 AfterWriteFault {P} start lines written now =
     (answered others : List (List ℕ)) × (line output : List ℕ) × (middle : State P)
-    × (lines ≡ answered ++ line ∷ others) × IsOutcome start answered output middle
-    × IsCutLine middle line output written now
+    × (lines ≡ answered ++ line ∷ others) × (outcome : IsOutcome start answered output middle)
+    × (cut : IsCutLine middle line output written now)
+    × IsOnOwnPathIn (records_in outcome) (command_of line) cut.visits_ahead

@@ -160,12 +160,12 @@ fn feed<W: Sink, const PREFIX_LEN: usize>(
     requires open { W.has_failed sink.old ≡ false }
     requires used_up { to_come read_ahead.old ≡ [] }
     ensures carried { OnOk result ((start : State PREFIX_LEN) (text before : List ℕ)
-        → Carried start index.old text held.old.items before (W.taken sink.old)
-        → Carried start index.new (text ++ piece.now) held.new.items before (W.taken sink.new)) }
+        → Carried start index.old text held.old.items before (W.taken sink.old) []
+        → Carried start index.new (text ++ piece.now) held.new.items before (W.taken sink.new) []) }
     ensures used_up { to_come read_ahead.new ≡ [] }
     ensures counted { Tells index.old 0 index.new 0 }
     ensures cut { OnErr result ((start : State PREFIX_LEN) (text before : List ℕ)
-        → Carried start index.old text held.old.items before (W.taken sink.old)
+        → Carried start index.old text held.old.items before (W.taken sink.old) []
         → IsCutRun start index.new (whole_lines_of (text ++ piece.now)) before (W.taken sink.new)) }
     ensures err { IfErr result (λ fault. fault ≡ RunFault.Write) }
     ensures failed { is_err result ≡ W.has_failed sink.new }
@@ -194,8 +194,9 @@ fn finish_line<W: Sink, const PREFIX_LEN: usize>(
     requires cut { (held.old.items ≡ []) ⊎ (to_come read_ahead.old ≡ []) }
     ensures carried { OnOk result ((start : State PREFIX_LEN) (text before : List ℕ)
         → NoNewline part.now
-        → Carried start index.old text held.old.items before (W.taken sink.old)
-        → Carried start index.new (text ++ part.now ++ 10 ∷ []) held.new.items before (W.taken sink.new)) }
+        → Carried start index.old text held.old.items before (W.taken sink.old) (to_come read_ahead.old)
+        → Carried start index.new (text ++ part.now ++ 10 ∷ []) held.new.items before (W.taken sink.new)
+        (to_come read_ahead.new)) }
     ensures emptied { OnOk result (held.new.items ≡ []) }
     ensures comes { OnOk result ((following : List ℕ) → rest.now ≡ (part.now ++ 10 ∷ []) ++ following
         → AreNext (texts_of (to_come read_ahead.new)) following) }
@@ -203,7 +204,7 @@ fn finish_line<W: Sink, const PREFIX_LEN: usize>(
     ensures counted { Tells index.old (read_of (to_come read_ahead.old)) index.new (read_of (to_come read_ahead.new)) }
     ensures cut { OnErr result ((start : State PREFIX_LEN) (text before : List ℕ)
         → NoNewline part.now
-        → Carried start index.old text held.old.items before (W.taken sink.old)
+        → Carried start index.old text held.old.items before (W.taken sink.old) (to_come read_ahead.old)
         → IsCutRun start index.new (whole_lines_of (text ++ part.now ++ 10 ∷ [])) before (W.taken sink.new)) }
     ensures err { IfErr result (λ fault. fault ≡ RunFault.Write) }
     ensures failed { is_err result ≡ W.has_failed sink.new }
@@ -232,10 +233,12 @@ fn execute_current<W: Sink, const PREFIX_LEN: usize>(
     requires read { (line : List ℕ) × (command_now read_ahead.old ≡ command_of line) }
     requires few { ahead_now read_ahead.old ≤ most_ahead (command_now read_ahead.old) }
     ensures done { (line : List ℕ) → command_now read_ahead.old ≡ command_of line
-        → OnOk result ((memory : Bool) × IsLineDone memory index.old line index.new
-        × (W.taken sink.new ≡ W.taken sink.old ++ answer memory index.old.records line)) }
+        → OnOk result ((memory : Bool) × (done : IsLineDone memory index.old line index.new)
+        × (W.taken sink.new ≡ W.taken sink.old ++ answer memory index.old.records line)
+        × (done.visits_ahead ≤ ahead_now read_ahead.old)) }
     ensures cut { (line : List ℕ) → command_now read_ahead.old ≡ command_of line
-        → OnErr result (IsCutLine index.old line (W.taken sink.old) (W.taken sink.new) index.new) }
+        → OnErr result ((cut : IsCutLine index.old line (W.taken sink.old) (W.taken sink.new) index.new)
+        × (cut.visits_ahead ≤ ahead_now read_ahead.old)) }
     ensures kept { OnOk result (to_come read_ahead.new ≡ to_come read_ahead.old) }
     ensures used_up { OnErr result (to_come read_ahead.new ≡ []) }
     ensures counted { total index.new.ahead + read_of (to_come read_ahead.new)

@@ -6,7 +6,7 @@ use Rattle.art_lines.proofs.Common.{command_with}
 use Rattle.art_engine.specs.ReadAhead.{ahead_now, command_now}
 use Rattle.art_engine.proofs.Terms.{most_ahead, read_of, total}
 use Rattle.art_engine.proofs.CutRuns.{told_unused}
-use Rattle.art_engine.proofs.LinesAhead.{told_more}
+use Rattle.art_engine.proofs.LinesAhead.{told_cut, told_more}
 use Rattle.art_engine.proofs.running.execute_current.Goals as goal
 
 pub execute_parsed-requires : goal.execute_parsed-requires
@@ -37,6 +37,7 @@ returns-in-Ok-clause-done g c = λ line is.
         counted_ahead = c.in-Ok.ensures.ahead;
       },
       e.output,
+      omega (arith, c.parsed-parsed.ensures.ahead),
     )
 
 pub returns-in-Ok-clause-counted : goal.returns-in-Ok-clause-counted
@@ -55,7 +56,15 @@ returns-in-Err-clause-counted g c =
     omega arith
 
 pub returns-in-Err-clause-cut : goal.returns-in-Err-clause-cut
-returns-in-Err-clause-cut g c = λ line is.
+unfolding told_unused
+returns-in-Err-clause-cut g c = λ line now_is.
     let u = c.count_unused.ensures in let p = c.parsed-parsed.ensures in let r = c.parsed-parsed.result in
     let same : option_map (λ w. command_with w r.fields.now) r.word ≡ command_now c.args.read_ahead.now = ap₂ (λ f o. option_map (λ w. command_with w f) o) p.fields p.word in
-    told_unused c.args.index.now c.execute_parsed.new.self c.count_unused.new.index line _ _ u.told.0 (c.in-Err.ensures.cut line (same ∙ is)) u.kept.0 u.kept.1 u.told.1
+    let l = c.in-Err.ensures.cut line (same ∙ now_is) in
+    let one = told_more c.args.index.now.ahead r.ahead c.execute_parsed.new.self.ahead c.in-Err.ensures.ahead in
+    let all = told_cut c.args.index.now.ahead c.execute_parsed.new.self.ahead l.unused l.visits_ahead l.counted_ahead in
+    let is = p.ahead in
+    let few : l.visits_ahead ≤ ahead_now c.args.read_ahead.now = omega arith in (
+      told_unused c.args.index.now c.execute_parsed.new.self c.count_unused.new.index line _ _ u.told.0 l u.kept.0 u.kept.1 u.told.1,
+      few,
+    )

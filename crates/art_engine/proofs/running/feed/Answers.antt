@@ -28,7 +28,8 @@ lines-init g c = record {
     [],
     refl,
     λ start text before h.
-        subst (λ t. Carried start c.args.index.now t c.args.held.now.items before (g.W.Sink.taken c.args.sink.now)) (sym (append-nil text)) h,
+        subst (λ ls. Carried start c.args.index.now (text ++ []) c.args.held.now.items before (g.W.Sink.taken c.args.sink.now) ls) (sym c.requires.used_up)
+        (subst (λ t. Carried start c.args.index.now t c.args.held.now.items before (g.W.Sink.taken c.args.sink.now) []) (sym (append-nil text)) h),
   );
   comes = subst (λ (ls : List Line). AreNext (texts_of ls) c.args.piece.now) (sym c.requires.used_up) (whole_lines_of c.args.piece.now, refl);
   cut = inr c.requires.used_up;
@@ -50,7 +51,7 @@ lines-preserved g c =
         λ start text before h.
             let same : (text ++ done) ++ line ++ 10 ∷ [] ≡ text ++ (done ++ (line ++ 10 ∷ [])) =
             append_assoc (text ++ done) line (10 ∷ []) ∙ append_assoc text done (line ++ 10 ∷ []) in
-            subst (λ t. Carried start c.finish_line.new.index t c.finish_line.new.held.items before (g.W.Sink.taken c.finish_line.new.sink)) same
+            subst (λ t. Carried start c.finish_line.new.index t c.finish_line.new.held.items before (g.W.Sink.taken c.finish_line.new.sink) (to_come c.finish_line.new.read_ahead)) same
             (e.carried start (text ++ done) before none (i.2 start text before h)),
       );
       comes = e.comes (take (length rest - (at + 1)) (drop (at + 1) rest)) (after_newline rest at _ refl found.0.high found.1);
@@ -63,9 +64,10 @@ pub returns-clause-carried : goal.returns-clause-carried
 returns-clause-carried g c = λ start text before h.
     let i = c.lines.invariant.carried in let done : List ℕ = i.0 in let rest : List ℕ = c.lines.rest.now in
     let same : (text ++ done) ++ rest ≡ text ++ c.args.piece.now = append_assoc text done rest ∙ ap (λ t. text ++ t) (sym i.1) in
-    subst (λ t. Carried start c.lines.index t c.append_capped.new.held.items before (g.W.Sink.taken c.lines.sink)) same
-    (carried_part start c.lines.index c.lines.index (text ++ done) rest c.lines.held.items c.append_capped.new.held.items before (g.W.Sink.taken c.lines.sink) (g.W.Sink.taken c.lines.sink)
-    (i.2 start text before h) (none_at_all rest c.in_default.ensures) refl c.append_capped.ensures refl)
+    let used = none_to_come (λ (l : Line). l.text.items) (to_come c.lines.read_ahead) rest (none_at_all rest c.in_default.ensures) c.lines.invariant.comes in
+    subst (λ t. Carried start c.lines.index t c.append_capped.new.held.items before (g.W.Sink.taken c.lines.sink) []) same
+    (carried_part start c.lines.index c.lines.index (text ++ done) rest c.lines.held.items c.append_capped.new.held.items before (g.W.Sink.taken c.lines.sink) (g.W.Sink.taken c.lines.sink) []
+    (subst (λ ls. Carried start c.lines.index (text ++ done) c.lines.held.items before (g.W.Sink.taken c.lines.sink) ls) used (i.2 start text before h)) (none_at_all rest c.in_default.ensures) refl c.append_capped.ensures refl)
 
 pub returns-clause-used_up : goal.returns-clause-used_up
 returns-clause-used_up g c = none_to_come (λ (l : Line). l.text.items) (to_come c.lines.read_ahead) c.lines.rest.now (none_at_all c.lines.rest.now c.in_default.ensures) c.lines.invariant.comes

@@ -7,8 +7,8 @@ use Rattle.art_engine.proofs.running.feed.Given as goal
 abbrev pub invariant-lines : goal.invariant-lines
 invariant-lines g l = record {
   carried : (done : List ℕ) × (l.piece ≡ done ++ l.rest) × ((start : State g.row.PREFIX_LEN) (text before : List ℕ)
-      → Carried start l.fn.index text l.fn.held.items before (g.W.Sink.taken l.fn.sink)
-      → Carried start l.index (text ++ done) l.held.items before (g.W.Sink.taken l.sink));
+      → Carried start l.fn.index text l.fn.held.items before (g.W.Sink.taken l.fn.sink) []
+      → Carried start l.index (text ++ done) l.held.items before (g.W.Sink.taken l.sink) (to_come l.read_ahead));
   comes : AreNext (texts_of (to_come l.read_ahead)) l.rest;
   cut : (l.held.items ≡ []) ⊎ (to_come l.read_ahead ≡ []);
   counted : Tells l.fn.index 0 l.index (read_of (to_come l.read_ahead));

@@ -6,7 +6,7 @@ use Rattle.art_engine.proofs.running.run_held.Given as goal
 abbrev pub invariant-reads : goal.invariant-reads
 invariant-reads g l = record {
   carried : (text : List ℕ) × (g.S.Source.given l.source ≡ g.S.Source.given l.fn.source ++ text)
-      × Carried l.fn.index l.index text l.held.items (g.W.Sink.taken l.fn.sink) (g.W.Sink.taken l.sink);
+      × Carried l.fn.index l.index text l.held.items (g.W.Sink.taken l.fn.sink) (g.W.Sink.taken l.sink) [];
   used_up : to_come l.read_ahead ≡ [];
   counted : Tells l.fn.index 0 l.index 0;
   source_open : g.S.Source.has_failed l.source ≡ false;
