@@ -11,7 +11,7 @@ use Rattle.std.proofs.lemmas.Slice.Eq.{bytes_eq-Decides}
 use Rattle.art_arena.proofs.Common.{AscendsByKey, begins_with, all_at, begins_true, all_weaker}
 use Rattle.art_lines.proofs.Common.{get, find as find_front, nget, Command, of_tenant, full_key}
 use Rattle.art_engine.proofs.Terms.{exactly, path_nodes, visits_of, IsWithin, IsShort, IsOwnPath, ReadsOwnPath, full_key_of, number_key_of, KeyRecord, NumberRecord, Records, AreRecords, IsOfTenant, InOrder, KeyComesBefore, NumberComesBefore, KeyFits, NumberFits, own}
-use Rattle.art_engine.proofs.Counting.{own_path, path_is_short, found_record}
+use Rattle.art_engine.proofs.Counting.{own_path, own_way, path_is_short, found_record, some_own}
 use Rattle.art_engine.proofs.FullKeys.{full_before}
 use Rattle.art_engine.proofs.NumberKeys.{HaveBytes, tested_before}
 use Rattle.art_engine.proofs.OwnLaws.{key_part, number_part}
@@ -86,6 +86,25 @@ path_of_number t n records are some =
     let same : number_key_of f.0 ≡ pair_key (t, n) = ap (λ u. pair_key (u, f.0.key)) mine ∙ ap (λ m. pair_key (t, m)) at in
     own_path number_key_of (λ r. r.tenant) (λ r. big_endian 8 (flipped w64 r.key)) (λ r. refl) t low rs (all_numbers_ascend records are) small f.0 f.1 mine (pair_key (t, n))
     ([], sym same ∙ sym (append-nil (number_key_of f.0)))
+
+-- where a tenant has a record, the path of any full key of it is its own
+pub own_way_of : (t : ℕ) (k : List ℕ) (records : Records) → AreRecords records → ((own t records).keys ≡ [] → ⊥)
+    → IsOwnPath full_key_of (λ r. r.tenant) t (full_key t k) records.keys (path_nodes full_key_of records.keys (full_key t k))
+own_way_of t k records are some =
+    let rs = records.keys in let small = are_small records are in
+    let x = some_own (λ (r : KeyRecord). r.tenant) key_part t rs some in
+    let fits : t < 2 ^ 32 = subst (λ u. u < 2 ^ 32) x.2 (all_at IsOfTenant x.0 rs small x.1) in
+    own_way full_key_of (λ r. r.tenant) (λ r. r.key) (λ r. refl) t fits rs (records_ascend rs small are.keys_in_order) small x.0 x.1 x.2 k
+
+pub own_way_of_number : (t : ℕ) (k : List ℕ) (records : Records) → AreRecords records → ((own t records).numbers ≡ [] → ⊥)
+    → IsOwnPath number_key_of (λ r. r.tenant) t (full_key t k) records.numbers (path_nodes number_key_of records.numbers (full_key t k))
+own_way_of_number t k records are some =
+    let rs = records.numbers in
+    let fits : AllByRecursion HasBytes rs = all_weaker NumberFits HasBytes (λ r h. (h.tenant_fits, h.number_fits)) rs are.numbers_fit in
+    let small : AllByRecursion IsSmall rs = all_weaker NumberFits IsSmall (λ r h. h.tenant_fits) rs are.numbers_fit in
+    let x = some_own (λ (r : NumberRecord). r.tenant) number_part t rs some in
+    let low : t < 2 ^ 32 = subst (λ u. u < 2 ^ 32) x.2 (all_at IsSmall x.0 rs small x.1) in
+    own_way number_key_of (λ r. r.tenant) (λ r. big_endian 8 (flipped w64 r.key)) (λ r. refl) t low rs (numbers_ascend rs fits are.numbers_in_order) small x.0 x.1 x.2 k
 
 equal_front : (k j : List ℕ) → bytes_eq j k ≡ true → BeginsWith j k
 equal_front k j e = ([], sym ((bytes_eq-Decides j k).0 e) ∙ sym (append-nil j))

@@ -1,6 +1,6 @@
 -- How many nodes a look-up reads: the path of its full key, which is short, and is the tenant's own and what it shares
 -- with others.
-use Rattle.std.proofs.Common.{◌≡◌, ℕ, ◌+◌, ◌<◌, ◌≤◌, ◌^◌, List, [], ◌∷◌, length, map, refl, sym, ap, ap₂, ◌∙◌, subst, inl, inr, Bool, true, false, not, cond, arith, bytes_eq, Option, Some, None}
+use Rattle.std.proofs.Common.{◌≡◌, ℕ, ◌+◌, ◌<◌, ◌≤◌, ◌^◌, List, [], ◌∷◌, append_assoc, append-nil, length, map, refl, sym, ap, ap₂, ◌∙◌, subst, inl, inr, Bool, true, false, not, cond, arith, bytes_eq, Option, Some, None}
 use Rattle.std.specs.Prelude.{◌==◌, filter, IsSome}
 use Rattle.std.specs.List.{AllByRecursion, find}
 use Rattle.std.specs.Int.{to_be_bytes, w32}
@@ -13,6 +13,7 @@ use Rattle.art_arena.proofs.tree.Sizes.{path_length as path_short}
 use Rattle.art_walks.proofs.Common.{path_length}
 use Rattle.art_engine.proofs.Terms.{path_nodes, fronts_shared, IsOwnPath}
 use Rattle.art_lines.proofs.Common.{full_key}
+use Rattle.art_engine.proofs.FrontPaths.{front_path}
 use Rattle.art_engine.proofs.Filters.{filter-same}
 use Rattle.art_engine.proofs.FullTests.{begins_full}
 use Rattle.std.proofs.Math.Bool.{and-true}
@@ -91,6 +92,27 @@ module _ {X : Type 0} (key : X → List ℕ) (tenant_of : X → ℕ) (rest_of : 
       let mine_is : path_nodes key (mine xs) k ≡ length (path_of part.0 (key x)) = ap (path_length k) part.1 ∙ ap length part.4 in
       let shared : crossings key front (items all.0) ≡ fronts_shared tenant_of t xs = ap (crossings key front) all.3 ∙ shares xs fits in
       record { path = omega (arith, whole, mine_is, shared, split); few = few_shared xs fits }
+
+  -- the path of any key of the tenant's, where it has a record
+  pub own_way : (xs : List X) → AscendsByKey key xs → AreSmall xs → (x : X) → IsIn x xs → tenant_of x ≡ t → (k : List ℕ) → IsOwnPath key tenant_of t (full_key t k) xs (path_nodes key xs (full_key t k))
+  own_way xs order fits x i own k =
+      let own_order = subst (AscendsByKey key) (own_records xs fits) (front_is_block X key front xs order).0 in
+      let all = path_in_tree xs order x i (key x) ([], sym (append-nil (key x))) in
+      let part = path_in_tree (mine xs) own_order x (is_mine x xs own i) (key x) ([], sym (append-nil (key x))) in
+      let within : items part.0 ≡ with_front key front (items all.0) = part.3 ∙ sym (own_records xs fits) ∙ ap (with_front key front) (sym all.3) in
+      let split = subst (λ full. length (path_of all.0 full) ≡ length (path_of part.0 full) + crossings key front (items all.0)) (append_assoc (to_be_bytes w32 t) [] k)
+      (front_path key front all.0 part.0 all.2 part.2 within x (subst (IsIn x) (sym part.3) (is_mine x xs own i)) k) in
+      let whole : path_nodes key xs (full_key t k) ≡ length (path_of all.0 (full_key t k)) = ap (path_length (full_key t k)) all.1 in
+      let mine_is : path_nodes key (mine xs) (full_key t k) ≡ length (path_of part.0 (full_key t k)) = ap (path_length (full_key t k)) part.1 in
+      let shared : crossings key front (items all.0) ≡ fronts_shared tenant_of t xs = ap (crossings key front) all.3 ∙ shares xs fits in
+      record { path = omega (arith, whole, mine_is, shared, split); few = few_shared xs fits }
+
+-- one of a tenant's own
+pub some_own : {X A : Type 0} (tenant_of : X → ℕ) (part : X → A) (t : ℕ) (xs : List X) → (map part (filter (λ x. tenant_of x == t) xs) ≡ [] → ⊥) → (x : X) × IsIn x xs × (tenant_of x ≡ t)
+some_own tenant_of part t [] some = absurd (some refl)
+some_own {X} {A} tenant_of part t (x ∷ xs) some =
+    cond_both (tenant_of x == t) (x ∷ filter (λ x. tenant_of x == t) xs) (filter (λ x. tenant_of x == t) xs) (λ l. (map part l ≡ [] → ⊥) → (y : X) × IsIn y (x ∷ xs) × (tenant_of y ≡ t))
+    (λ own s. (x, inl refl, eqb-true (tenant_of x) t own)) (λ other s. let y = some_own tenant_of part t xs s in (y.0, inr y.1, y.2)) some
 
 -- a path has at most one node more than its key has bytes
 pub path_is_short : {X : Type 0} (key : X → List ℕ) (xs : List X) (k : List ℕ) → path_nodes key xs k ≤ length k + 1

@@ -1,24 +1,27 @@
 -- What was read ahead of lines are the first nodes of their own paths, and so few.
-use Rattle.std.proofs.Common.{◌≡◌, ℕ, ℤ, suc, ◌+◌, ◌<◌, ◌≤◌, Bool, true, false, Some, Option, List, [], ◌∷◌, length, map, refl, sym, ap, subst, ◌∙◌, arith}
+use Rattle.std.proofs.Common.{◌≡◌, ℕ, suc, ◌+◌, ◌<◌, ◌≤◌, Bool, true, false, Some, Option, List, [], ◌∷◌, length, map, refl, sym, ap, subst, ◌∙◌, arith, inl, inr}
 use Rattle.std.specs.Global.{Vec}
 use Rattle.std.specs.List.{AllByRecursion}
-use Rattle.std.specs.Prelude.{None}
+use Rattle.std.specs.Prelude.{None, int_lt}
 use Rattle.art_nodes.proofs.Common.{Name}
 use Rattle.art_arena.proofs.Common.{Arena, Tree, all_weaker, tree_of}
-use Rattle.art_bytes.proofs.Common.{pair_key}
-use Rattle.art_lines.proofs.Common.{Command, of_tenant, over, del, get, find, nget, ndel, full_key}
+use Rattle.std.specs.Int.{w64}
+use Rattle.std.proofs.lemmas.Bool.{cases_Bool, cond-true, cond-false}
+use Rattle.art_bytes.proofs.Common.{big_endian, flipped, is_below, pair_key}
+use Rattle.art_lines.specs.Commands.{Request}
+use Rattle.art_lines.proofs.Common.{audit, del, drop, dump, find, full_key, get, list, ndel, nget, nput, nspan, of_tenant, over, put, span}
 use Rattle.art_lines.specs.Reading.{command_of}
 use Rattle.art_map.specs.Contents.{Contents}
 use Rattle.art_operations.specs.Runs.{HoldsTreeOf}
 use Rattle.art_walks.proofs.Common.{path_length}
 use Rattle.art_engine.specs.Ahead.{AreOnOwnPath, AreOnPath, is_in_numbers, nodes_to, path_ahead}
-use Rattle.art_engine.specs.OwnAhead.{AheadIsOwn, AheadOfOwn, AreReadAhead, HoldRecords, IsWithinOwnPath, OwnWaysArePaths, own_path_nodes, path_nodes_at}
+use Rattle.art_engine.specs.OwnAhead.{AheadIsOwn, AreReadAhead, HoldRecords, IsOwnAhead, IsWithinOwnPath, OwnPathsAreOwn, OwnWaysArePaths, own_path_nodes, path_nodes_at}
 use Rattle.art_engine.specs.ReadAhead.{IsOnOwnWay, IsOnWayOf, IsReadAhead}
 use Rattle.art_engine.specs.declared.read_ahead.line.Line.{Line}
 use Rattle.art_engine.proofs.Terms.{AreRecords, IsOwnPath, KeyRecord, NumberPair, NumberRecord, Pair, Records, all_records_of, full_key_of, number_key_of, number_record_of, own, path_nodes, record_of}
 use Rattle.art_engine.proofs.Changing.{keys_are}
 use Rattle.art_engine.proofs.Conflicts.{bytes_of}
-use Rattle.art_engine.proofs.CountLaws.{own_path_of}
+use Rattle.art_engine.proofs.CountLaws.{own_way_of, own_way_of_number}
 use Rattle.art_engine.proofs.MappedTrees.{paths_by_keys}
 use Rattle.art_engine.proofs.NumberPlaces.{are_in_order, number_bytes, number_keys_are}
 use Rattle.art_engine.proofs.PathsAhead.{first_few, root_first}
@@ -97,25 +100,45 @@ module _ (P : ℕ) (keys : Contents (Vec ℕ) (Vec ℕ)) (numbers : Contents (Li
 within_own : {X : Type 0} (key : X → List ℕ) (tenant_of : X → ℕ) (t : ℕ) (full : List ℕ) (xs : List X) (n : ℕ) → n ≤ path_nodes key xs full → IsOwnPath key tenant_of t full xs (path_nodes key xs full) → IsWithinOwnPath key tenant_of t full xs n
 within_own key tenant_of t full xs n few own = record { path = let path = own.path in omega (arith, few, path); few = own.few }
 
-module _ (records : Records) (are : AreRecords records) (n t : ℕ) where
-  own_get : (key : List ℕ) → n ≤ path_nodes full_key_of records.keys (full_key t key) → AheadOfOwn (Some (of_tenant t (get key))) records n
-  own_get key few = λ some. within_own full_key_of (λ (r : KeyRecord). r.tenant) t (full_key t key) records.keys n few
-      (own_path_of 0 (Some (of_tenant t (get key))) records (path_nodes full_key_of records.keys (full_key t key)) are (omega arith, omega arith) some)
+-- the key whose path may be read ahead is the tenant's
+own_key : (t : ℕ) (request : Request) (full : List ℕ) → path_ahead (Some (of_tenant t request)) ≡ Some full → (key : List ℕ) × (full ≡ full_key t key)
+own_key t (get key) full is = (key, let e : full_key t key ≡ full = cc in sym e)
+own_key t (find key) full is = (key, let e : full_key t key ≡ full = cc in sym e)
+own_key t (list front) full is = (front, let e : full_key t front ≡ full = cc in sym e)
+own_key t (over key value) full is = (key, let e : full_key t key ≡ full = cc in sym e)
+own_key t (del key) full is = (key, let e : full_key t key ≡ full = cc in sym e)
+own_key t (span low high) full is = elim (cases_Bool (is_below high low)) [
+  | inl out ↦ let none = sym (cond-true (is_below high low) None (Some (full_key t low)) out) ∙ is in absurd (cc)
+  | inr fine ↦ (low, let some = sym (cond-false (is_below high low) None (Some (full_key t low)) fine) ∙ is in let e : full_key t low ≡ full = cc in sym e)
+]
+own_key t (nget number) full is = (big_endian 8 (flipped w64 number), let e : pair_key (t, number) ≡ full = cc in sym e)
+own_key t (ndel number) full is = (big_endian 8 (flipped w64 number), let e : pair_key (t, number) ≡ full = cc in sym e)
+own_key t (nspan low high) full is = elim (cases_Bool (int_lt high low)) [
+  | inl out ↦ let none = sym (cond-true (int_lt high low) None (Some (pair_key (t, low))) out) ∙ is in absurd (cc)
+  | inr fine ↦ (big_endian 8 (flipped w64 low), let some = sym (cond-false (int_lt high low) None (Some (pair_key (t, low))) fine) ∙ is in let e : pair_key (t, low) ≡ full = cc in sym e)
+]
+own_key t (put key value) full is = absurd (cc)
+own_key t (nput number value) full is = absurd (cc)
+own_key t drop full is = absurd (cc)
 
-  own_number : (number : ℤ) → n ≤ path_nodes number_key_of records.numbers (pair_key (t, number)) → AheadOfOwn (Some (of_tenant t (nget number))) records n
-  own_number number few = λ some. within_own number_key_of (λ (r : NumberRecord). r.tenant) t (pair_key (t, number)) records.numbers n few
-      (own_path_of 0 (Some (of_tenant t (nget number))) records (path_nodes number_key_of records.numbers (pair_key (t, number))) are (omega arith, omega arith) some)
+own_at : (in_numbers : Bool) (t : ℕ) (o : Option (List ℕ)) (records : Records) (n : ℕ) → AreRecords records → ((full : List ℕ) → o ≡ Some full → (key : List ℕ) × (full ≡ full_key t key))
+    → n ≤ path_nodes_at in_numbers o records → IsOwnAhead in_numbers t o records n
+own_at in_numbers t None records n are its few = omega arith
+own_at true t (Some full) records n are its few = λ some.
+    let is = its full refl in
+    within_own number_key_of (λ (r : NumberRecord). r.tenant) t full records.numbers n few
+    (subst (λ k. IsOwnPath number_key_of (λ (r : NumberRecord). r.tenant) t k records.numbers (path_nodes number_key_of records.numbers k)) (sym is.1) (own_way_of_number t is.0 records are some))
+own_at false t (Some full) records n are its few = λ some.
+    let is = its full refl in
+    within_own full_key_of (λ (r : KeyRecord). r.tenant) t full records.keys n few
+    (subst (λ k. IsOwnPath full_key_of (λ (r : KeyRecord). r.tenant) t k records.keys (path_nodes full_key_of records.keys k)) (sym is.1) (own_way_of t is.0 records are some))
 
-ahead_of_own : (command : Option Command) (records : Records) (n : ℕ) → AreRecords records → n ≤ own_path_nodes command records → AheadOfOwn command records n
-ahead_of_own (Some (of_tenant t (get key))) records n are few = own_get records are n t key few
-ahead_of_own (Some (of_tenant t (del key))) records n are few = own_get records are n t key few
-ahead_of_own (Some (of_tenant t (over key value))) records n are few = own_get records are n t key few
-ahead_of_own (Some (of_tenant t (find key))) records n are few = λ some.
-    within_own full_key_of (λ (r : KeyRecord). r.tenant) t (full_key t key) records.keys n few
-    (own_path_of 0 (Some (of_tenant t (find key))) records (path_nodes full_key_of records.keys (full_key t key)) are (omega arith, omega arith) some)
-ahead_of_own (Some (of_tenant t (nget number))) records n are few = own_number records are n t number few
-ahead_of_own (Some (of_tenant t (ndel number))) records n are few = own_number records are n t number few
-ahead_of_own other records n are few = tt
+pub own_paths_are_own : OwnPathsAreOwn
+own_paths_are_own records None n are few = omega arith
+own_paths_are_own records (Some (of_tenant t request)) n are few =
+    own_at (is_in_numbers (Some (of_tenant t request))) t (path_ahead (Some (of_tenant t request))) records n are (own_key t request) few
+own_paths_are_own records (Some dump) n are few = omega arith
+own_paths_are_own records (Some audit) n are few = omega arith
 
 pub ahead_is_own : AheadIsOwn
 ahead_is_own P keys numbers records command names hold on =
@@ -125,7 +148,7 @@ ahead_is_own P keys numbers records command names hold on =
       keys_fit = hold.keys_are.fit;
       numbers_fit = hold.numbers_are.fit;
     } in
-    ahead_of_own command records (length names) (subst AreRecords hold.records_are stand)
+    own_paths_are_own records command (length names) (subst AreRecords hold.records_are stand)
     (names_few P keys numbers records hold (is_in_numbers command) (path_ahead command) names on)
 
 pub own_ways_are_paths : OwnWaysArePaths

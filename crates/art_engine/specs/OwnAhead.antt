@@ -1,11 +1,8 @@
 -- What is read ahead of a line, told by the records: nodes of its own tenant's path, and at most four more.
-use Rattle.std.specs.Prelude.{◌≡◌, ℕ, ◌+◌, ◌≤◌, ◌==◌, bytes_eq, Bool, true, false, List, length, filter}
-use Rattle.std.specs.Prelude.{Option, Some, None, IsSome}
+use Rattle.std.specs.Prelude.{◌≡◌, ◌≢◌, ℕ, ◌+◌, ◌≤◌, ◌==◌, Bool, true, false, List, [], length, filter}
+use Rattle.std.specs.Prelude.{Option, Some, None}
 use Rattle.std.specs.List.{AllByRecursion}
-use Rattle.std.specs.Ordering.{int_eq}
-use Rattle.art_bytes.specs.Laws.{pair_key}
-use Rattle.art_lines.specs.Commands.{Command, of_tenant, over, del, get, find, nget, ndel}
-use Rattle.art_lines.specs.Keys.{full_key}
+use Rattle.art_lines.specs.Commands.{Command, of_tenant}
 use Rattle.art_lines.specs.Reading.{command_of}
 use Rattle.art_map.specs.Contents.{Contents}
 use Rattle.art_operations.specs.Runs.{HoldsTreeOf}
@@ -15,8 +12,7 @@ use Rattle.art_engine.specs.Ahead.{AreOnOwnPath, is_in_numbers, path_ahead}
 use Rattle.art_engine.specs.Counts.{fronts_shared, path_nodes}
 use Rattle.art_engine.specs.Keys.{full_key_of, number_key_of}
 use Rattle.art_engine.specs.ReadAhead.{IsOnOwnWay, IsReadAhead}
-use Rattle.art_engine.specs.Records.{Records, own}
-use Rattle.art_engine.specs.Replies.{front_at, value_at}
+use Rattle.art_engine.specs.Records.{AreRecords, Records, own}
 use Rattle.art_engine.specs.Stored.{ArePairs, AreNumberPairs, all_records_of}
 use Rattle.art_engine.specs.declared.read_ahead.line.Line.{Line}
 
@@ -36,21 +32,18 @@ pub record IsWithinOwnPath {X : Type 0} (key : X → List ℕ) (tenant_of : X �
   pub path : n ≤ path_nodes key (filter (λ x. tenant_of x == tenant) xs) full + fronts_shared tenant_of tenant xs
   pub few : fronts_shared tenant_of tenant xs ≤ 4
 
--- What is read ahead of a line that finds a record.
+-- What is read ahead of a tenant's line, if the tenant has a record in the map where its path lies.
+abbrev pub IsOwnAhead : Bool → ℕ → Option (List ℕ) → Records → ℕ → Type 0
+IsOwnAhead in_numbers t None records n = n ≡ 0
+IsOwnAhead true t (Some full) records n = (own t records).numbers ≢ []
+    → IsWithinOwnPath number_key_of (λ r. r.tenant) t full records.numbers n
+IsOwnAhead false t (Some full) records n = (own t records).keys ≢ []
+    → IsWithinOwnPath full_key_of (λ r. r.tenant) t full records.keys n
+
 abbrev pub AheadOfOwn : Option Command → Records → ℕ → Type 0
-AheadOfOwn (Some (of_tenant t (get key))) records n = IsSome (value_at bytes_eq key (own t records).keys)
-    → IsWithinOwnPath full_key_of (λ r. r.tenant) t (full_key t key) records.keys n
-AheadOfOwn (Some (of_tenant t (del key))) records n = IsSome (value_at bytes_eq key (own t records).keys)
-    → IsWithinOwnPath full_key_of (λ r. r.tenant) t (full_key t key) records.keys n
-AheadOfOwn (Some (of_tenant t (over key value))) records n = IsSome (value_at bytes_eq key (own t records).keys)
-    → IsWithinOwnPath full_key_of (λ r. r.tenant) t (full_key t key) records.keys n
-AheadOfOwn (Some (of_tenant t (find key))) records n = IsSome (front_at key (own t records).keys)
-    → IsWithinOwnPath full_key_of (λ r. r.tenant) t (full_key t key) records.keys n
-AheadOfOwn (Some (of_tenant t (nget number))) records n = IsSome (value_at int_eq number (own t records).numbers)
-    → IsWithinOwnPath number_key_of (λ r. r.tenant) t (pair_key (t, number)) records.numbers n
-AheadOfOwn (Some (of_tenant t (ndel number))) records n = IsSome (value_at int_eq number (own t records).numbers)
-    → IsWithinOwnPath number_key_of (λ r. r.tenant) t (pair_key (t, number)) records.numbers n
-AheadOfOwn other records n = Unit {0}
+AheadOfOwn (Some (of_tenant t request)) records n =
+    IsOwnAhead (is_in_numbers (Some (of_tenant t request))) t (path_ahead (Some (of_tenant t request))) records n
+AheadOfOwn other records n = n ≡ 0
 
 -- Two maps hold these records.
 pub record HoldRecords (P : ℕ) (keys : Contents (Vec ℕ) (Vec ℕ)) (numbers : Contents (List ℕ) (Vec ℕ))
@@ -70,8 +63,13 @@ pub record AreReadAhead (P : ℕ) (records : Records) (lines : List Line) : Type
   pub paths : AllByRecursion (IsReadAhead P keys.nodes keys.pairs numbers.nodes numbers.pairs) lines
   pub few : AllByRecursion (λ line. line.read ≤ own_path_nodes (command_of line.text.items) records) lines
 
--- The names visited ahead of a command, in two maps that hold the records, are nodes of its tenant's own path and at
--- most four more, if it finds a record.
+-- Nodes on the path of a command's full key are nodes of the path in its own tenant's tree and at most four more, if
+-- that tenant has a record there.
+abbrev pub OwnPathsAreOwn : Type 0
+OwnPathsAreOwn = (records : Records) (command : Option Command) (n : ℕ) → AreRecords records
+    → n ≤ own_path_nodes command records → AheadOfOwn command records n
+
+-- So are the names visited ahead of a command, in two maps that hold the records.
 abbrev pub AheadIsOwn : Type 0
 AheadIsOwn = (P : ℕ) (keys : Contents (Vec ℕ) (Vec ℕ)) (numbers : Contents (List ℕ) (Vec ℕ)) (records : Records)
     (command : Option Command) (names : List Name) → HoldRecords P keys numbers records

@@ -5,7 +5,7 @@ ghost use Rattle.art_engine.specs.Laws.{DeletionsGoByOwnNumbers, DropsReadFew, D
 ghost use Rattle.art_engine.specs.Laws.{FullKeysKeepOrder, FullKeysKeepConflicts, OwnIsUnderPrefix};
 ghost use Rattle.art_engine.specs.Laws.{PutsAreUndone, NumberPutsAreUndone, PathsAreOwn};
 ghost use Rattle.art_engine.specs.FewVisits.{VisitsAreBounded};
-ghost use Rattle.art_engine.specs.OwnAhead.{AheadIsOwn, OwnWaysArePaths};
+ghost use Rattle.art_engine.specs.OwnAhead.{AheadIsOwn, OwnPathsAreOwn, OwnWaysArePaths};
 
 /// What is put in place for a tenant is what it holds then.
 #[tactic(auto, using(crate::proofs::OwnLaws::own_reads_back))]
@@ -112,10 +112,17 @@ pub fn paths_are_own()
     ensures { PathsAreOwn }
 {}
 
-/// What is read ahead of a line that finds a record are nodes of the path in its own tenant's tree, and at most four
-/// more.
+/// What is read ahead of a line are nodes of the path in its own tenant's tree, and at most four more, if that tenant
+/// has a record in the map where the path lies.
 pub fn ahead_is_own()
     ensures { AheadIsOwn }
+{}
+
+/// So many nodes at most lie on the path of a line's own full key in the tree of some records, and so many at most are
+/// told by `run` as read ahead of it.
+#[tactic(auto, using(crate::proofs::OwnAhead::own_paths_are_own))]
+pub fn own_paths_are_own()
+    ensures { OwnPathsAreOwn }
 {}
 
 /// Where two maps hold the records, a way in a line's own map is the first nodes of the path of its own full key. They
