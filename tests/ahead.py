@@ -6,8 +6,8 @@ From 16,384 records on, nodes are read ahead of lines. So each kind of line is c
 many: the difference is what reading ahead costs a line. All records are tenant 1's, among them a chain of 150 nodes,
 one below the other. A line that looks nothing up must cost little more: one that is bad, one with bounds out of order,
 one that puts; so must a listing or a drop of a tenant that has nothing. So must look-ups that find nothing, which are
-not read ahead for a while. One that finds reads its way twice. Each takes fewer than ALONE instructions by itself, so
-none walks a map aside.
+not read ahead for a while. One that finds reads its way twice, and so it does again some time after others found nothing.
+Each takes fewer than ALONE instructions by itself, so none walks a map aside.
 """
 import os
 import random
@@ -18,6 +18,8 @@ import subprocess
 import cases
 
 FEW, CHAIN, LINES, SEED = 16384, 150, 4096, 58
+# So many instructions more at least takes a line that finds where nodes are read ahead of it.
+AHEAD = 300
 # No line of these kinds takes so many instructions: one that walked a map aside would.
 ALONE = 20_000
 COUNTED = re.compile(rb"Collected\s*: (\d+)")
@@ -64,6 +66,20 @@ def costs_little_more(program, puts, base, lines, most):
     return f"{alone:.0f} instructions, {ahead:.0f} where nodes are read ahead"
 
 
+def goes_on_after_a_pause(program, puts, base, misses, hits):
+    """Look-ups that find are read ahead again, but for the first of them, after others that found nothing."""
+
+    def more(lines):
+        ahead, alone = (count(program, puts[:it] + lines) - base[it] for it in (FEW, FEW - 1))
+        return (ahead - alone) / LINES
+
+    # (what is made ready once is in both)
+    alone, after = more(hits + hits) - more(hits), more(misses + hits) - more(misses)
+    assert alone > AHEAD, f"{alone:.0f} instructions more: fewer than {AHEAD}, so little is read ahead"
+    assert after > 0.9 * alone, f"{after:.0f} instructions more after a pause, {alone:.0f} without one"
+    return f"{after:.0f} instructions more after a pause, {alone:.0f} without one"
+
+
 def main():
     given = cases.given(__doc__, "--program=PATH")
     program, told = cases.programs(given)[0], cases.Tally(given.word)
@@ -77,6 +93,9 @@ def main():
     base = {it: count(program, puts[:it]) for it in (FEW - 1, FEW)}
     for name, (line, most) in kinds(of, keys).items():
         told.case(name, costs_little_more, program, puts, base, [line() for _ in range(LINES)], most)
+    lines = {name: [line() for _ in range(LINES)] for name, (line, _) in kinds(of, keys).items()}
+    misses, hits = lines["get that finds nothing"], lines["get that finds"]
+    told.case("get that finds, after a pause", goes_on_after_a_pause, program, puts, base, misses, hits)
     told.end()
 
 
