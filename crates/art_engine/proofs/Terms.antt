@@ -11,7 +11,7 @@ pub use Rattle.art_engine.specs.Laws.{DeletionsGoByOwnKeys, DeletionsGoByOwnNumb
 pub use Rattle.art_engine.specs.Laws.{RequestsLeaveOthers, TenantsStandAlone, dump_text, own_at_end, own_after_line, own_changed, own_replies, own_output, request_to, with_reply}
 pub use Rattle.art_engine.specs.Outcome.{AreOnOwnPaths, IsLineDone, IsOnOwnPathIn, IsOutcome, answer, answers, left_by, records_after, records_in, records_so_far, reply_to}
 pub use Rattle.art_engine.specs.Progress.{AllOnOwnPath, Carried, IsCutRun, NoNewline}
-pub use Rattle.art_engine.specs.Records.{AreRecords, InOrder, KeyComesBefore, KeyFits, KeyRecord, NumberComesBefore, NumberFits, NumberRecord, Own, Records, no_records, own, own_part, with_own, with_part}
+pub use Rattle.art_engine.specs.Records.{AreRecords, InOrder, KeyComesBefore, KeyFits, KeyRecord, NumberComesBefore, NumberFits, NumberRecord, Own, Record, Records, no_records, own, own_part, with_own, with_part}
 pub use Rattle.art_engine.specs.Refusals.{LineMayRefuse, MayRefuse}
 pub use Rattle.art_engine.specs.Replies.{audit_lines, command_after, command_reply, count_words, dump_of, front_at, has_conflict, key_lines, number_lines, numbers_from_to, overlapped, own_after, own_reply, puts, value_at, with_changed, with_pair, with_value_over, without_at}
 pub use Rattle.art_engine.specs.Spans.{IsClosed, IsListed, IsNumbered, own_number, own_pair, pending, pending_all, span_pairs}
