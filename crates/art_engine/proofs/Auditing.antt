@@ -1,15 +1,16 @@
 -- An audit of pairs is one of their records.
 use Rattle.std.proofs.Common.{◌≡◌, ℕ, ◌+◌, ◌<◌, ◌≤◌, ◌^◌, arith, List, [], ◌∷◌, ◌++◌, length, map, refl, ap, sym, ◌∙◌, Bool, cond}
-use Rattle.std.specs.Prelude.{nat_eq, bytes_eq, count_by, decimal}
-use Rattle.std.specs.List.{AllByRecursion, cons_option, fold}
+use Rattle.std.specs.Prelude.{bytes_eq, count_by, decimal}
+use Rattle.std.specs.List.{AllByRecursion, fold}
 use Rattle.std.proofs.lemmas.Fmt.{length-decimal-le}
 use Rattle.std.proofs.lemmas.List.{length-map}
 use Rattle.art_bytes.proofs.Common.{common_prefix}
-use Rattle.art_arena.proofs.Common.{distinct, neighbour_fronts, fronts_of, byte_after, bytes_after, width_of, fronts_with}
+use Rattle.art_arena.proofs.Common.{distinct, neighbour_fronts, fronts_of, width_of, fronts_with}
 use Rattle.art_nodes.specs.declared.kind.NodeType.TheVariants.{Node4, Node16, Node32, Node48, Node256}
 use Rattle.art_walks.proofs.Common.{in_range}
 use Rattle.art_walks.specs.declared.stats.WellFormedTreeStats.{WellFormedTreeStats}
 use Rattle.art_map.proofs.Common.{audit_of}
+use Rattle.art_operations.proofs.Common.{width_of-map}
 use Rattle.art_lines.proofs.Common.{name, natural, line_of, line_more}
 use Rattle.art_engine.proofs.Terms.{full_key_of, number_key_of, count_words, Pair, record_of, IsFull, NumberPair, number_record_of, IsNumberPair}
 use Rattle.art_engine.proofs.Changing.{itself, keys_are}
@@ -31,14 +32,10 @@ module _ {X : Type 0} (key : X → List ℕ) where
   neighbours-map (x ∷ []) = refl
   neighbours-map (x ∷ y ∷ ys) = ap (λ fs. common_prefix (key x) (key y) ∷ fs) (neighbours-map (y ∷ ys))
 
-  bytes_after-map : (front : List ℕ) (xs : List X) → bytes_after key front xs ≡ bytes_after itself front (map key xs)
-  bytes_after-map front [] = refl
-  bytes_after-map front (x ∷ xs) = ap (cons_option (byte_after front (key x))) (bytes_after-map front xs)
-
   fronts_with-map : (test : ℕ → Bool) (xs : List X) → fronts_with test key xs ≡ fronts_with test itself (map key xs)
   fronts_with-map test xs =
       count_same (λ front. test (width_of key xs front)) (λ front. test (width_of itself (map key xs) front))
-      (λ front. ap (λ bs. test (length (distinct nat_eq bs))) (bytes_after-map front xs)) (fronts_of key xs)
+      (λ front. ap test (sym (width_of-map key itself front xs))) (fronts_of key xs)
       ∙ ap (λ fs. count_by (λ front. test (width_of itself (map key xs) front)) (distinct bytes_eq fs)) (neighbours-map xs)
 
   counts-map : (xs : List X) → audit_of key xs ≡ audit_of itself (map key xs)

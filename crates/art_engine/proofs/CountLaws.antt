@@ -1,10 +1,9 @@
 -- What a look-up reads, told by what is known of its count: it is short, and the tenant's own path where it finds a record.
-use Rattle.std.proofs.Common.{◌≡◌, ℕ, ℤ, ◌+◌, ◌<◌, ◌≤◌, ◌^◌, List, [], ◌∷◌, length, refl, sym, ap, ◌∙◌, subst, Bool, true, arith, inl, inr, bytes_eq, append_assoc, append-nil, Option, Some, None}
-use Rattle.std.specs.Prelude.{IsSome, option_map, nat_lt}
+use Rattle.std.proofs.Common.{◌≡◌, ℕ, ℤ, ◌+◌, ◌<◌, ◌≤◌, ◌^◌, List, [], length, refl, sym, ap, ◌∙◌, subst, Bool, true, arith, bytes_eq, append_assoc, append-nil, Option, Some, None}
+use Rattle.std.specs.Prelude.{IsSome, option_map}
 use Rattle.std.specs.Ordering.{int_eq}
-use Rattle.std.proofs.lemmas.Bool.{eq-eqb, lt-ltb, or_left, or_right, and_from}
 use Rattle.std.proofs.lemmas.Bool.Decides.{Decides-int_eq}
-use Rattle.art_bytes.proofs.Common.{pair_key, big_endian, flipped, BeginsWith, IsBefore}
+use Rattle.art_bytes.proofs.Common.{pair_key, big_endian, flipped, BeginsWith}
 use Rattle.std.specs.List.{AllByRecursion, find}
 use Rattle.std.specs.Int.{to_be_bytes, w32, w64}
 use Rattle.std.proofs.lemmas.Slice.Eq.{bytes_eq-Decides}
@@ -12,21 +11,17 @@ use Rattle.art_arena.proofs.Common.{AscendsByKey, begins_with, all_at, begins_tr
 use Rattle.art_lines.proofs.Common.{get, find as find_front, nget, Command, of_tenant, full_key}
 use Rattle.art_engine.proofs.Terms.{exactly, path_nodes, visits_of, IsWithin, IsShort, IsOwnPath, ReadsOwnPath, full_key_of, number_key_of, KeyRecord, NumberRecord, Records, AreRecords, IsOfTenant, InOrder, KeyComesBefore, NumberComesBefore, KeyFits, NumberFits, own}
 use Rattle.art_engine.proofs.Counting.{own_path, own_way, path_is_short, found_record, some_own}
-use Rattle.art_engine.proofs.FullKeys.{full_before}
-use Rattle.art_engine.proofs.NumberKeys.{HaveBytes, tested_before}
+use Rattle.art_engine.proofs.KeyKinds.{under_keys, under_numbers}
+use Rattle.art_engine.proofs.NumberKeys.{HaveBytes}
 use Rattle.art_engine.proofs.OwnLaws.{key_part, number_part}
-
--- records ascend by their full keys
-before_all : (r : KeyRecord) (rs : List KeyRecord) → IsOfTenant r → AllByRecursion IsOfTenant rs → AllByRecursion (KeyComesBefore r) rs → AllByRecursion (λ s. IsBefore (full_key_of r) (full_key_of s)) rs
-before_all r [] small fits order = tt
-before_all r (s ∷ rs) small fits order = (full_before r s small fits.0 order.0, before_all r rs small fits.1 order.1)
-
-records_ascend : (rs : List KeyRecord) → AllByRecursion IsOfTenant rs → InOrder KeyComesBefore rs → AscendsByKey full_key_of rs
-records_ascend [] fits order = tt
-records_ascend (r ∷ rs) fits order = (before_all r rs fits.0 fits.1 order.0, records_ascend rs fits.1 order.1)
+use Rattle.art_engine.proofs.TenantKeys.{RecordFits, ascend}
 
 are_small : (records : Records) → AreRecords records → AllByRecursion IsOfTenant records.keys
 are_small records are = all_weaker KeyFits IsOfTenant (λ r fits. fits.tenant_fits) records.keys are.keys_fit
+
+-- records ascend by their full keys
+records_ascend : (rs : List KeyRecord) → AllByRecursion IsOfTenant rs → InOrder KeyComesBefore rs → AscendsByKey full_key_of rs
+records_ascend rs small order = ascend under_keys rs (all_weaker IsOfTenant (RecordFits under_keys) (λ r s. (s, tt)) rs small) order
 
 pub keys_ascend : (records : Records) → AreRecords records → AscendsByKey full_key_of records.keys
 keys_ascend records are = records_ascend records.keys (are_small records are) are.keys_in_order
@@ -59,17 +54,8 @@ HasBytes r = HaveBytes r.tenant r.key
 abbrev IsSmall : NumberRecord → Type 0
 IsSmall r = r.tenant < 2 ^ 32
 
-number_before : (r s : NumberRecord) → HasBytes r → HasBytes s → NumberComesBefore r s → IsBefore (number_key_of r) (number_key_of s)
-number_before r s hr hs (inl low) = tested_before r.tenant s.tenant r.key s.key hr hs (or_left _ _ (lt-ltb r.tenant s.tenant low))
-number_before r s hr hs (inr up) = tested_before r.tenant s.tenant r.key s.key hr hs (or_right (nat_lt r.tenant s.tenant) _ (and_from _ _ (eq-eqb r.tenant s.tenant up.0) up.1))
-
-numbers_before : (r : NumberRecord) (rs : List NumberRecord) → HasBytes r → AllByRecursion HasBytes rs → AllByRecursion (NumberComesBefore r) rs → AllByRecursion (λ s. IsBefore (number_key_of r) (number_key_of s)) rs
-numbers_before r [] here fits order = tt
-numbers_before r (s ∷ rs) here fits order = (number_before r s here fits.0 order.0, numbers_before r rs here fits.1 order.1)
-
 numbers_ascend : (rs : List NumberRecord) → AllByRecursion HasBytes rs → InOrder NumberComesBefore rs → AscendsByKey number_key_of rs
-numbers_ascend [] fits order = tt
-numbers_ascend (r ∷ rs) fits order = (numbers_before r rs fits.0 fits.1 order.0, numbers_ascend rs fits.1 order.1)
+numbers_ascend rs fits order = ascend under_numbers rs (all_weaker HasBytes (RecordFits under_numbers) (λ r h. h) rs fits) order
 
 pub all_numbers_ascend : (records : Records) → AreRecords records → AscendsByKey number_key_of records.numbers
 all_numbers_ascend records are = numbers_ascend records.numbers (all_weaker NumberFits HasBytes (λ r h. (h.tenant_fits, h.number_fits)) records.numbers are.numbers_fit) are.numbers_in_order

@@ -12,7 +12,8 @@ use Rattle.art_operations.proofs.NodeCounts.{counted-map}
 use Rattle.art_engine.specs.declared.drop_tenant.Dropped.{Dropped}
 use Rattle.art_engine.specs.declared.drop_tenant.Dropped.TheVariants as dropped
 use Rattle.art_lines.proofs.Common.{name, natural, full_key}
-use Rattle.art_engine.proofs.Terms.{drop_nodes, exactly, part_opening, IsWithin, full_key_of, number_key_of, KeyFits, KeyRecord, NumberFits, NumberRecord, Record, Records, own, own_part, with_own, with_part, Pair, NumberPair, record_of, number_record_of, all_records_of, IsNumberPair, ArePairs, AreNumberPairs}
+use Rattle.art_engine.proofs.Terms.{drop_nodes, exactly, part_opening, IsWithin, full_key_of, number_key_of, KeyFits, KeyRecord, NumberFits, NumberRecord, Record, Records}
+use Rattle.art_engine.proofs.Terms.{own, own_part, with_own, with_part, Pair, NumberPair, record_of, number_record_of, all_records_of, IsNumberPair, ArePairs, AreNumberPairs}
 use Rattle.art_engine.specs.Dropped.{IsDropDone}
 use Rattle.art_engine.proofs.Changing.{itself, keys_are}
 use Rattle.art_engine.proofs.Conflicts.{bytes_of}

@@ -6,6 +6,7 @@ use Rattle.std.proofs.lemmas.Bool.{cond_both, false_from_ne_true, true≢false}
 use Rattle.std.specs.List.{AllByRecursion, find}
 use Rattle.art_arena.proofs.Common.{all_left, all_right, is_before, put_in_order}
 use Rattle.art_arena.proofs.tree.Filters.{filter-map}
+use Rattle.art_arena.proofs.tree.Paths.{all_map}
 use Rattle.art_walks.proofs.Common.{all-filter}
 use Rattle.art_engine.proofs.Terms.{InOrder}
 
@@ -96,20 +97,15 @@ module _ {X Y : Type 0} (P : Y → Type 0) (f : X → Y) where
 
   -- and of all that is left
   pub All-left_out : (q : X → Bool) (xs : List X) → AllByRecursion P (map f xs) → AllByRecursion P (map f (filter q xs))
-  All-left_out q [] h = tt
-  All-left_out q (x ∷ xs) h =
-      let ih = All-left_out q xs h.1 in
-      cond_both (q x) (x ∷ filter q xs) (filter q xs) (λ l. AllByRecursion P (map f l)) (λ e. (h.0, ih)) (λ e. ih)
+  All-left_out q xs h = all_map f P (filter q xs) (all-filter (λ x. P (f x)) q xs (All-made xs h))
 
   -- and with what is put in, if it holds of that
   pub All-put : (key : X → List ℕ) (q : X → Bool) (x : X) (xs : List X) → AllByRecursion P (map f xs) → P (f x) → AllByRecursion P (map f (put_in_order key x (filter q xs)))
-  All-put key q x xs h new = put (filter q xs) (All-left_out q xs h)
+  All-put key q x xs h new = all_map f P (put_in_order key x (filter q xs)) (put (filter q xs) (all-filter (λ x. P (f x)) q xs (All-made xs h)))
     where
-      put : (ys : List X) → AllByRecursion P (map f ys) → AllByRecursion P (map f (put_in_order key x ys))
+      put : (ys : List X) → AllByRecursion (λ y. P (f y)) ys → AllByRecursion (λ y. P (f y)) (put_in_order key x ys)
       put [] h = (new, tt)
-      put (y ∷ ys) h =
-          let ih = put ys h.1 in
-          cond_both (is_before (key x) (key y)) (x ∷ y ∷ ys) (y ∷ put_in_order key x ys) (λ l. AllByRecursion P (map f l)) (λ e. (new, h)) (λ e. (h.0, ih))
+      put (y ∷ ys) h = cond_both (is_before (key x) (key y)) (x ∷ y ∷ ys) (y ∷ put_in_order key x ys) (AllByRecursion (λ y. P (f y))) (λ e. (new, h)) (λ e. (h.0, put ys h.1))
 
 module _ {X Y : Type 0} (f : X → Y) where
   -- a test of what is made of the elements

@@ -5,7 +5,7 @@ use Rattle.std.specs.Prelude.{◌==◌, ◌&&◌, nat_lt, nat_eq}
 use Rattle.std.specs.declared.cmp.Ordering.TheVariants.{Less, Equal, Greater}
 use Rattle.std.specs.Ordering.{nat_cmp, is_lt, ordering_reverse, ordering_then}
 use Rattle.std.proofs.Math.Bool.{and-or_distrib_left}
-use Rattle.std.proofs.lemmas.Bool.{eq-eqb, ne_eqb, eqb-true, lt-ltb, le-ltb, cases_eq, cases_lt, cases_order, true≢false}
+use Rattle.std.proofs.lemmas.Bool.{and_parts, false_from_ne_true, eq-eqb, ne_eqb, eqb-true, lt-ltb, le-ltb, cases_eq, cases_lt, cases_order, true≢false}
 use Rattle.std.proofs.lemmas.Cmp.{nat_list_cmp_total}
 use Rattle.art_bytes.proofs.Common.{bytes_cmp, is_proper_front, IsBefore, before_cmp, cmp_before, conflict_told}
 use Rattle.art_engine.proofs.Terms.{KeyRecord, KeyComesBefore, FullKeysKeepOrder, FullKeysKeepConflicts}
@@ -76,20 +76,7 @@ full_keys_keep_order t u k j ht hu = ap is_lt (cmp-full_key t u k j ht hu) ∙ e
   ]
 ]
 
--- two tenants differ in one of their four bytes
-apart : (t u : ℕ) (w x y z r : Bool) → t < 2 ^ 32 → u < 2 ^ 32 → (t / 16777216 % 256 == u / 16777216 % 256) ≡ w → (t / 65536 % 256 == u / 65536 % 256) ≡ x → (t / 256 % 256 == u / 256 % 256) ≡ y → (t % 256 == u % 256) ≡ z
-    → (t ≡ u → ⊥) → (w && (x && (y && (z && r)))) ≡ false
-apart t u false x y z r ht hu p q s v other = refl
-apart t u true false y z r ht hu p q s v other = refl
-apart t u true true false z r ht hu p q s v other = refl
-apart t u true true true false r ht hu p q s v other = refl
-apart t u true true true true r ht hu p q s v other =
-    let e = eqb-true (t / 16777216 % 256) (u / 16777216 % 256) p in let f = eqb-true (t / 65536 % 256) (u / 65536 % 256) q in
-    let g = eqb-true (t / 256 % 256) (u / 256 % 256) s in let h = eqb-true (t % 256) (u % 256) v in
-    let whole = four t ht in let other_whole = four u hu in
-    absurd (other (omega arith))
-
--- so the tests of four bytes are that of the tenants
+-- the tests of four bytes are that of the tenants
 pub same_tenants : (t u : ℕ) (r : Bool) → t < 2 ^ 32 → u < 2 ^ 32
     → ((t / 16777216 % 256 == u / 16777216 % 256) && ((t / 65536 % 256 == u / 65536 % 256) && ((t / 256 % 256 == u / 256 % 256) && ((t % 256 == u % 256) && r)))) ≡ ((t == u) && r)
 same_tenants t u r ht hu = elim (cases_eq t u) [
@@ -101,10 +88,15 @@ same_tenants t u r ht hu = elim (cases_eq t u) [
         eq-eqb (t % 256) (u % 256) (ap (λ n. n % 256) same),
         eq-eqb t u same,
       ) refl
-  | inr other ↦
-      apart t u (t / 16777216 % 256 == u / 16777216 % 256) (t / 65536 % 256 == u / 65536 % 256) (t / 256 % 256 == u / 256 % 256) (t % 256 == u % 256) r ht hu refl refl refl refl other
-      ∙ sym (ap (λ b. b && r) (ne_eqb t u other))
+  | inr other ↦ false_from_ne_true _ (λ h. other (same_bytes h)) ∙ sym (ap (λ b. b && r) (ne_eqb t u other))
 ]
+  where
+    same_bytes : ((t / 16777216 % 256 == u / 16777216 % 256) && ((t / 65536 % 256 == u / 65536 % 256) && ((t / 256 % 256 == u / 256 % 256) && ((t % 256 == u % 256) && r)))) ≡ true → t ≡ u
+    same_bytes h =
+        let a = and_parts _ _ h in let b = and_parts _ _ a.1 in let c = and_parts _ _ b.1 in let d = and_parts _ _ c.1 in
+        let e : t / 16777216 % 256 ≡ u / 16777216 % 256 = eqb-true _ _ a.0 in let f : t / 65536 % 256 ≡ u / 65536 % 256 = eqb-true _ _ b.0 in
+        let g : t / 256 % 256 ≡ u / 256 % 256 = eqb-true _ _ c.0 in let i : t % 256 ≡ u % 256 = eqb-true _ _ d.0 in
+        let whole = four t ht in let other_whole = four u hu in omega arith
 
 front-full_key : (t u : ℕ) (k j : List ℕ) → t < 2 ^ 32 → u < 2 ^ 32 → is_proper_front (full_key t k) (full_key u j) ≡ ((t == u) && is_proper_front k j)
 front-full_key t u k j ht hu = rw (four_lt (length k) (length j)) (ap (λ b. nat_lt (length k) (length j) && b) (same_tenants t u (starts_with nat_eq j k) ht hu) ∙ turned (nat_lt (length k) (length j)) (t == u) (starts_with nat_eq j k))
@@ -133,6 +125,3 @@ full_keys_keep_conflicts t u k j ht hu = rw (front-full_key t u k j ht hu, front
 pub key_parts : (r s : KeyRecord) → KeyComesBefore r s → (r.tenant < s.tenant) ⊎ ((r.tenant ≡ s.tenant) × IsBefore r.key s.key)
 key_parts r s (inl low) = inl low
 key_parts r s (inr up) = inr (up.0, cmp_before r.key s.key (cmp_less r.key s.key up.1) (λ c. true≢false (sym (conflict_told r.key s.key c) ∙ up.2)))
-
-pub full_before : (r s : KeyRecord) → r.tenant < 2 ^ 32 → s.tenant < 2 ^ 32 → KeyComesBefore r s → IsBefore (full_key r.tenant r.key) (full_key s.tenant s.key)
-full_before r s rs ss before = full_from_parts r.tenant s.tenant r.key s.key rs ss (key_parts r s before)

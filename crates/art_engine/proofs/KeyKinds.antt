@@ -13,7 +13,7 @@ use Rattle.art_engine.proofs.Filters.{All-both, All-made}
 use Rattle.art_engine.proofs.FullKeys.{key_parts}
 use Rattle.art_engine.proofs.NumberKeys.{before_lower, below_numbers, bytes_of_number, lower_before, number_back, same_numbers}
 use Rattle.art_engine.proofs.TenantKeys.{Kind, StandsUnder, in_order, pairs_ascend}
-use Rattle.art_engine.proofs.Terms.{AreFull, AreNumberPairs, IsFull, IsNumberPair, IsOfTenant, KeyComesBefore, NumberComesBefore, NumberFits, NumberPair, Pair, number_of_bytes, number_record_of, record_of}
+use Rattle.art_engine.proofs.Terms.{AreFull, AreNumberPairs, ArePairs, IsFull, IsNumberPair, IsOfTenant, KeyComesBefore, NumberComesBefore, NumberFits, NumberPair, Pair, number_of_bytes, number_record_of, record_of}
 
 -- the bytes of a pair's key
 abbrev pub bytes_of : Pair → List ℕ
@@ -50,6 +50,12 @@ keys_stand ps full small = All-both IsFull (λ p. IsOfTenant (record_of p)) (Sta
 pub numbers_stand : (ns : List NumberPair) → AllByRecursion IsNumberPair ns → AllByRecursion NumberFits (map number_record_of ns) → AllByRecursion (StandsUnder under_numbers) ns
 numbers_stand ns full fit =
     All-both IsNumberPair (λ p. NumberFits (number_record_of p)) (StandsUnder under_numbers) (λ p f s. record { key = f; fits = (s.tenant_fits, s.number_fits) }) ns full (All-made NumberFits number_record_of ns fit)
+
+pub pairs_stand : (ps : List Pair) → ArePairs ps → AllByRecursion (StandsUnder under_keys) ps
+pairs_stand ps are = keys_stand ps are.stand.full are.stand.tenants
+
+pub number_pairs_stand : (ns : List NumberPair) → AreNumberPairs ns → AllByRecursion (StandsUnder under_numbers) ns
+number_pairs_stand ns are = numbers_stand ns are.stand are.fit
 
 -- and ascend
 pub keys_ascend : (ps : List Pair) → AreFull ps → AscendsByKey bytes_of ps

@@ -16,7 +16,6 @@ pub mod Filters
 pub mod OwnLaws
 pub mod Conflicts
 pub mod FullTests
-pub mod Removing
 pub mod Overwriting
 pub mod Changing
 pub mod ListedLines

@@ -1,13 +1,12 @@
 -- The eight bytes of a number: what is read back of them, and that they are in the order of numbers.
 use Rattle.std.proofs.Common.{◌≡◌, ℕ, ℤ, ◌^◌, ◌<◌, List, length, refl, ap, ap₂, sym, ◌∙◌, Bool, true, false, not, cond, arith, inl, inr, bytes_eq, lit<}
-use Rattle.std.specs.Prelude.{◌==◌, ◌&&◌, ◌||◌, nat_lt, int_lt, bit_xor, FitsSigned}
+use Rattle.std.specs.Prelude.{◌==◌, ◌&&◌, int_lt, bit_xor, FitsSigned}
 use Rattle.std.specs.Int.{cast_signed, cast_unsigned, w64}
 use Rattle.std.specs.Int.Bits.{xor_assoc, xor_self, xor_zero_r}
 use Rattle.std.specs.declared.cmp.Ordering.TheVariants.{Less, Equal, Greater}
 use Rattle.std.specs.declared.ops.Bound.TheVariants.{Included}
 use Rattle.std.specs.Ordering.{int_cmp, int_eq, is_lt, ordering_reverse}
 use Rattle.std.specs.BTreeMap.Range.{range_contains, IsLeBy}
-use Rattle.std.proofs.lemmas.Bool.{and_parts, eqb-true, ltb-true, or_cases}
 use Rattle.std.proofs.lemmas.Bool.Decides.{Decides-int_eq}
 use Rattle.std.proofs.lemmas.Cmp.{int_cmp_total}
 use Rattle.std.proofs.lemmas.Int.{to_z-of_z}
@@ -18,7 +17,6 @@ use Rattle.art_bytes.specs.Mappings.{HaveFixedBytes}
 use Rattle.art_bytes.specs.lemmas.FixedLaws.{unsigned_bytes, stored_bytes}
 use Rattle.art_bytes.specs.lemmas.FlipLaws.{flipped-bound, flipped-injective, int_cmp-flipped}
 use Rattle.art_engine.proofs.Terms.{number_of_bytes}
-use Rattle.art_engine.proofs.FullKeys.{full_from_parts}
 use Rattle.art_engine.proofs.FullTests.{in_order_full, le_turned, within_full}
 use Rattle.art_engine.proofs.KeyOrder.{lt_is}
 
@@ -91,12 +89,3 @@ between_numbers t u low high m hl hh hm =
 -- bounds that are in order are so by their bytes, too
 pub numbers_in_order : (t : ℕ) (low high : ℤ) → HaveBytes t low → HaveBytes t high → int_lt high low ≡ false → IsLeBy bytes_cmp (pair_key (t, low)) (pair_key (t, high))
 numbers_in_order t low high hl hh h = in_order_full t (bytes_of_number low) (bytes_of_number high) hl.0 (below_numbers high low hh.1 hl.1 ∙ h)
-
--- what stands before a tenant's number
-abbrev pub stands_before : ℕ → ℤ → ℕ → ℤ → Bool
-stands_before u m t n = nat_lt u t || ((u == t) && int_lt m n)
-
-pub tested_before : (u t : ℕ) (m n : ℤ) → HaveBytes u m → HaveBytes t n → stands_before u m t n ≡ true → IsBefore (pair_key (u, m)) (pair_key (t, n))
-tested_before u t m n hu ht e =
-    full_from_parts u t (bytes_of_number m) (bytes_of_number n) hu.0 ht.0
-    (elim (or_cases _ _ e) [ inl low ↦ inl (ltb-true u t low) | inr both ↦ let up = and_parts _ _ both in inr (eqb-true u t up.0, lower_before m n hu.1 ht.1 up.1) ])

@@ -7,13 +7,13 @@ use Rattle.std.proofs.lemmas.Bool.{both_ways, false_from_ne_true, not-true}
 use Rattle.std.proofs.lemmas.List.{length-map}
 use Rattle.std.proofs.lemmas.Slice.Eq.{bytes_eq-Decides}
 use Rattle.art_bytes.proofs.Common.{is_below}
-use Rattle.art_arena.proofs.Common.{put_in_order, all_at, all_weaker}
-use Rattle.art_arena.proofs.tree.Filters.{filter_all, all_pass}
+use Rattle.art_arena.proofs.Common.{put_in_order, all_at}
+use Rattle.art_arena.proofs.tree.Filters.{all_pass}
 use Rattle.art_map.proofs.Common.{ascends-filter}
-use Rattle.art_operations.proofs.Common.{IsBlocked, overlaps, overlapping, without_key, without_overlapping, overlaps_same, overlaps_conflict}
+use Rattle.art_operations.proofs.Common.{IsBlocked, all-but-none, overlaps, overlapping, without_key, without_overlapping, overlaps_same, overlaps_conflict}
 use Rattle.art_walks.proofs.Common.{all-filter}
 use Rattle.art_lines.proofs.Common.{full_key}
-use Rattle.art_engine.proofs.Filters.{All-put}
+use Rattle.art_engine.proofs.Filters.{All-put, filter-apart}
 use Rattle.art_engine.proofs.FullTests.{overlaps_full}
 use Rattle.art_engine.proofs.KeyKinds.{are_full, bytes_of, keys_ascend, keys_stand, under_keys}
 use Rattle.art_engine.proofs.OwnLaws.{key_part, made, put_back_again, reads_back, records_from_lists}
@@ -24,11 +24,10 @@ use Rattle.art_engine.proofs.Terms.{KeyFits, KeyRecord, own, own_part, with_own,
 -- what does not overlap a key is not at it, and blocks it not
 module _ (k : List ℕ) (ps : List Pair) where
   none_at : without_key bytes_of k (without_overlapping bytes_of k ps) ≡ without_overlapping bytes_of k ps
-  none_at = filter_all (λ p. not (bytes_eq (bytes_of p) k)) (without_overlapping bytes_of k ps)
-      (all_weaker (λ p. not (overlaps k (bytes_of p)) ≡ true) (λ p. not (bytes_eq (bytes_of p) k) ≡ true) other (without_overlapping bytes_of k ps) (all_pass (λ p. not (overlaps k (bytes_of p))) ps))
+  none_at = all-but-none (λ p. bytes_eq (bytes_of p) k) (without_overlapping bytes_of k ps) (filter-apart (λ p. bytes_eq (bytes_of p) k) (λ p. not (overlaps k (bytes_of p))) other ps)
     where
-      other : (p : Pair) → not (overlaps k (bytes_of p)) ≡ true → not (bytes_eq (bytes_of p) k) ≡ true
-      other p h = ap not (false_from_ne_true (bytes_eq (bytes_of p) k) (λ e. both_ways _ (not-true _ h) (overlaps_same k (bytes_of p) ((bytes_eq-Decides (bytes_of p) k).0 e))))
+      other : (p : Pair) → not (overlaps k (bytes_of p)) ≡ true → bytes_eq (bytes_of p) k ≡ false
+      other p h = false_from_ne_true (bytes_eq (bytes_of p) k) (λ e. both_ways _ (not-true _ h) (overlaps_same k (bytes_of p) ((bytes_eq-Decides (bytes_of p) k).0 e)))
 
   none_blocks : IsBlocked bytes_of k (without_overlapping bytes_of k ps) → ⊥
   none_blocks (p, i, c) =

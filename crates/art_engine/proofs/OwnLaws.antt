@@ -1,8 +1,8 @@
 -- What a tenant holds, in the flat lists of all records.
 use Rattle.art_engine.proofs.Terms.{OwnReadsBack, OthersAreUntouched, OwnIsInPlace, Own, Record, KeyRecord, NumberRecord, Records, own_part, with_own, with_part, InOrder, KeyComesBefore, NumberComesBefore}
-use Rattle.std.proofs.Common.{◌≡◌, ◌≢◌, ℕ, ℤ, ◌<◌, ◌≤◌, List, [], ◌∷◌, ◌++◌, refl, ap, ap₂, sym, ◌∙◌, Bool, true, false, arith, append-nil, inl, inr}
+use Rattle.std.proofs.Common.{◌≡◌, ◌≢◌, ℕ, ℤ, ◌≤◌, List, [], ◌∷◌, ◌++◌, refl, ap, ap₂, sym, ◌∙◌, Bool, true, false, arith, append-nil, inl, inr}
 use Rattle.std.specs.Prelude.{◌==◌, nat_lt, map, filter}
-use Rattle.std.proofs.lemmas.Bool.{cond_both, eq-eqb, ne_eqb, eqb-true, ltb-true, lt-ltb, le-ltb, cases_lt, cases_order}
+use Rattle.std.proofs.lemmas.Bool.{both_ways, cond_both, false_from_ne_true, eq-eqb, ne_eqb, eqb-true, ltb-true, lt-ltb, le-ltb, cases_lt, cases_order}
 use Rattle.std.proofs.lemmas.List.Elements.{filter-append}
 use Rattle.art_engine.proofs.Filters.{filter-apart, filter-within}
 use Rattle.art_arena.proofs.tree.Filters.{filter_none}
@@ -67,39 +67,29 @@ module _ {K : Type 0} where
       let high : mine t (higher t rs) ≡ [] = filter-apart (λ r. r.tenant == t) (λ r. nat_lt t r.tenant) (λ r. higher_other t r.tenant) rs in
       ap (map part_of) (three_passes (λ u. u == t) t ps rs ∙ rw (low, high, all_made (λ u. u == t) t (eq-eqb t t refl) ps) (append-nil (map (made t) ps))) ∙ parts_made t ps
 
+  -- of other tenants all that passes stays, if they are all lower, or all higher
+  module _ (q : ℕ → Bool) (t : ℕ) (ps : List (K × List ℕ)) (rs : List (Record K)) where
+    lower_stay : ((u : ℕ) → q u ≡ true → nat_lt u t ≡ true) → passes q t (with_part t ps rs) ≡ passes q t rs
+    lower_stay low =
+        let kept = filter-within (λ r. q r.tenant) (λ r. nat_lt r.tenant t) (λ r e. low r.tenant e) rs in
+        let none = filter-apart (λ r. q r.tenant) (λ r. nat_lt t r.tenant) (λ r h. false_from_ne_true _ (λ e. both_ways _ (not_both t r.tenant h) (low r.tenant e))) rs in
+        three_passes q t ps rs
+        ∙ rw (kept, none, none_made q t (false_from_ne_true _ (λ e. both_ways _ (not_lower t) (low t e))) ps) (append-nil (passes q t rs ++ []) ∙ append-nil (passes q t rs))
+
+    higher_stay : ((u : ℕ) → q u ≡ true → nat_lt t u ≡ true) → passes q t (with_part t ps rs) ≡ passes q t rs
+    higher_stay high =
+        let kept = filter-within (λ r. q r.tenant) (λ r. nat_lt t r.tenant) (λ r e. high r.tenant e) rs in
+        let none = filter-apart (λ r. q r.tenant) (λ r. nat_lt r.tenant t) (λ r h. false_from_ne_true _ (λ e. both_ways _ (not_both r.tenant t h) (high r.tenant e))) rs in
+        three_passes q t ps rs ∙ rw (none, kept, none_made q t (false_from_ne_true _ (λ e. both_ways _ (not_lower t) (high t e))) ps) refl
+
   pub untouched : (s t : ℕ) (ps : List (K × List ℕ)) (rs : List (Record K)) → s ≢ t → own_part s (with_part t ps rs) ≡ own_part s rs
-  untouched s t ps rs apart =
-      ap (map part_of)
-      (three_passes (λ u. u == s) t ps rs
-      ∙ rw (none_made (λ u. u == s) t (ne_eqb t s (λ e. apart (sym e))) ps) (ap (λ l. l ++ mine s (higher t rs)) (append-nil (mine s (lower t rs))) ∙ both))
-    where
-      both : mine s (lower t rs) ++ mine s (higher t rs) ≡ mine s rs
-      both = elim (cases_lt s t) [
-        | inl low ↦
-            let kept : mine s (lower t rs) ≡ mine s rs = filter-within (λ r. r.tenant == s) (λ r. nat_lt r.tenant t) (λ r h. let e = eqb-true r.tenant s h in lt-ltb r.tenant t (omega arith)) rs in
-            let none : mine s (higher t rs) ≡ [] = filter-apart (λ r. r.tenant == s) (λ r. nat_lt t r.tenant) (λ r h. let lt = ltb-true t r.tenant h in ne_eqb r.tenant s (λ e. omega arith)) rs in
-            rw (kept, none) (append-nil (mine s rs))
-        | inr high ↦
-            let above : t < s = omega (arith, apart) in
-            let kept : mine s (higher t rs) ≡ mine s rs = filter-within (λ r. r.tenant == s) (λ r. nat_lt t r.tenant) (λ r h. let e = eqb-true r.tenant s h in lt-ltb t r.tenant (omega arith)) rs in
-            let none : mine s (lower t rs) ≡ [] = filter-apart (λ r. r.tenant == s) (λ r. nat_lt r.tenant t) (λ r h. let lt = ltb-true r.tenant t h in ne_eqb r.tenant s (λ e. omega arith)) rs in
-            rw (kept, none) refl
-      ]
-
-  lower_again : (t : ℕ) (ps : List (K × List ℕ)) (rs : List (Record K)) → lower t (with_part t ps rs) ≡ lower t rs
-  lower_again t ps rs =
-      let low : lower t (lower t rs) ≡ lower t rs = filter-within (λ r. nat_lt r.tenant t) (λ r. nat_lt r.tenant t) (λ r h. h) rs in
-      let high : lower t (higher t rs) ≡ [] = filter-apart (λ r. nat_lt r.tenant t) (λ r. nat_lt t r.tenant) (λ r. not_both t r.tenant) rs in
-      three_passes (λ u. nat_lt u t) t ps rs ∙ rw (low, high, none_made (λ u. nat_lt u t) t (not_lower t) ps) (append-nil (lower t rs ++ []) ∙ append-nil (lower t rs))
-
-  higher_again : (t : ℕ) (ps : List (K × List ℕ)) (rs : List (Record K)) → higher t (with_part t ps rs) ≡ higher t rs
-  higher_again t ps rs =
-      let low : higher t (lower t rs) ≡ [] = filter-apart (λ r. nat_lt t r.tenant) (λ r. nat_lt r.tenant t) (λ r. not_both r.tenant t) rs in
-      let high : higher t (higher t rs) ≡ higher t rs = filter-within (λ r. nat_lt t r.tenant) (λ r. nat_lt t r.tenant) (λ r h. h) rs in
-      three_passes (λ u. nat_lt t u) t ps rs ∙ rw (low, high, none_made (λ u. nat_lt t u) t (not_lower t) ps) refl
+  untouched s t ps rs apart = ap (map part_of) (elim (cases_lt s t) [
+    | inl low ↦ lower_stay (λ u. u == s) t ps rs (λ u e. let same = eqb-true u s e in lt-ltb u t (omega arith))
+    | inr high ↦ higher_stay (λ u. u == s) t ps rs (λ u e. let same = eqb-true u s e in lt-ltb t u (omega (arith, apart)))
+  ])
 
   pub put_back_again : (t : ℕ) (ps qs : List (K × List ℕ)) (rs : List (Record K)) → with_part t qs (with_part t ps rs) ≡ with_part t qs rs
-  put_back_again t ps qs rs = ap₂ (λ low high. low ++ map (made t) qs ++ high) (lower_again t ps rs) (higher_again t ps rs)
+  put_back_again t ps qs rs = ap₂ (λ low high. low ++ map (made t) qs ++ high) (lower_stay (λ u. nat_lt u t) t ps rs (λ u e. e)) (higher_stay (λ u. nat_lt t u) t ps rs (λ u e. e))
 
   pub made_from_mine : (t : ℕ) (rs : List (Record K)) → map (made t) (own_part t rs) ≡ mine t rs
   made_from_mine t [] = refl

@@ -118,7 +118,7 @@ module _ {K M : Type 0} {bytes : M → List ℕ} {rest : K → List ℕ} {back :
   pub keys_are : (ps : List HeldPair) → AllByRecursion StandsUnder ps → map key_in ps ≡ map whole_of (map record_in ps)
   keys_are ps stand = sym (map-alike whole_of record_in key_in ps (all_weaker StandsUnder (λ p. whole_of (record_in p) ≡ key_in p) (λ p s. sym s.key) ps stand))
 
-  -- full keys of records are in order where the records are
+  -- full keys are in order where their records are
   pub ascend : (rs : List (Record K)) → AllByRecursion RecordFits rs → InOrder Before rs → AscendsByKey whole_of rs
   ascend [] fits order = tt
   ascend (r ∷ rs) fits order = (All-both RecordFits (Before r) (λ s. IsBefore (whole_of r) (whole_of s)) before rs fits.1 order.0, ascend rs fits.1 order.1)
