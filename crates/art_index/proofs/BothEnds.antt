@@ -1,7 +1,7 @@
 -- What holds at the end of the program of the two steps to it: all is answered, and what was written is flushed.
 use Rattle.std.proofs.Common.{◌≡◌, ℕ, Bool, true, false, List, [], ◌++◌, Ok, Err, Result, refl, sym, ap, subst, ◌∙◌}
-use Rattle.std.proofs.Common.{append-nil, inl, inr}
-use Rattle.std.specs.Prelude.{OnErr, OnOk, IfErr, is_err, ◌↔◌, ◌⊎◌}
+use Rattle.std.proofs.Common.{append-nil, inl, inr, arith, suc, ◌<◌}
+use Rattle.std.specs.Prelude.{OnErr, OnOk, IfErr, IsErr, is_err, ◌↔◌, ◌⊎◌, ◌≢◌}
 use Rattle.art_lines.specs.Lines.{lines_of, lines_so_far, whole_lines_of}
 use Rattle.art_engine.specs.Faults.{AfterWriteFault}
 use Rattle.art_engine.specs.State.{State}
@@ -62,10 +62,16 @@ read_first (Ok x) (Ok y) kept write a is = absurd (cc)
 read_first (Ok x) (Err e) kept write a is = let no : e ≡ Write = write in absurd (cc)
 read_first (Err e) last kept write a is = (sym kept ∙ is, a)
 
--- and where a failed write is told, it is that of the first step, or all was answered
-pub write_first : {T Q : Type 0} (first last : Result T RunFault) → IfErr first (λ e. last ≡ Err e) → OnOk first Q → last ≡ Err Write → (first ≡ Err Write) ⊎ Q
-write_first (Ok x) last kept q is = inr q
-write_first (Err e) last kept q is = inl (sym kept ∙ is)
+-- and where a failed write is told, it is that of the first step, or all was answered, and it was flushed
+pub write_first : {T Q R : Type 0} (first last : Result T RunFault) → IfErr first (λ e. last ≡ Err e) → OnOk first Q → OnOk first R → last ≡ Err Write → (first ≡ Err Write) ⊎ (R × Q)
+write_first (Ok x) last kept q r is = inr (r, q)
+write_first (Err e) last kept q r is = inl (sym kept ∙ is)
+
+-- where the first step went well no write failed, so it was flushed
+pub was_flushed : {T E : Type 0} (first : Result T E) (failed : Bool) (before after : ℕ) → (failed ≡ true → IsErr first) → OnOk first (failed ≡ false → after ≡ suc before) → OnOk first (0 < after)
+was_flushed (Ok x) true before after told calls = let no : false ≡ true = told refl in absurd (cc)
+was_flushed (Ok x) false before after told calls = let is = calls refl in omega arith
+was_flushed (Err e) failed before after told calls = tt
 
 module _ {P : ℕ} (old new : State P) (given taken out start begun : List ℕ) (none : start ≡ []) (nothing : begun ≡ []) (same : out ≡ taken) where
   whole : (text : List ℕ) → given ≡ start ++ text → text ≡ given
@@ -73,14 +79,14 @@ module _ {P : ℕ} (old new : State P) (given taken out start begun : List ℕ) 
 
   -- what was answered after a failed read, from nothing
   pub read_answered : (failed now : Bool) → now ≡ failed
-      → ((text written rest : List ℕ) × (given ≡ start ++ text) × (taken ++ rest ≡ begun ++ written) × (failed ≡ false → rest ≡ []) × IsOutcome old (whole_lines_of text) written new)
-      → (written rest : List ℕ) × (out ++ rest ≡ written) × (now ≡ false → rest ≡ []) × IsOutcome old (whole_lines_of given) written new
+      → ((text written rest : List ℕ) × (given ≡ start ++ text) × (taken ++ rest ≡ begun ++ written) × ((failed ≡ false) ↔ (rest ≡ [])) × IsOutcome old (whole_lines_of text) written new)
+      → (written rest : List ℕ) × (out ++ rest ≡ written) × ((now ≡ false) ↔ (rest ≡ [])) × IsOutcome old (whole_lines_of given) written new
   read_answered failed now is o =
       let text : List ℕ = o.0 in let written : List ℕ = o.1 in let rest : List ℕ = o.2 in (
         written,
         rest,
         ap (λ t. t ++ rest) same ∙ o.4 ∙ ap (λ s. s ++ written) nothing,
-        λ fine. o.5 (sym is ∙ fine),
+        (λ fine. o.5.0 (sym is ∙ fine), λ none. is ∙ o.5.1 none),
         subst (λ t. IsOutcome old (whole_lines_of t) written new) (whole text o.3) o.6,
       )
 
@@ -92,16 +98,18 @@ module _ {P : ℕ} (old new : State P) (given taken out start begun : List ℕ) 
       (subst (λ t. IsOutcome old (whole_lines_of t) written new) (whole text o.2) o.4)
 
   -- and after a failed write
-  pub write_answered : (ended : Bool)
-      → ((text written rest : List ℕ) × (given ≡ start ++ text) × (taken ++ rest ≡ begun ++ written)
+  pub write_answered : {F : Type 0} (ended : Bool)
+      → ((text written rest : List ℕ) × (given ≡ start ++ text) × (taken ++ rest ≡ begun ++ written) × (rest ≢ [])
       × (AfterWriteFault old (lines_so_far ended text) written new ⊎ IsOutcome old (lines_of text) written new))
-      → (written rest : List ℕ) × (out ++ rest ≡ written) × (AfterWriteFault old (lines_so_far ended given) written new ⊎ IsOutcome old (lines_of given) written new)
+      → (written rest : List ℕ) × (out ++ rest ≡ written) × (rest ≡ [] → F × IsOutcome old (lines_of given) written new)
+      × (AfterWriteFault old (lines_so_far ended given) written new ⊎ IsOutcome old (lines_of given) written new)
   write_answered ended o =
       let text : List ℕ = o.0 in let written : List ℕ = o.1 in let rest : List ℕ = o.2 in (
         written,
         rest,
         ap (λ t. t ++ rest) same ∙ o.4 ∙ ap (λ s. s ++ written) nothing,
-        subst (λ t. AfterWriteFault old (lines_so_far ended t) written new ⊎ IsOutcome old (lines_of t) written new) (whole text o.3) o.5,
+        λ none. absurd (o.5 none),
+        subst (λ t. AfterWriteFault old (lines_so_far ended t) written new ⊎ IsOutcome old (lines_of t) written new) (whole text o.3) o.6,
       )
 
   pub write_answered_at_once : (ended : Bool)
@@ -113,6 +121,7 @@ module _ {P : ℕ} (old new : State P) (given taken out start begun : List ℕ) 
       (subst (λ t. AfterWriteFault old (lines_so_far ended t) written new) (whole text o.2) o.4)
 
   -- where all was answered nothing is left
-  pub all_written : (ended : Bool) → IsOutcome old (lines_of given) out new
-      → (written rest : List ℕ) × (out ++ rest ≡ written) × (AfterWriteFault old (lines_so_far ended given) written new ⊎ IsOutcome old (lines_of given) written new)
-  all_written ended o = (out, [], append-nil out, inr o)
+  pub all_written : {F : Type 0} (ended : Bool) → F → IsOutcome old (lines_of given) out new
+      → (written rest : List ℕ) × (out ++ rest ≡ written) × (rest ≡ [] → F × IsOutcome old (lines_of given) written new)
+      × (AfterWriteFault old (lines_so_far ended given) written new ⊎ IsOutcome old (lines_of given) written new)
+  all_written ended f o = (out, [], append-nil out, λ _. (f, o), inr o)

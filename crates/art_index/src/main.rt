@@ -24,7 +24,7 @@ mod serving;
 use art_engine::{Index, RunFault, flushed, run};
 use art_lines::buffered::reserve_buffer;
 use art_lines::{Buffered, FromReader, ToWriter};
-use buffered::run_buffered;
+use buffered::{Gathering, run_buffered};
 use serving::{Ends, report, touch_stack};
 use std::env;
 use std::process::ExitCode;
@@ -56,18 +56,21 @@ fn serve(rt: &HostRuntime, index: &mut Index<PREFIX_LEN>, room: Vec<u8>) -> Ends
     // After a failed read, the whole lines are answered, and nothing else. Where no write failed, all of it is written.
     ensures after_read_fault { result.done ≡ Err RunFault.Read → (written rest : List ℕ)
         × (bytes_taken result.sink ++ rest ≡ written)
-        × (has_write_failed result.sink ≡ false → rest ≡ [])
+        × ((has_write_failed result.sink ≡ false) ↔ (rest ≡ []))
         × IsOutcome index.old (whole_lines_of (bytes_given result.source)) written index.new }
 
     // After a failed write, one line more is carried out than is answered whole; or all lines are, and the last answers
-    // did not leave, or were not flushed. All of the answers is written but some bytes at their end.
+    // did not leave, or were not flushed. All of the answers is written but some bytes at their end. Where none are
+    // missing all lines are answered, and the flush failed.
     ensures after_write_fault { result.done ≡ Err RunFault.Write → (written rest : List ℕ)
         × (bytes_taken result.sink ++ rest ≡ written)
+        × (rest ≡ [] → (0 < calls_to_flush result.sink)
+        × IsOutcome index.old (lines_of (bytes_given result.source)) written index.new)
         × (AfterWriteFault index.old (lines_so_far (has_run_out result.source) (bytes_given result.source)) written
         index.new ⊎ IsOutcome index.old (lines_of (bytes_given result.source)) written index.new) }
 {
     let mut source = FromReader::new(rt.stdin());
-    let mut gathering = Buffered::new(ToWriter::new(rt.stdout()), room);
+    let mut gathering = Gathering::new(Buffered::new(ToWriter::new(rt.stdout()), room));
     let answered = run_buffered(index, &mut source, &mut gathering);
     let mut sink = gathering.into_sink();
     let done = flushed(answered, &mut sink);
@@ -91,7 +94,8 @@ fn serve_at_once(rt: &HostRuntime, index: &mut Index<PREFIX_LEN>) -> Ends
     ensures after_write_fault { result.done ≡ Err RunFault.Write
         → AfterWriteFault index.old (lines_so_far (has_run_out result.source) (bytes_given result.source))
         (bytes_taken result.sink) index.new
-        ⊎ IsOutcome index.old (lines_of (bytes_given result.source)) (bytes_taken result.sink) index.new }
+        ⊎ ((0 < calls_to_flush result.sink)
+        × IsOutcome index.old (lines_of (bytes_given result.source)) (bytes_taken result.sink) index.new) }
 {
     let mut source = FromReader::new(rt.stdin());
     let mut sink = ToWriter::new(rt.stdout());

@@ -1,7 +1,8 @@
-use Rattle.std.proofs.Common.{ap, inl, inr}
+use Rattle.std.proofs.Common.{ap, inl, inr, refl, sym, subst}
+use Rattle.std.specs.Prelude.{IsErr}
 use Rattle.std.proofs.lemmas.Result.{on_err_weaker}
 use Rattle.art_lines.specs.Ends.{bytes_given, bytes_taken, has_read_failed, has_run_out, has_write_failed}
-use Rattle.art_index.proofs.BothEnds.{well_done, all_answered, ran_write_is_told, read_is_told, read_answered_at_once, read_first, write_is_told, write_answered_at_once, write_first, no_write_failed}
+use Rattle.art_index.proofs.BothEnds.{well_done, all_answered, ran_write_is_told, read_is_told, read_answered_at_once, read_first, was_flushed, write_is_told, write_answered_at_once, write_first, no_write_failed}
 use Rattle.art_index.proofs.serve_at_once.Goals as goal
 
 pub returns-clause-ended : goal.returns-clause-ended
@@ -36,11 +37,15 @@ returns-clause-after_read_fault c = λ is.
 pub returns-clause-after_write_fault : goal.returns-clause-after_write_fault
 returns-clause-after_write_fault c = λ is.
     let e = c.run-ran.ensures in let f = c.flushed-done.ensures in
-    elim (write_first c.run-ran.result c.flushed-done.result f.kept e.outcome is) [
+    let flushed = was_flushed c.run-ran.result (has_write_failed c.run-ran.new.sink) _ _ (λ failed. subst IsErr (sym (e.write.1 failed)) refl) f.flushes in
+    elim (write_first c.run-ran.result c.flushed-done.result f.kept e.outcome flushed is) [
       | inl first ↦
           inl (write_answered_at_once c.args.index.now c.run-ran.new.index (bytes_given c.run-ran.new.source) (bytes_taken c.run-ran.new.sink) (bytes_taken c.flushed-done.new.writer) _ _
           c.new-source.ensures.given c.new-sink.ensures.taken f.taken (has_run_out c.run-ran.new.source) (e.after_write_fault first))
       | inr all ↦
-          inr (all_answered c.args.index.now c.run-ran.new.index (bytes_given c.run-ran.new.source) (bytes_taken c.run-ran.new.sink) (bytes_taken c.flushed-done.new.writer) _ _
-          c.new-source.ensures.given c.new-sink.ensures.taken f.taken all)
+          inr (
+            all.0,
+            all_answered c.args.index.now c.run-ran.new.index (bytes_given c.run-ran.new.source) (bytes_taken c.run-ran.new.sink) (bytes_taken c.flushed-done.new.writer) _ _
+                c.new-source.ensures.given c.new-sink.ensures.taken f.taken all.1,
+          )
     ]
