@@ -28,6 +28,13 @@ class Span(ctypes.Structure):
                 ("to_key", ctypes.c_char_p), ("to_len", ctypes.c_size_t)]
 
 
+class Hint(ctypes.Structure):
+    _fields_ = [("first", ctypes.c_size_t), ("last", ctypes.c_size_t)]
+
+
+HINTS = []  # some of those that walks were given
+
+
 def nodes_of(keys):
     """How many nodes of each kind the tree of these keys has: one for each front that neighbours share at most."""
     keys, fronts = sorted(keys), set()
@@ -221,6 +228,15 @@ class Beside:
         was = self.model.pairs.pop(key, None)
         return (code, word.value), (NOT_FOUND if was is None else DONE, was if self.kind == "words" and was is not None else UNTOLD)
 
+    def pop(self):
+        if self.kind == "bytes" or self.rng.random() < 0.5:
+            return self.remove()
+        is_back, word, refused = self.rng.random() < 0.5, ctypes.c_uint64(UNTOLD), self.code(True)
+        code = self.call("pop", ctypes.c_bool(is_back), ctypes.byref(word))
+        if refused is not None or not self.model.pairs:
+            return (code, word.value), (NOT_FOUND if refused is None else refused, UNTOLD)
+        return (code, word.value), (DONE, self.model.pairs.pop((max if is_back else min)(self.model.pairs)))
+
     def remove_prefix(self):
         key, count = some_bytes(self.rng, 6)[:self.rng.randint(1, 3)], ctypes.c_size_t(UNTOLD)
         refused, got = self.code(True), (self.call("remove_prefix", *arg(key), ctypes.byref(count)), count)
@@ -306,11 +322,23 @@ class Beside:
                 self.some_key())
         return span if span[3] < 3 else (*span[:4], span[4][:rng.randint(0, 3)])
 
+    def hinted(self, name, given):
+        """A walk's name and first arguments: with a hint or without, and by one that a walk of this map or another has left
+        some calls ago, or that nobody has left."""
+        if self.kind == "bytes" or self.rng.random() < 0.3:
+            return name, given
+        low, high = self.rng.randint(0, 12), self.rng.choice([0, 2 ** 63, 2 ** 64 - 1, self.rng.randrange(2 ** 64)])
+        HINTS.append(Hint(*self.rng.choice([(0, 0), (low, 0), (low, high), (high, low)])))
+        if len(HINTS) > 8:
+            HINTS.pop(self.rng.randrange(9))
+        return f"{name}_on", given, self.rng.choice([None, *map(ctypes.byref, HINTS)])
+
     def walk(self):
         span, room, places = self.some_span(), Room(self.rng.choice([0, 3, 20, 60, 200])), self.rng.choice([0, 1, 2, 5, 20])
         pairs = (Pair * 20)(*[(777, 888)] * 20)
         given = ctypes.byref(Span(span[0], span[1], span[3], span[2], len(span[2]), span[4], len(span[4])))
-        code = self.call("walk", given, room.held, ctypes.c_size_t(room.size), pairs, ctypes.c_size_t(places), ctypes.byref(room.len))
+        code = self.call(*self.hinted("walk", given), room.held, ctypes.c_size_t(room.size), pairs, ctypes.c_size_t(places),
+                         ctypes.byref(room.len))
         got = code, *room.seen(), [(it.key_len, it.told) for it in pairs]
         if self.model is None:
             return got, (NO_MAP, *out(room.size, None, False), [(777, 888)] * 20)
@@ -324,7 +352,7 @@ class Beside:
         span, places, count = self.some_span(), self.rng.choice([0, 1, 2, 5, 20]), ctypes.c_size_t(UNTOLD)
         words = (ctypes.c_uint64 * 20)(*[UNTOLD] * 20)
         given = ctypes.byref(Span(span[0], span[1], span[3], span[2], len(span[2]), span[4], len(span[4])))
-        code = self.call("walk_words", given, words, ctypes.c_size_t(places), ctypes.byref(count))
+        code = self.call(*self.hinted("walk_words", given), words, ctypes.c_size_t(places), ctypes.byref(count))
         if self.model is None:
             return (code, count.value, words[:]), (NO_MAP, UNTOLD, [UNTOLD] * 20)
         wanted, copied, _ = self.model.walk(span, 10 ** 6, places)
@@ -436,7 +464,7 @@ class Beside:
 
     def step(self):
         """One call at random, and what is wrong with it, if anything is."""
-        name = self.rng.choice(["put"] * 8 + ["get", "get", "ends", "ends", "ends", "marked", "remove", "remove_prefix",
+        name = self.rng.choice(["put"] * 8 + ["get", "get", "ends", "ends", "ends", "marked", "remove", "pop", "remove_prefix",
                                               "take_prefix", "get_many", "append", "audit", "load", "walk", "walk", "walk_words", "room", "copy", "part", "freeze",
                                               "thaw", "thaw", "new"])
         if name == "new" and self.rng.random() < 0.9:

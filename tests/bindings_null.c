@@ -27,6 +27,8 @@ static int words(void) {
     if (pairs[0].key_len != 0 || pairs[0].word != 6 || pairs[1].key_len != 7) return 11;
     if (artmap_words_walk(&map, &all, NULL, 0, NULL, 0, &count) != ARTMAP_NO_ROOM || count != 0) return 12;
     if (artmap_words_walk_words(&map, &all, NULL, 0, NULL) != ARTMAP_NO_ROOM) return 13;
+    if (artmap_words_walk_words_on(&map, &all, NULL, NULL, 0, NULL) != ARTMAP_NO_ROOM) return 49;
+    if (artmap_words_walk_on(&map, &all, NULL, NULL, 0, NULL, 0, NULL) != ARTMAP_NO_ROOM) return 50;
     if (artmap_words_remove(&map, NULL, 0, NULL) != ARTMAP_DONE || artmap_words_len(&map) != 0) return 16;
     if (artmap_words_load(&map, NULL, 0, NULL, 0, &count) != ARTMAP_DONE || count != 0) return 17;
     if (artmap_words_remove_prefix(&map, NULL, 0, NULL) != ARTMAP_DONE) return 18;

@@ -132,6 +132,7 @@ static artmap_code call(struct maps *maps, int which, size_t *taken) {
     artmap_words_pair pairs[PLACES];
     artmap_bytes_pair lens[PLACES];
     artmap_span span = {.from = ARTMAP_FROM_KEY, .from_key = "ab", .from_len = 2}, back = {.back = true};
+    artmap_hint hint = {3, 1};
     artmap_nodes nodes;
     uint64_t many[PLACES];
     size_t len, count;
@@ -161,7 +162,7 @@ static artmap_code call(struct maps *maps, int which, size_t *taken) {
     case 25: return artmap_bytes_walk(bytes, &back, room, MOST, lens, PLACES, &count);
     case 26: return artmap_words_find(words, "aex", 3, &len, many);
     case 27: return artmap_bytes_last_with_prefix(bytes, "a", 1, room, MOST, &len, other, MOST, &count);
-    case 28: return artmap_words_walk_words(words, &back, many, PLACES, &count);
+    case 28: return artmap_words_walk_words_on(words, &back, &hint, many, PLACES, &count);
     case 29: return artmap_words_clear(words);
     case 30: return artmap_words_thaw(words);
     case 31: case 32: return append(maps, which, taken);

@@ -1,8 +1,8 @@
 /* The calls of artmap.h, each passed on to its proved export of crates/art_c. Three things are done here and nothing else:
  * a NULL becomes the address of something, a span is taken apart, and a code gets its text.
  *
- * An export has the name of its call without `artmap_`, takes a slice as a pointer that is not NULL and a length, and has
- * no name outside the library. */
+ * An export has the name of its call without `artmap_`, and where that ends in `_on`, without this, too. It takes a slice
+ * as a pointer that is not NULL and a length, and has no name outside the library. */
 #include "artmap.h"
 
 typedef uint32_t code;
@@ -112,6 +112,12 @@ artmap_code artmap_words_remove(words *map, const void *key, size_t key_len, uin
     return words_remove(map, IN(key), key_len, TOLD(word));
 }
 
+code words_pop(words *, bool, uint64_t *);
+artmap_code artmap_words_pop(words *map, bool back, uint64_t *word) {
+    uint64_t unwanted;
+    return words_pop(map, back, TOLD(word));
+}
+
 code words_find(words *, in, size_t, size_t *, uint64_t *);
 artmap_code artmap_words_find(words *map, const void *query, size_t query_len, size_t *key_len, uint64_t *word) {
     size_t no_len;
@@ -162,18 +168,28 @@ WORDS_BESIDE(last_with_prefix, last_word_with_prefix)
 WORDS_BESIDE(next, next_word)
 WORDS_BESIDE(previous, previous_word)
 
-code words_walk(words *, SPAN_WORDS, out, size_t, artmap_words_pair *, size_t, size_t *);
+code words_walk(words *, SPAN_WORDS, artmap_hint *, out, size_t, artmap_words_pair *, size_t, size_t *);
+artmap_code artmap_words_walk_on(words *map, const artmap_span *span, artmap_hint *hint, void *room, size_t room_len,
+                                 artmap_words_pair *pairs, size_t places, size_t *count) {
+    artmap_hint none = {0, 0};
+    size_t unwanted;
+    return words_walk(map, SPAN(span), hint ? hint : &none, OUT(room), room_len,
+                      pairs ? pairs : (artmap_words_pair *)&no_other_room, places, TOLD(count));
+}
 artmap_code artmap_words_walk(words *map, const artmap_span *span, void *room, size_t room_len, artmap_words_pair *pairs,
                               size_t places, size_t *count) {
-    size_t unwanted;
-    return words_walk(map, SPAN(span), OUT(room), room_len, pairs ? pairs : (artmap_words_pair *)&no_other_room, places,
-                      TOLD(count));
+    return artmap_words_walk_on(map, span, NULL, room, room_len, pairs, places, count);
 }
 
-code words_walk_words(words *, SPAN_WORDS, uint64_t *, size_t, size_t *);
-artmap_code artmap_words_walk_words(words *map, const artmap_span *span, uint64_t *told, size_t places, size_t *count) {
+code words_walk_words(words *, SPAN_WORDS, artmap_hint *, uint64_t *, size_t, size_t *);
+artmap_code artmap_words_walk_words_on(words *map, const artmap_span *span, artmap_hint *hint, uint64_t *told, size_t places,
+                                       size_t *count) {
+    artmap_hint none = {0, 0};
     size_t unwanted;
-    return words_walk_words(map, SPAN(span), PLACES(uint64_t, told), places, TOLD(count));
+    return words_walk_words(map, SPAN(span), hint ? hint : &none, PLACES(uint64_t, told), places, TOLD(count));
+}
+artmap_code artmap_words_walk_words(words *map, const artmap_span *span, uint64_t *told, size_t places, size_t *count) {
+    return artmap_words_walk_words_on(map, span, NULL, told, places, count);
 }
 
 code words_load(words *, in, size_t, const artmap_words_pair *, size_t, size_t *);

@@ -164,6 +164,10 @@ bool artmap_words_contains(artmap_words *map, const void *key, size_t key_len);
  * ARTMAP_DONE; ARTMAP_NOT_FOUND; ARTMAP_NO_MEMORY: a node was to become a smaller one. */
 artmap_code artmap_words_remove(artmap_words *map, const void *key, size_t key_len, uint64_t *word);
 
+/* Takes the pair with the least key out, or with `back` the one with the greatest, and tells its word.
+ * ARTMAP_DONE; ARTMAP_NOT_FOUND; ARTMAP_NO_MEMORY: a node was to become a smaller one. */
+artmap_code artmap_words_pop(artmap_words *map, bool back, uint64_t *word);
+
 /* Takes out all pairs whose keys begin with a prefix, and tells how many. An empty prefix begins every key.
  * ARTMAP_DONE, also where no key begins with it; ARTMAP_NO_MEMORY: all pairs stay, and no number is told. */
 artmap_code artmap_words_remove_prefix(artmap_words *map, const void *prefix, size_t prefix_len, size_t *count);
@@ -225,6 +229,20 @@ artmap_code artmap_words_walk(artmap_words *map, const artmap_span *span, void *
 /* The same of the words alone. With no place it tells ARTMAP_NO_ROOM where the span has a pair. */
 artmap_code artmap_words_walk_words(artmap_words *map, const artmap_span *span, uint64_t *words, size_t places,
                                     size_t *count);
+
+/* Where a walk goes on: {0} at first, and what the call before has left in it from then on. */
+typedef struct artmap_hint {
+    size_t first;
+    size_t last;
+} artmap_hint;
+
+/* The same calls for a walk that takes many of them, each with a span that goes on where the last one ended. By the hint a
+ * call finds its place in the tree at once. It is checked: whatever stands in it, and whatever was changed since, each call
+ * answers as without one, and only its time is another. */
+artmap_code artmap_words_walk_on(artmap_words *map, const artmap_span *span, artmap_hint *hint, void *room, size_t room_len,
+                                 artmap_words_pair *pairs, size_t places, size_t *count);
+artmap_code artmap_words_walk_words_on(artmap_words *map, const artmap_span *span, artmap_hint *hint, uint64_t *words,
+                                       size_t places, size_t *count);
 
 /* Puts in `count` pairs, whose keys stand in `keys` end to end and ascend: each as a put would, so a stored key gets the
  * new word. It stops at the first that is refused: the pairs before it are in the map, and no other is. `taken` tells how

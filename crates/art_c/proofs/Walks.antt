@@ -1,6 +1,7 @@
 -- A walk that copies pairs out, as far as it has come.
-use Rattle.std.proofs.Common.{◌≡◌, ℕ, ◌+◌, ◌<◌, ◌≤◌, ◌-◌, suc, Bool, true, false, List, [], ◌∷◌, ◌++◌, length, take, drop, Option, refl, sym, ap, ap₂, subst, ◌∙◌, append_assoc, arith}
+use Rattle.std.proofs.Common.{◌≡◌, ◌==◌, ℕ, ◌+◌, ◌<◌, ◌≤◌, ◌-◌, zero, suc, Bool, true, false, not, List, [], ◌∷◌, ◌++◌, length, take, drop, Option, refl, sym, ap, ap₂, subst, ◌∙◌, append_assoc, arith, inl, inr}
 use Rattle.std.specs.Prelude.{IsTrue, if◌then◌else◌}
+use Rattle.std.proofs.lemmas.Bool.Decides.{eqb_tells}
 use Rattle.std.proofs.Math.ListN.{set}
 use Rattle.std.proofs.lemmas.List.{length-append, length-drop, length-map, length-reverse, map-append}
 use Rattle.art_arena.specs.declared.ends.End.{End}
@@ -9,7 +10,7 @@ use Rattle.art_map.proofs.Common.{from_end, first_item}
 use Rattle.art_c.specs.Copies.{written}
 use Rattle.art_c.specs.Handles.{Pairs}
 use Rattle.art_c.specs.Layouts.{end_to_end, items_of_pairs}
-use Rattle.art_c.specs.Spans.{Reach, goes_to, met_of, while_so}
+use Rattle.art_c.specs.Spans.{Reach, goes_on, goes_to, met_of, while_so}
 use Rattle.art_c.specs.Walks.{AreTaken, AreWordsTaken, Fit, NoneElseFits, ManyRooms, many_rooms, words_of_pairs}
 use Rattle.art_c.proofs.Layouts.{bytes-more, items-more, set-more, written-more}
 
@@ -87,6 +88,13 @@ module _ {V I : Type 0} (text : V → List ℕ) (item : List ℕ → V → I) wh
   all-copied all x {left} c other is full =
       (c.given, left, c.are, is, c.fit, full, λ i. record { bytes = c.bytes_are i; items = c.items_are i; count = c.count_is i })
 
+-- without a prefix a walk goes on to each key
+goes-on : (to : ℕ) → to ≤ 2 → (prefix key : List ℕ) → goes_on to prefix key ≡ true
+goes-on zero low prefix key = refl
+goes-on (suc zero) low prefix key = refl
+goes-on (suc (suc zero)) low prefix key = refl
+goes-on (suc (suc (suc n))) low prefix key = absurd (omega (arith, low))
+
 module _ {V : Type 0} where
   -- each step leaves fewer
   same-length : (end : End) (ps : Pairs V) → length (from_end end ps) ≡ length ps
@@ -108,6 +116,17 @@ module _ {V : Type 0} where
       → IsTrue (goes_to r p) → met_of r old ≡ p ∷ met_of r new
   met-next r p old new is so =
       ap (while_so (goes_to r)) is ∙ met-cons r p (from_end r.end new) (goes_to r p) refl so
+
+  -- without a prefix it goes on to all
+  while-all : (f : List ℕ × V → Bool) → ((p : List ℕ × V) → f p ≡ true) → (ps : Pairs V) → while_so f ps ≡ ps
+  while-all f all [] = refl
+  while-all f all (p ∷ ps) = rw (all p) (ap (λ qs. p ∷ qs) (while-all f all ps))
+
+  pub met-all : (r : Reach) → r.to ≤ 2 → (ps : Pairs V) → length (met_of r ps) ≡ length ps
+  met-all r low ps = ap length (while-all (goes_to r) (λ p. goes-on r.to low r.to_key p.0) (from_end r.end ps)) ∙ same-length r.end ps
+
+pub not-zero : (n : ℕ) → (suc n == 0) ≡ false
+not-zero n = elim (eqb_tells (suc n) 0) [ inl same ↦ absurd (omega (arith, same.1)) | inr other ↦ other.0 ]
 
 -- a walk that copies words out
 module _ (all : Pairs ℕ) (x : List ℕ) where
@@ -156,3 +175,13 @@ module _ (all : Pairs ℕ) (x : List ℕ) where
     -- or where none is left
     pub words_done : left ≡ [] → AreWordsTaken all x count false words
     words_done is = (c.given, [], c.are ∙ ap (λ z. c.given ++ z) is, c.fit, c.words_are, c.count_is, refl)
+
+    -- by whether another is left
+    pub words_ended : (more : Bool) → more ≡ not (length left == 0) → (count < length words → ⊥) → AreWordsTaken all x count more words
+    words_ended more is full = here left refl
+      where
+        here : (l : Pairs ℕ) → left ≡ l → AreWordsTaken all x count more words
+        here [] e = subst (λ b. AreWordsTaken all x count b words) (sym (is ∙ ap (λ (ps : Pairs ℕ). not (length ps == 0)) e)) (words_done e)
+        here (p ∷ rest) e =
+            subst (λ b. AreWordsTaken all x count b words) (sym (is ∙ ap (λ (ps : Pairs ℕ). not (length ps == 0)) e ∙ ap not (not-zero (length rest))))
+            (words_full p rest e (omega (arith, full, c.count_is, c.fit, same-words)))

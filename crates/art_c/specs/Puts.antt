@@ -1,11 +1,13 @@
 -- What becomes of a map into which a pair is put, or from which pairs are taken.
-use Rattle.std.specs.Prelude.{◌≡◌, ℕ, ◌+◌, List, [], length, Option, Some, None}
+use Rattle.std.specs.Prelude.{◌≡◌, ℕ, ◌+◌, List, [], length, Option, Some, None, Result, Ok, Err}
 use Rattle.art_nodes.specs.declared.kind.NodeType.TheVariants.{Leaf}
 use Rattle.art_arena.specs.arena.Arena.{HasRoom, HasRoomOf, KeepsRoomOf, UsesRoom}
 use Rattle.art_arena.specs.arena.Shapes.{key_of}
+use Rattle.art_arena.specs.declared.ends.End.{End}
 use Rattle.art_arena.specs.tree.Shrinks.{Shrinks}
 use Rattle.art_arena.specs.tree.Tenants.{with_front, without_front}
 use Rattle.art_operations.specs.KeyedLists.{HasKey, without_key}
+use Rattle.art_operations.specs.Pairs.{IsAtEnd, ShrinksAtEnd}
 use Rattle.art_map.specs.PrefixBlocks.{ShrinksAtCut}
 use Rattle.art_c.specs.Calls.{GoesIn, IsPutRefused, Nothing, stored_value, whole}
 use Rattle.art_c.specs.Handles.{Map}
@@ -61,6 +63,22 @@ IsWordRemoved key old x NoMemory new y =
     HasKey (key_of whole) key old.pairs × Shrinks (key_of whole) old.pairs key × (new.pairs ≡ old.pairs) × (y ≡ x)
     × RemovalLacksRoom old new
 IsWordRemoved key old x _ new y = ⊥
+
+-- The pair at this end was taken out, or there was none, or there was no memory for a node that becomes a smaller one.
+abbrev pub IsEndTaken : {E : Type 0} → End → Map ℕ → Result (Option (List ℕ × ℕ)) E → Map ℕ → Type 0
+IsEndTaken end old (Ok (Some p)) new = IsAtEnd end p new.pairs old.pairs × RemovalLeavesRoom old new
+IsEndTaken end old (Ok None) new = (old.pairs ≡ []) × (new.pairs ≡ []) × KeepsRoomOf old.nodes new.nodes
+IsEndTaken end old (Err e) new = ShrinksAtEnd whole end old.pairs × (new.pairs ≡ old.pairs) × RemovalLacksRoom old new
+
+-- the same, and its word is told
+abbrev pub IsWordPopped : End → Map ℕ → ℕ → Code → Map ℕ → ℕ → Type 0
+IsWordPopped end old x Done new y =
+    (key : List ℕ) × IsAtEnd end (key, y) new.pairs old.pairs × RemovalLeavesRoom old new
+IsWordPopped end old x NotFound new y =
+    (old.pairs ≡ []) × (new.pairs ≡ []) × (y ≡ x) × KeepsRoomOf old.nodes new.nodes
+IsWordPopped end old x NoMemory new y =
+    ShrinksAtEnd whole end old.pairs × (new.pairs ≡ old.pairs) × (y ≡ x) × RemovalLacksRoom old new
+IsWordPopped end old x _ new y = ⊥
 
 abbrev pub IsRemoved : List ℕ → Map (List ℕ) → Nothing → Code → Map (List ℕ) → Nothing → Type 0
 IsRemoved key old _ Done new _ =

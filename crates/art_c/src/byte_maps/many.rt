@@ -14,6 +14,7 @@ use crate::calls::walks::{self, Span};
 use crate::code::Code;
 use crate::handle::{Handle, Kept, Store, changing, reading};
 use crate::value::BytesPair;
+use art_map::RunHint;
 use std::alloc::Global;
 
 /// Copies out as many pairs of a span as go in.
@@ -35,7 +36,8 @@ pub extern "C" fn bytes_walk(
         result (store_of handle.new) (many_rooms room.new pairs.new count.new) }
 {
     let span = Span::new(back, from, from_key, to, to_key);
-    reading!(alloc, handle, Bytes not Words, |map| walks::walk(map, span, room, pairs, count))
+    let mut hint = RunHint::default();
+    reading!(alloc, handle, Bytes not Words, |map| walks::walk(map, span, &mut hint, room, pairs, count))
 }
 
 /// Puts in the pairs of a buffer, whose keys ascend, up to the first that is refused.

@@ -5,7 +5,9 @@ ghost use Rattle.art_operations.specs.Pairs.{CanPut, with_pair_put};
 ghost use Rattle.art_c.specs.Calls.{GoesIn, IsPutRefused, stored_value, whole};
 ghost use Rattle.art_c.specs.NodeRoom.{NeedsMemory, PutLeavesRoom};
 ghost use Rattle.art_c.specs.Placed.{IsLong};
-ghost use Rattle.art_c.specs.Puts.{IsBytesPut, IsPrefixRemoved, IsRemoved, IsWordPut, IsWordRemoved};
+ghost use Rattle.art_c.specs.Puts.{IsBytesPut, IsEndTaken, IsPrefixRemoved, IsRemoved, IsWordPopped, IsWordPut};
+ghost use Rattle.art_c.specs.Puts.{IsWordRemoved};
+ghost use Rattle.art_c.specs.Spans.{walk_end};
 ghost use Rattle.art_c.specs.declared.code.Code.TheVariants.{NoMemory};
 
 use crate::bytes::Bytes;
@@ -14,7 +16,7 @@ use crate::handle::Map;
 use crate::value::{BytesPair, Value, WordsPair};
 use art_bytes::SliceKey;
 use art_operations::InsertPoint;
-use std::alloc::Global;
+use std::alloc::{AllocError, Global};
 
 /// Puts in the value that is told so. Returns the value that the key had. All memory is taken before anything is
 /// changed, and none where there is a conflict. For a key that is stored none is taken but the value's.
@@ -119,6 +121,30 @@ pub(crate) fn remove_word(map: &mut Map<u64>, key: &[u8], word: &mut u64) -> Cod
     match map.remove(&SliceKey(key)) {
         Ok(Some(was)) => {
             *word = was;
+            Code::Done
+        }
+        Ok(None) => Code::NotFound,
+        Err(_) => Code::NoMemory,
+    }
+}
+
+/// Takes out the pair at an end.
+fn take_end(map: &mut Map<u64>, back: bool) -> Result<Option<(Bytes, u64)>, AllocError>
+    ensures { IsEndTaken (walk_end back) map.old result map.new }
+{
+    if back {
+        map.pop_last()
+    } else {
+        map.pop_first()
+    }
+}
+
+pub(crate) fn pop_word(map: &mut Map<u64>, back: bool, word: &mut u64) -> Code
+    ensures { IsWordPopped (walk_end back) map.old word.old result map.new word.new }
+{
+    match take_end(map, back) {
+        Ok(Some((_key, taken))) => {
+            *word = taken;
             Code::Done
         }
         Ok(None) => Code::NotFound,

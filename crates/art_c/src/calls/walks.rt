@@ -1,5 +1,5 @@
 //! Many pairs are copied out in order.
-ghost use Rattle.std.specs.Prelude.{◌≡◌, ◌+◌, ◌≤◌, ◌↔◌, IsTrue, length, MatchOption, option_map};
+ghost use Rattle.std.specs.Prelude.{◌≡◌, ◌==◌, ◌+◌, ◌≤◌, ◌↔◌, IsTrue, length, MatchOption, not, option_map};
 ghost use Rattle.std.specs.Map.Iter.{deref_pair};
 ghost use Rattle.std.specs.Range.Bound.{bound_map};
 ghost use Rattle.art_map.specs.Ranges.{pairs_between};
@@ -17,11 +17,12 @@ use crate::many::{tell_first, write_pair};
 use crate::value::Value;
 use art_arena::End;
 use art_bytes::{AsBytes, SliceKey};
-use art_walks::{Range, bounds_are_valid};
+use art_map::{LeafRun, RunHint};
+use art_walks::bounds_are_valid;
 use std::ops::Bound;
 
 /// Pairs of a map that are still to come.
-type Pairs<'m, V> = Range<'m, Bytes, V, 16>;
+type Pairs<'m, V> = LeafRun<'m, Bytes, V, 16>;
 
 /// Which pairs a walk meets, as `artmap_span` has it: from which end, where it begins and where it ends.
 #[derive(Clone, Copy)]
@@ -92,6 +93,7 @@ fn between<'m, V>(
     map: &'m Map<V>,
     start: Bound<&SliceKey<'_>>,
     end: Bound<&SliceKey<'_>>,
+    hint: RunHint,
 ) -> Option<Pairs<'m, V>>
     ensures { let lower = bound_map (λ it. it.now.0.now) start.entry in
         let upper = bound_map (λ it. it.now.0.now) end.entry in
@@ -99,25 +101,25 @@ fn between<'m, V>(
         (λ it. AreValidKeyBounds lower upper × (it ≡ pairs_between whole lower upper map.now.pairs)) }
 {
     if bounds_are_valid(start, end) {
-        Some(map.range(start, end))
+        Some(map.range_run(start, end, hint))
     } else {
         None
     }
 }
 
 /// The pairs of a span, but for where its prefix ends it, or nothing where it ends before it begins.
-fn reached_in<'m, V>(map: &'m Map<V>, span: Span<'_>) -> Option<Pairs<'m, V>>
+fn reached_in<'m, V>(map: &'m Map<V>, span: Span<'_>, hint: RunHint) -> Option<Pairs<'m, V>>
     ensures { MatchOption result (IsForward (reach_of span.entry) → ⊥)
         (λ it. IsForward (reach_of span.entry) × (it ≡ reached_in (reach_of span.entry) map.now.pairs)) }
 {
     let (from_key, to_key) = (SliceKey(span.from_key), SliceKey(span.to_key));
     if is_block(span.from, span.to) {
-        return Some(map.prefix(&to_key));
+        return Some(map.prefix_run(&to_key));
     }
     let (from, to) = (bound_of(span.from, &from_key), stop_of(span.to, &to_key));
     match span.end {
-        End::First => between(map, from, to),
-        End::Last => between(map, to, from),
+        End::First => between(map, from, to, hint),
+        End::Last => between(map, to, from, hint),
     }
 }
 
@@ -132,6 +134,7 @@ fn goes_on(to: u32, prefix: &[u8], key: &[u8]) -> bool
 }
 
 /// The next pair of a walk, if it goes on.
+#[inline(always)]
 fn next_pair<'m, V>(pairs: &mut Pairs<'m, V>, span: Span<'_>) -> Option<(&'m Bytes, &'m V)>
     ensures { TakesNext (reach_of span.entry) pairs.old (option_map deref_pair result) pairs.new }
 {
@@ -154,18 +157,19 @@ fn fits(key: &[u8], text: &[u8], room: usize) -> bool
     key.len() <= room && text.len() <= room - key.len()
 }
 
-/// Copies pairs out while they go in. Tells their number, and the pair that does not go in, if there is one.
+/// Copies pairs out while they go in. Tells their number, and the pair that does not go in, if there is one: it is the
+/// one that was taken last.
 fn copy_out<'m, V: Value>(
-    mut pairs: Pairs<'m, V>,
+    pairs: &mut Pairs<'m, V>,
     span: Span<'_>,
     room: &mut [u8],
     items: &mut [V::Item],
 ) -> (usize, Option<(&'m Bytes, &'m V)>)
-    ensures { AreTaken V.text_of V.item_of (met_of (reach_of span.entry) pairs.entry) (many_rooms room.old items.old 0)
+    ensures { AreTaken V.text_of V.item_of (met_of (reach_of span.entry) pairs.old) (many_rooms room.old items.old 0)
         (option_map deref_pair result.1) (many_rooms room.new items.new result.0) }
 {
     let (mut at, mut count) = (0, 0);
-    while let Some((key, value)) = next_pair(&mut pairs, span) {
+    while let Some((key, value)) = next_pair(pairs, span) {
         let (key_bytes, text) = (key.as_bytes(), value.text());
         if count == items.len() || !fits(key_bytes, text, room.len() - at) {
             return (count, Some((key, value)));
@@ -178,25 +182,39 @@ fn copy_out<'m, V: Value>(
     (count, None)
 }
 
+/// Whether a walk goes on to another pair. Without a prefix no leaf is read for that.
+#[inline(always)]
+fn goes_further<V>(pairs: &mut Pairs<'_, V>, span: Span<'_>) -> bool
+    ensures { result ≡ not (length (met_of (reach_of span.entry) pairs.old) == 0) }
+{
+    if span.to <= 2 {
+        return !pairs.is_empty();
+    }
+    match next_pair(pairs, span) {
+        Some(_pair) => true,
+        None => false,
+    }
+}
+
 /// Copies words out while there is a place. Tells their number, and whether another is left.
-#[tactic(auto, using(crate::proofs::Walks::words_done))]
-fn words_out<'m>(mut pairs: Pairs<'m, u64>, span: Span<'_>, words: &mut [u64]) -> (usize, bool)
-    ensures { AreWordsTaken (met_of (reach_of span.entry) pairs.entry) words.old result.0 result.1 words.new }
+fn words_out(pairs: &mut Pairs<'_, u64>, span: Span<'_>, words: &mut [u64]) -> (usize, bool)
+    ensures { AreWordsTaken (met_of (reach_of span.entry) pairs.old) words.old result.0 result.1 words.new }
 {
     let mut count = 0;
-    while let Some((_key, word)) = next_pair(&mut pairs, span) {
-        if count == words.len() {
-            return (count, true);
+    while count < words.len() {
+        match next_pair(pairs, span) {
+            Some((_key, word)) => words[count] = *word,
+            None => return (count, false),
         }
-        words[count] = *word;
         count += 1;
     }
-    (count, false)
+    (count, goes_further(pairs, span))
 }
 
 pub(crate) fn walk<V: Value>(
     map: &Map<V>,
     span: Span<'_>,
+    hint: &mut RunHint,
     room: &mut [u8],
     items: &mut [V::Item],
     count: &mut usize,
@@ -204,11 +222,12 @@ pub(crate) fn walk<V: Value>(
     ensures { IsWalked V.text_of V.item_of (reach_of span.entry) map.now.pairs (many_rooms room.old items.old count.old)
         result (many_rooms room.new items.new count.new) }
 {
-    let Some(pairs) = reached_in(map, span) else {
+    let Some(mut pairs) = reached_in(map, span, *hint) else {
         *count = 0;
         return Code::NotFound;
     };
-    let (copied, other) = copy_out(pairs, span, room, items);
+    let (copied, other) = copy_out(&mut pairs, span, room, items);
+    *hint = pairs.hint();
     *count = copied;
     match other {
         None => {
@@ -243,16 +262,18 @@ pub(super) fn words_code(count: usize, is_more: bool) -> Code
 pub(crate) fn walk_words(
     map: &Map<u64>,
     span: Span<'_>,
+    hint: &mut RunHint,
     words: &mut [u64],
     count: &mut usize,
 ) -> Code
     ensures { IsWordsWalked (reach_of span.entry) map.now.pairs (words.old, count.old) result (words.new, count.new) }
 {
-    let Some(pairs) = reached_in(map, span) else {
+    let Some(mut pairs) = reached_in(map, span, *hint) else {
         *count = 0;
         return Code::NotFound;
     };
-    let (copied, is_more) = words_out(pairs, span, words);
+    let (copied, is_more) = words_out(&mut pairs, span, words);
+    *hint = pairs.hint();
     *count = copied;
     words_code(copied, is_more)
 }

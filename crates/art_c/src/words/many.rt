@@ -15,9 +15,10 @@ use crate::calls::{gets, loads, prefixes};
 use crate::code::Code;
 use crate::handle::{Handle, Kept, Store, changing, reading};
 use crate::value::WordsPair;
+use art_map::RunHint;
 use std::alloc::Global;
 
-/// Copies out as many pairs of a span as go in.
+/// Copies out as many pairs of a span as go in. A hint of where they begin and end changes nothing but the cost.
 #[unsafe(no_mangle)]
 pub extern "C" fn words_walk(
     alloc: Global,
@@ -27,6 +28,7 @@ pub extern "C" fn words_walk(
     from_key: &[u8],
     to: u32,
     to_key: &[u8],
+    hint: &mut RunHint,
     room: &mut [u8],
     pairs: &mut [WordsPair],
     count: &mut usize,
@@ -36,10 +38,11 @@ pub extern "C" fn words_walk(
         result (store_of handle.new) (many_rooms room.new pairs.new count.new) }
 {
     let span = Span::new(back, from, from_key, to, to_key);
-    reading!(alloc, handle, Words not Bytes, |map| walks::walk(map, span, room, pairs, count))
+    reading!(alloc, handle, Words not Bytes, |map| walks::walk(map, span, hint, room, pairs, count))
 }
 
-/// Copies out as many words of a span as there are places.
+/// Copies out as many words of a span as there are places. A hint of where they begin and end changes nothing but the
+/// cost.
 #[unsafe(no_mangle)]
 pub extern "C" fn words_walk_words(
     alloc: Global,
@@ -49,6 +52,7 @@ pub extern "C" fn words_walk_words(
     from_key: &[u8],
     to: u32,
     to_key: &[u8],
+    hint: &mut RunHint,
     words: &mut [u64],
     count: &mut usize,
 ) -> u32
@@ -57,7 +61,7 @@ pub extern "C" fn words_walk_words(
         result (store_of handle.new) (words.new, count.new) }
 {
     let span = Span::new(back, from, from_key, to, to_key);
-    reading!(alloc, handle, Words not Bytes, |map| walks::walk_words(map, span, words, count))
+    reading!(alloc, handle, Words not Bytes, |map| walks::walk_words(map, span, hint, words, count))
 }
 
 /// Puts in the pairs of a buffer, whose keys ascend, up to the first that is refused.

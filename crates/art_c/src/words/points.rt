@@ -5,7 +5,8 @@ ghost use Rattle.std.specs.Prelude.{◌≡◌};
 ghost use Rattle.art_c.specs.Answers.{Answers, Changes, OnlyReads};
 ghost use Rattle.art_c.specs.Calls.{is_stored, IsWordRead};
 ghost use Rattle.art_c.specs.Handles.{pairs_or_none, store_of, word_map_in, word_map_of};
-ghost use Rattle.art_c.specs.Puts.{IsWordPut, IsWordRemoved};
+ghost use Rattle.art_c.specs.Puts.{IsWordPopped, IsWordPut, IsWordRemoved};
+ghost use Rattle.art_c.specs.Spans.{walk_end};
 
 use crate::calls::changes;
 use crate::code::Code;
@@ -72,4 +73,13 @@ pub extern "C" fn words_remove(
         result (store_of handle.new) word.new }
 {
     changing!(alloc, handle, Words not Bytes, |map| changes::remove_word(map, key, word))
+}
+
+/// Takes out the pair with the least key, or the greatest, and tells its word.
+#[unsafe(no_mangle)]
+pub extern "C" fn words_pop(alloc: Global, handle: &mut Handle, back: bool, word: &mut u64) -> u32
+    ensures { Answers word_map_in (Changes (IsWordPopped (walk_end back))) (store_of handle.old) word.old
+        result (store_of handle.new) word.new }
+{
+    changing!(alloc, handle, Words not Bytes, |map| changes::pop_word(map, back, word))
 }

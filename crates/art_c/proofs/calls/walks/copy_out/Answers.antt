@@ -11,7 +11,7 @@ use Rattle.art_c.proofs.calls.walks.copy_out.Goals.{then-count-items-via-then-co
 pub returns-then-count-items : goal.returns-then-count-items
 returns-then-count-items g c =
     let text = g.V.Value.text_of in let item = g.V.Value.item_of in let r = reach_of c.args.span in
-    let all = met_of r c.args.pairs in let x = many_rooms c.args.room.now c.args.items.now 0 in
+    let all = met_of r c.args.pairs.now in let x = many_rooms c.args.room.now c.args.items.now 0 in
     let p : List ℕ × g.row.V.Denot = (c.in-Some.key.now, c.in-Some.value.now) in
     let met = met-next r p c.loop-key.pairs c.next_pair.new.pairs c.in-Some.ensures.0 c.in-Some.ensures.1 in
     all-copied text item all x c.loop-key.invariant (Some p) (sym (ap first_item met))
@@ -29,7 +29,7 @@ loop-key-smaller g c = fewer c.args.span.end (c.in-Some.key.now, c.in-Some.value
 pub loop-key-preserved : goal.loop-key-preserved
 loop-key-preserved g c =
     let text = g.V.Value.text_of in let item = g.V.Value.item_of in let r = reach_of c.args.span in
-    let all = met_of r c.args.pairs in let x = many_rooms c.args.room.now c.args.items.now 0 in
+    let all = met_of r c.args.pairs.now in let x = many_rooms c.args.room.now c.args.items.now 0 in
     let v = c.in-Some.value.now in let q : List ℕ × g.row.V.Denot = (c.in-Some.key.now, v) in let rest = met_of r c.next_pair.new.pairs in
     let p : List ℕ × g.row.V.Denot = (c.as_bytes-key_bytes.result.now, v) in
     let met = met-next r q c.loop-key.pairs c.next_pair.new.pairs c.in-Some.ensures.0 c.in-Some.ensures.1

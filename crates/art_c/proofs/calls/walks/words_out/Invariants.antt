@@ -3,9 +3,9 @@ use Rattle.art_c.specs.Spans.{met_of, reach_of}
 use Rattle.art_c.proofs.Walks.{WordsOut}
 use Rattle.art_c.proofs.calls.walks.words_out.Given as goal
 
-abbrev pub invariant-loop-key : goal.invariant-loop-key
-invariant-loop-key l =
+abbrev pub invariant-loop-count : goal.invariant-loop-count
+invariant-loop-count l =
     WordsOut (met_of (reach_of l.fn.span) l.fn.pairs) l.fn.words (met_of (reach_of l.fn.span) l.pairs) l.words l.count
 
-abbrev pub decreases-loop-key : goal.decreases-loop-key
-decreases-loop-key l = length l.pairs
+abbrev pub decreases-loop-count : goal.decreases-loop-count
+decreases-loop-count l = length l.pairs
