@@ -26,10 +26,10 @@
 //! more:
 //!
 //! - *One slot, one word.* The words of a tree are the indexes of the full slots, each once. What changes one changes the
-//!   other, before code of a caller's runs (`store`, `take`, `take_at`, `take_all` and what `bulk.rs` has): a pair lies in its
-//!   slot before the tree has its word, and `Apart` or `Parted` free the slots that the tree has not, also where a panic goes
-//!   on. A key that waits to go in has its slot, and the run its bytes: nothing of a caller's runs between the two. A run
-//!   goes in only where the tree itself has no key that is not below it, so that no word is replaced unseen.
+//!   other, before code of a caller's runs (`store`, `take`, `take_at`, `pop`, `take_all` and what `bulk.rs` has): a pair
+//!   lies in its slot before the tree has its word, and `Apart` or `Parted` free the slots that the tree has not, also where
+//!   a panic goes on. A key that waits to go in has its slot, and the run its bytes: nothing of a caller's runs between the
+//!   two. A run goes in only where the tree itself has no key that is not below it, so that no word is replaced unseen.
 //! - *Each pair once.* A walk goes on from the pair that it lent last, by the word that the tree has for the bytes told. Where
 //!   a key tells others, that word is another one, and the walk panics.
 use crate::Key;
@@ -37,7 +37,7 @@ use crate::error::{AllocError, or_end};
 use crate::slab::{Slab, Slot};
 use crate::walk::{Limits, Walk, Way};
 pub(crate) use span::{From, Put, Stop, To};
-use std::cell::UnsafeCell;
+use std::cell::{Cell, UnsafeCell};
 use std::ffi::c_void;
 use std::marker::PhantomData;
 use std::panic::{RefUnwindSafe, UnwindSafe};
@@ -62,6 +62,24 @@ struct RawSpan {
     to_len: usize,
 }
 
+/// `artmap_hint` of the header: where a walk goes on, if nothing was changed there.
+#[repr(C)]
+#[derive(Clone, Copy)]
+pub(crate) struct Hint {
+    first: usize,
+    last: usize,
+}
+
+impl Hint {
+    /// That of a walk which begins.
+    pub(crate) const NONE: Hint = Hint { first: 0, last: 0 };
+
+    /// Where a walk of this way ends.
+    fn far(&mut self, way: Way) -> &mut usize {
+        if way == Way::Up { &mut self.last } else { &mut self.first }
+    }
+}
+
 /// `artmap_words_pair` of the header: how long a key is, and its word.
 #[repr(C)]
 #[derive(Clone, Copy)]
@@ -79,6 +97,7 @@ unsafe extern "C" {
     fn artmap_words_put(map: *mut Handle, key: *const u8, key_len: usize, word: u64, old: *mut u64) -> u32;
     fn artmap_words_get(map: *mut Handle, key: *const u8, key_len: usize, word: *mut u64) -> u32;
     fn artmap_words_remove(map: *mut Handle, key: *const u8, key_len: usize, word: *mut u64) -> u32;
+    fn artmap_words_pop(map: *mut Handle, back: bool, word: *mut u64) -> u32;
     fn artmap_words_remove_prefix(map: *mut Handle, prefix: *const u8, prefix_len: usize, count: *mut usize) -> u32;
     fn artmap_words_find(map: *mut Handle, query: *const u8, query_len: usize, key_len: *mut usize, word: *mut u64) -> u32;
     fn artmap_words_find_marked(map: *mut Handle, query: *const u8, query_len: usize, mark: u8, key_len: *mut usize,
@@ -88,8 +107,8 @@ unsafe extern "C" {
     fn artmap_words_first_word_with_prefix(map: *mut Handle, prefix: *const u8, prefix_len: usize, word: *mut u64) -> u32;
     fn artmap_words_first_with_prefix(map: *mut Handle, prefix: *const u8, prefix_len: usize, room: *mut u8, room_len: usize,
         key_len: *mut usize, word: *mut u64) -> u32;
-    fn artmap_words_walk_words(map: *mut Handle, span: *const RawSpan, words: *mut u64, places: usize, count: *mut usize)
-        -> u32;
+    fn artmap_words_walk_words_on(map: *mut Handle, span: *const RawSpan, hint: *mut Hint, words: *mut u64, places: usize,
+        count: *mut usize) -> u32;
     fn artmap_words_load(map: *mut Handle, keys: *const u8, keys_len: usize, pairs: *const Pair, count: usize,
         taken: *mut usize) -> u32;
     fn artmap_words_clone(map: *mut Handle, to: *mut Handle) -> u32;
@@ -135,6 +154,8 @@ fn not_told(code: u32) -> ! {
 /// A map from byte strings to words, made by its first pair. Without one the handle has no map, and reads as an empty one.
 pub(crate) struct Words {
     handle: UnsafeCell<Handle>,
+    /// Where its first pair and its last were found, to begin with.
+    ends: Cell<Hint>,
 }
 
 // SAFETY: rules 1, 2: a handle may go to another thread between two calls. Clause of `artmap_words_new`: IsNew, of a handle
@@ -148,7 +169,8 @@ impl RefUnwindSafe for Words {}
 impl Words {
     /// Needs no memory.
     pub(crate) const fn new() -> Words {
-        Words { handle: UnsafeCell::new(Handle { held: ptr::null_mut(), is_made: false }) }
+        let handle = UnsafeCell::new(Handle { held: ptr::null_mut(), is_made: false });
+        Words { handle, ends: Cell::new(Hint::NONE) }
     }
 
     #[cfg(test)]
@@ -295,6 +317,18 @@ impl Words {
         }
     }
 
+    /// Takes out the pair with the least key, or with the greatest, and tells its word.
+    pub(crate) fn pop(&mut self, way: Way) -> Result<Option<u64>, AllocError> {
+        let mut word = 0;
+        // SAFETY: rules 1 to 4; `word` is a local. Clause of `artmap_words_pop`: IsWordPopped.
+        match unsafe { artmap_words_pop(self.handle.get(), way == Way::Down, &raw mut word) } {
+            DONE => Ok(Some(word)),
+            NOT_FOUND | NO_MAP => Ok(None),
+            NO_MEMORY => Err(AllocError),
+            code => not_told(code),
+        }
+    }
+
     /// Takes out all pairs whose keys begin with these bytes, or none for want of memory.
     pub(crate) fn remove_prefix(&mut self, prefix: &[u8]) -> Result<(), AllocError> {
         let (at, mut count) = (self.handle.get(), 0);
@@ -310,6 +344,20 @@ impl Words {
     /// whether others are left.
     #[inline]
     pub(crate) fn walk(&self, way: Way, from: From<'_>, to: To<'_>, words: &mut [u64]) -> (usize, bool) {
+        let mut none = Hint::NONE;
+        self.walk_on(way, from, to, &mut none, words)
+    }
+
+    /// The same, for a walk of several calls: by the hint that the last one has left it finds its place at once.
+    #[inline]
+    pub(crate) fn walk_on(
+        &self,
+        way: Way,
+        from: From<'_>,
+        to: To<'_>,
+        hint: &mut Hint,
+        words: &mut [u64],
+    ) -> (usize, bool) {
         let (from, from_key) = match from {
             From::End => (FROM_END, &[][..]),
             From::Key(key) => (FROM_KEY, key),
@@ -330,10 +378,19 @@ impl Words {
             to_key: to_key.as_ptr(),
             to_len: to_key.len(),
         };
-        let (at, places, mut count) = (self.handle.get(), words.len(), 0);
-        // SAFETY: rules 1 to 4; the places are lent alone, the keys beside them, and the rest are locals. Clause of
-        // `artmap_words_walk_words`: IsWordsWalked.
-        match unsafe { artmap_words_walk_words(at, &raw const span, words.as_mut_ptr(), places, &raw mut count) } {
+        let mut ends = self.ends.get();
+        if to == TO_END && *hint.far(way) == 0 {
+            *hint.far(way) = *ends.far(way);
+        }
+        let (at, told, places, mut count) = (self.handle.get(), words.as_mut_ptr(), words.len(), 0);
+        // SAFETY: rules 1 to 4; the places are lent alone, so is the hint, the keys beside them, and the rest are locals.
+        // Clause of `artmap_words_walk_words`: IsWordsWalked, whatever the hint has.
+        let code = unsafe { artmap_words_walk_words_on(at, &raw const span, hint, told, places, &raw mut count) };
+        if to == TO_END && *hint.far(way) != 0 {
+            *ends.far(way) = *hint.far(way);
+            self.ends.set(ends);
+        }
+        match code {
             DONE => (count, false),
             MORE | NO_ROOM => (count, true),
             NOT_FOUND | NO_MAP => (0, false),
@@ -503,6 +560,19 @@ impl<'a, K: Key, V, L: Limits> WalkMut<'a, K, V, L> {
         }
         Some((key, value))
     }
+}
+
+/// Has the processor bring an item nearer that is read soon, where it can be told so.
+#[inline]
+pub(crate) fn ask_for<T>(all: &[T], index: usize) {
+    #[cfg(target_arch = "x86_64")]
+    // SAFETY: no call, and no rule: nothing is read or written, so any address will do.
+    unsafe {
+        use std::arch::x86_64::{_MM_HINT_T0, _mm_prefetch};
+        _mm_prefetch::<_MM_HINT_T0>(all.as_ptr().wrapping_add(index).cast());
+    }
+    #[cfg(not(target_arch = "x86_64"))]
+    let _ = (all, index);
 }
 
 mod span;

@@ -61,6 +61,7 @@ impl<'a, K: Key, V, L: Limits> Pairs<'a, K, V, L> {
         }
         let slab = self.view.slab;
         let index = or_end(self.walk.next(&self.view.words, way, |index| slab.pair(index).0))?;
+        slab.ask_for(self.walk.soon(way));
         Some(slab.pair(index))
     }
 }

@@ -1,5 +1,7 @@
 //! Where the pairs lie: in slots, whose indexes are the words of the proved map.
 use crate::error::AllocError;
+use crate::ffi::ask_for;
+use crate::view::index_of;
 use crate::walk::Way;
 
 /// No slot is free.
@@ -161,6 +163,14 @@ impl<K, V> Slab<K, V> {
         match self.slots.get(index) {
             Some(Slot::Full(key, value)) => (key, value),
             _ => no_pair(index),
+        }
+    }
+
+    /// Has the slots of these words come nearer, which are read soon.
+    #[inline]
+    pub(crate) fn ask_for(&self, words: &[u64]) {
+        for word in words {
+            ask_for(&self.slots, index_of(*word));
         }
     }
 

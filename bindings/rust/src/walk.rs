@@ -1,8 +1,8 @@
 //! Walks over the words of a map, from both ends. A walk keeps no pointer into the proved map. Words are told many at a time,
-//! more each time; then the next call finds its place by the key of the last one.
+//! more each time; then the next call finds its place by the hint that the last one has left, or by the key of the last pair.
 use crate::Key;
 use crate::error::AllocError;
-use crate::ffi::{From, To, Words};
+use crate::ffi::{From, Hint, To, Words};
 use crate::map::CHANGED;
 use crate::room::Room;
 use crate::view::Reads;
@@ -15,6 +15,9 @@ const FEW: usize = 10;
 const NEXT: usize = 32;
 const TIMES: usize = 2;
 const MOST: usize = 1024;
+
+/// How many words ahead slots are asked for: by then they have come from memory.
+const AHEAD: usize = 8;
 
 /// Which way a walk goes.
 #[derive(Clone, Copy, PartialEq, Eq, Debug)]
@@ -131,16 +134,30 @@ impl Batch {
         Batch { few: [0; FEW], many: Vec::new(), count: 0, given: 0, has_more: true }
     }
 
+    #[inline]
+    fn places_told(&self) -> &[u64] {
+        if self.many.is_empty() { &self.few } else { &self.many }
+    }
+
     /// The next word that was told.
     #[inline]
     fn next(&mut self) -> Option<u64> {
         if self.given == self.count {
             return None;
         }
-        let all = if self.many.is_empty() { &self.few[..] } else { &self.many[..] };
-        let word = all[self.given];
+        let word = self.places_told()[self.given];
         self.given += 1;
         Some(word)
+    }
+
+    /// Each time that so many were given, those that come so far after them: each of a batch once, and first twice as many.
+    #[inline]
+    fn soon(&self) -> &[u64] {
+        if self.given % AHEAD != 1 {
+            return &[];
+        }
+        let from = if self.given == 1 { 1 } else { self.given + AHEAD - 1 };
+        self.places_told().get(from..self.count.min(self.given + 2 * AHEAD - 1)).unwrap_or(&[])
     }
 
     /// The places for the next words: more than before, if there is memory for them.
@@ -165,6 +182,13 @@ impl Batch {
 struct End {
     batch: Batch,
     last: Option<u64>,
+    hint: Hint,
+}
+
+impl End {
+    const fn new() -> End {
+        End { batch: Batch::new(), last: None, hint: Hint::NONE }
+    }
 }
 
 /// All words that were told have been given.
@@ -185,9 +209,7 @@ fn index_of(word: u64) -> usize {
 
 impl<L: Limits> Walk<L> {
     pub(crate) const fn new(limits: L) -> Self {
-        let front = End { batch: Batch::new(), last: None };
-        let back = End { batch: Batch::new(), last: None };
-        Walk { limits, front, back, is_done: false }
+        Walk { limits, front: End::new(), back: End::new(), is_done: false }
     }
 
     /// The index of the next pair from one of the ends. `key_of` lends the key of the index that this end gave last. An error
@@ -204,6 +226,12 @@ impl<L: Limits> Walk<L> {
         }
         self.fill(words, way, key_of, false)?;
         Ok(self.given(way).ok().flatten())
+    }
+
+    /// The words of pairs that this end gives soon, once it has given one.
+    #[inline]
+    pub(crate) fn soon(&self, way: Way) -> &[u64] {
+        if way == Way::Up { self.front.batch.soon() } else { self.back.batch.soon() }
     }
 
     /// As `next`, and it is sure that the walk goes on after the pair that this end gave last: so no pair is met twice.
@@ -266,17 +294,17 @@ impl<L: Limits> Walk<L> {
         is_sure: bool,
     ) -> Result<(), AllocError> {
         let near = if way == Way::Up { &mut self.front } else { &mut self.back };
-        let (batch, to, first) = (&mut near.batch, self.limits.to(way), self.limits.first(way));
+        let (batch, hint, to, first) = (&mut near.batch, &mut near.hint, self.limits.to(way), self.limits.first(way));
         let mut given = 0;
         let (count, has_more) = match near.last {
-            None => words.call(|words| words.walk(way, self.limits.from(way), to, batch.places(first))),
+            None => words.call(|words| words.walk_on(way, self.limits.from(way), to, hint, batch.places(first))),
             Some(last) => {
                 let key = key_of(index_of(last));
                 if let Some(front) = key.without_end() {
                     let is_last = |words: &Words| words.get_ended(front) == Some(last);
                     assert!(!is_sure || words.call(is_last), "{CHANGED}");
                     let places = batch.places(first);
-                    let told = words.call(|words| words.walk(way, From::After(front), to, places));
+                    let told = words.call(|words| words.walk_on(way, From::After(front), to, hint, places));
                     // (after the bytes without their end comes that key itself)
                     given = usize::from(told.0 > 0 && places[0] == last);
                     told
@@ -285,7 +313,7 @@ impl<L: Limits> Walk<L> {
                     let bytes = key.to_bytes()?;
                     let bytes = bytes.as_ref();
                     assert!(!is_sure || words.call(|words| words.get(bytes) == Some(last)), "{CHANGED}");
-                    words.call(|words| words.walk(way, From::After(bytes), to, batch.places(first)))
+                    words.call(|words| words.walk_on(way, From::After(bytes), to, hint, batch.places(first)))
                 }
             }
         };

@@ -33,3 +33,31 @@ fn calls_answer_what_the_header_says() {
     copy.clear();
     assert_eq!((copy.len(), copy.put(b"", 9), copy.get(b"")), (0, Ok(Put::New), Some(9)));
 }
+
+#[test]
+fn no_hint_changes_an_answer() {
+    let mut art = Words::new();
+    for (word, key) in ["ab", "ac", "b", "ca", "cb", "cc", "d"].iter().enumerate() {
+        assert_eq!(art.put(key.as_bytes(), word as u64), Ok(Put::New));
+    }
+    // (another key has the leaf that was its)
+    assert_eq!((art.remove(b"ca"), art.put(b"aa", 7), art.remove(b"d")), (Ok(Some(3)), Ok(Put::New), Ok(Some(6))));
+    let hints = [0, 1, 2, 3, 4, 5, 6, 7, 8, 9, 1 << 32, 1 << 63, usize::MAX - 1, usize::MAX];
+    let keys: [&[u8]; 5] = [b"", b"ab", b"b", b"ca", b"e"];
+    let from = keys.iter().flat_map(|key| [From::End, From::Key(key), From::After(key)]);
+    for from in from {
+        for to in keys.iter().flat_map(|key| [To::End, To::Key(key), To::Before(key), To::Prefix(key)]) {
+            for way in [Way::Up, Way::Down] {
+                let mut words = [99; 3];
+                let plain = art.walk(way, from, to, &mut words);
+                for (first, last) in hints.iter().flat_map(|first| hints.map(|last| (*first, last))) {
+                    let (mut hint, mut told) = (Hint { first, last }, [99; 3]);
+                    assert_eq!((art.walk_on(way, from, to, &mut hint, &mut told), told), (plain, words));
+                    // (and so does the one that it leaves)
+                    let mut again = [99; 3];
+                    assert_eq!((art.walk_on(way, from, to, &mut hint, &mut again), again), (plain, words));
+                }
+            }
+        }
+    }
+}

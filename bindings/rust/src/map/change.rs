@@ -329,7 +329,10 @@ impl<K: Key, V> ArtMap<K, V> {
     }
 
     fn pop(&mut self, way: Way) -> Result<Option<(K, V)>, AllocError> {
-        self.end(way).map(|index| self.take_at(index)).transpose()
+        let Some(word) = self.words.pop(way)? else { return Ok(None) };
+        let pair = self.slab.take(index_of(word));
+        self.settle();
+        Ok(Some(pair))
     }
 
     /// Takes out all pairs whose keys begin with a prefix, and tells how many.
