@@ -6,7 +6,7 @@
  */
 #include "_artmap.h"
 
-enum { FEW = 12, FEW_BYTES = 448, MANY = 256, MANY_BYTES = 1 << 14, LONG = 1 << 14 };
+enum { FEW = 12, FEW_BYTES = 448, MANY = 256, MANY_BYTES = 1 << 14, LONG = 1 << 14, AHEAD = 8 };
 
 struct Walk {
     PyObject_HEAD
@@ -14,6 +14,7 @@ struct Walk {
     PyObject *owner; /* what is kept beside the map, or NULL */
     Kind kind;
     artmap_span span; /* what is left; its keys stand in `from` and `to` */
+    artmap_hint hint; /* where the tree has it, if nothing was changed there */
     uint8_t *from, *to;
     size_t from_places;
     size_t seen;          /* the changes of the map when the pairs were copied */
@@ -116,8 +117,8 @@ static bool fetch(Walk *it) {
     if (places > it->left) places = it->left;
     it->at = it->count = 0;
     artmap_code code;
-    while ((code = artmap_words_walk(&it->map->store.tree, &it->span, it->room, it->room_len, it->pairs, places,
-                                     &it->count)) == ARTMAP_NO_ROOM)
+    while ((code = artmap_words_walk_on(&it->map->store.tree, &it->span, &it->hint, it->room, it->room_len, it->pairs,
+                                        places, &it->count)) == ARTMAP_NO_ROOM)
         if (!grow(it, 0, it->pairs->key_len)) return it->count = 0, false;
     if (code != ARTMAP_DONE && code != ARTMAP_MORE) it->count = 0;
     it->is_rest = code == ARTMAP_DONE;
@@ -141,6 +142,13 @@ static void step(Walk *it) {
     if (it->left != SIZE_MAX) it->left--;
 }
 
+/* Asks for the values of pairs that are told soon: first for where they stand, and then for themselves. */
+static void ask_ahead(const Walk *it) {
+    PyObject *const *slots = it->map->store.slots;
+    if (it->count - it->at > 2 * AHEAD) __builtin_prefetch(&slots[it->pairs[it->at + 2 * AHEAD].word]);
+    if (it->count - it->at > AHEAD) __builtin_prefetch(slots[it->pairs[it->at + AHEAD].word]);
+}
+
 /* What is told of the next pair, and of a pair its two parts in `pair`. NULL: there is none, and `has_ended` is true,
  * or an exception is set. */
 static PyObject *told_next(Walk *it, PyObject *pair, bool *has_ended) {
@@ -151,6 +159,7 @@ static PyObject *told_next(Walk *it, PyObject *pair, bool *has_ended) {
     PyObject *key = it->kind == VALUES ? NULL : key_object(it->map->codec, it->next, at->key_len);
     if (!key && it->kind != VALUES) return NULL;
     PyObject *value = it->kind == KEYS ? NULL : kept(it->map->store.slots[at->word]);
+    if (value) ask_ahead(it);
     step(it);
     if (it->kind != ITEMS) return key ? key : value;
     PyTuple_SetItem(pair, 0, key);
