@@ -32,13 +32,13 @@ pub(crate) trait Limits {
     const ARE_COUNTED: bool = false;
     fn from(&self, way: Way) -> From<'_>;
     fn to(&self, way: Way) -> To<'_>;
+}
 
-    /// How many words are asked for first.
-    fn first(&self, way: Way) -> usize {
-        match (self.from(way), self.to(way)) {
-            (From::Key(_) | From::After(_), To::End) => 1,
-            _ => FEW,
-        }
+/// How many words are asked for first.
+fn first(from: From<'_>, to: To<'_>) -> usize {
+    match (from, to) {
+        (From::Key(_) | From::After(_), To::End) => 1,
+        _ => FEW,
     }
 }
 
@@ -294,16 +294,19 @@ impl<L: Limits> Walk<L> {
         is_sure: bool,
     ) -> Result<(), AllocError> {
         let near = if way == Way::Up { &mut self.front } else { &mut self.back };
-        let (batch, hint, to, first) = (&mut near.batch, &mut near.hint, self.limits.to(way), self.limits.first(way));
+        let (batch, hint, to) = (&mut near.batch, &mut near.hint, self.limits.to(way));
         let mut given = 0;
         let (count, has_more) = match near.last {
-            None => words.call(|words| words.walk_on(way, self.limits.from(way), to, hint, batch.places(first))),
+            None => {
+                let from = self.limits.from(way);
+                words.call(|words| words.walk_on(way, from, to, hint, batch.places(first(from, to))))
+            }
             Some(last) => {
                 let key = key_of(index_of(last));
                 if let Some(front) = key.without_end() {
                     let is_last = |words: &Words| words.get_ended(front) == Some(last);
                     assert!(!is_sure || words.call(is_last), "{CHANGED}");
-                    let places = batch.places(first);
+                    let places = batch.places(FEW);
                     let told = words.call(|words| words.walk_on(way, From::After(front), to, hint, places));
                     // (after the bytes without their end comes that key itself)
                     given = usize::from(told.0 > 0 && places[0] == last);
@@ -313,7 +316,7 @@ impl<L: Limits> Walk<L> {
                     let bytes = key.to_bytes()?;
                     let bytes = bytes.as_ref();
                     assert!(!is_sure || words.call(|words| words.get(bytes) == Some(last)), "{CHANGED}");
-                    words.call(|words| words.walk_on(way, From::After(bytes), to, hint, batch.places(first)))
+                    words.call(|words| words.walk_on(way, From::After(bytes), to, hint, batch.places(FEW)))
                 }
             }
         };
