@@ -64,3 +64,51 @@ fn ranges_of_texts() {
 fn ranges_of_long_texts() {
     ranges_are_as_in_std(|at| format!("{}{at:04}", "long ".repeat(30)));
 }
+
+/// Walks of many calls, between whose calls pairs go, come back and take one another's places.
+fn walks_go_on<K: NoPrefixes + Ord + Clone + Debug>(key: impl Fn(u64) -> K) {
+    let pairs = |count: u64| (0..count).map(|it| (key(it.wrapping_mul(0x9e37_79b9_7f4a_7c15) >> 20), it));
+    let (mut map, mut tree): (ArtMap<_, _>, BTreeMap<_, _>) = (ArtMap::new(), BTreeMap::new());
+    for round in 1..6 {
+        for (key, value) in pairs(700 * round) {
+            assert_eq!(map.insert(key.clone(), value), tree.insert(key, value));
+        }
+        let goes = |value: &u64| value % (round + 2) < 2;
+        let middle = tree.keys().nth(300).cloned().unwrap();
+        let gone: Vec<_> = map.extract_if(middle.clone().., |_, value| goes(value)).collect();
+        let (mut wanted, mut stays) = (Vec::new(), BTreeMap::new());
+        for (key, value) in std::mem::take(&mut tree) {
+            if key >= middle && goes(&value) { wanted.push((key, value)) } else { stays.extend([(key, value)]) }
+        }
+        (tree, map) = (stays, map);
+        assert_eq!(gone, wanted);
+        assert!(map.iter().eq(&tree) && map.iter().rev().eq(tree.iter().rev()));
+        for count in [1, 2, 10, 11, 12, 42, 43, 44, 107, 300] {
+            assert!(map.range(&middle..).take(count).eq(tree.range(&middle..).take(count)));
+            assert!(map.range(..&middle).rev().take(count).eq(tree.range(..&middle).rev().take(count)));
+        }
+        map.retain(|_, value| *value % 5 != round % 5);
+        tree.retain(|_, value| *value % 5 != round % 5);
+        // (from both ends in turn, and values are written between)
+        let mut walk = map.iter_mut();
+        while let (Some((_, one)), Some((_, other))) = (walk.next(), walk.next_back()) {
+            (*one, *other) = (*one + 1, *other + 1);
+        }
+        drop(walk);
+        let odd = (tree.len() % 2 == 1).then(|| tree.keys().nth(tree.len() / 2).cloned().unwrap());
+        tree.iter_mut().filter(|it| Some(it.0) != odd.as_ref()).for_each(|(_, value)| *value += 1);
+        for way in 0..40 {
+            let ends =
+                if way % 3 == 0 { (map.pop_last(), tree.pop_last()) } else { (map.pop_first(), tree.pop_first()) };
+            assert_eq!(ends.0, ends.1);
+        }
+        assert!(map.iter().eq(&tree));
+    }
+}
+
+#[test]
+fn a_walk_goes_on_where_pairs_went() {
+    walks_go_on(|it| it);
+    walks_go_on(|it| it.to_string());
+    walks_go_on(|it| format!("{}{it}", "long".repeat(50)));
+}
