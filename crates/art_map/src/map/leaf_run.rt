@@ -133,6 +133,13 @@ impl<'a, K: AsBytes, V, const PREFIX_LEN: usize> LeafRun<'a, K, V, PREFIX_LEN> {
     }
 
     /// Returns the first pair of those still to come, if there is one. The others are then still to come.
+    ///
+    /// ```
+    /// let mut map = TreeMap::new(rt.alloc());
+    /// map.extend([(*b"ab", 1), (*b"ac", 2)])?;
+    /// let mut run = map.prefix_run(b"a");
+    /// assert_eq!(rt; run.next(), Some((b"ab", &1)));
+    /// ```
     #[inline(always)]
     pub fn next(&mut self) -> Option<(&'a K, &'a V)>
         ensures { TakesFirst deref_pair self.old result self.new }
@@ -147,6 +154,13 @@ impl<'a, K: AsBytes, V, const PREFIX_LEN: usize> LeafRun<'a, K, V, PREFIX_LEN> {
     }
 
     /// Returns the last pair of those still to come, if there is one. The others are then still to come.
+    ///
+    /// ```
+    /// let mut map = TreeMap::new(rt.alloc());
+    /// map.extend([(*b"ab", 1), (*b"ac", 2)])?;
+    /// let mut run = map.prefix_run(b"a");
+    /// assert_eq!(rt; run.next_back(), Some((b"ac", &2)));
+    /// ```
     #[inline(always)]
     pub fn next_back(&mut self) -> Option<(&'a K, &'a V)>
         ensures { TakesLast deref_pair self.old result self.new }
@@ -159,6 +173,15 @@ impl<'a, K: AsBytes, V, const PREFIX_LEN: usize> LeafRun<'a, K, V, PREFIX_LEN> {
     }
 
     /// Returns whether no pair is still to come. It reads no leaf.
+    ///
+    /// ```
+    /// let mut map = TreeMap::new(rt.alloc());
+    /// map.extend([(*b"ab", 1), (*b"ac", 2)])?;
+    /// let mut run = map.prefix_run(b"ab");
+    /// assert!(rt; !run.is_empty());
+    /// run.next();
+    /// assert!(rt; run.is_empty());
+    /// ```
     pub fn is_empty(&self) -> bool
         ensures { result ≡ (length self.now == 0) }
     {
@@ -166,6 +189,16 @@ impl<'a, K: AsBytes, V, const PREFIX_LEN: usize> LeafRun<'a, K, V, PREFIX_LEN> {
     }
 
     /// Returns where the pairs still to come begin and end, for a run over them later.
+    ///
+    /// ```
+    /// let mut map = TreeMap::new(rt.alloc());
+    /// map.extend([(*b"ab", 1), (*b"ac", 2)])?;
+    /// let mut run = map.prefix_run(b"a");
+    /// run.next();
+    /// let hint = run.hint();
+    /// let mut rest = map.range_run(std::ops::Bound::Excluded(b"ab"), std::ops::Bound::Unbounded, hint);
+    /// assert_eq!(rt; rest.next(), Some((b"ac", &2)));
+    /// ```
     pub fn hint(&self) -> RunHint {
         match self.ends {
             Some((first, last)) => RunHint {
