@@ -1,12 +1,13 @@
 -- The pairs of a map that have moved into another so far.
-use Rattle.std.proofs.Common.{◌≡◌, ◌==◌, ℕ, Bool, true, false, length, List, [], ◌∷◌, ◌++◌, Some, refl, sym, ap, subst, ◌∙◌, append_assoc, arith, eqb-true}
+use Rattle.std.proofs.Common.{◌≡◌, ◌==◌, ℕ, ◌+◌, ◌-◌, ◌*◌, Bool, true, false, length, List, [], ◌∷◌, ◌++◌, Some, refl, sym, ap, subst, ◌∙◌, append_assoc, arith, eqb-true}
 use Rattle.std.proofs.lemmas.List.{append-nil}
+use Rattle.art_arena.specs.arena.Arena.{HasRoom, KeepsRoom, UsesRoom}
 use Rattle.art_arena.proofs.Common.{key_of, AscendsByKey}
 use Rattle.art_map.proofs.Common.{first_item, with_pairs_put}
 use Rattle.art_map.proofs.Puts.{put-after, put-more}
 use Rattle.art_c.specs.Calls.{IsPutRefused, whole}
-use Rattle.art_c.specs.Handles.{Pairs}
-use Rattle.art_c.specs.Joins.{ArePairsMoved, MoveEnds, MovesFirst}
+use Rattle.art_c.specs.Handles.{Map, Pairs}
+use Rattle.art_c.specs.Joins.{ArePairsMoved, IsJoined, JoinLeavesRoom, MoveEnds, MovesFirst}
 use Rattle.art_c.specs.declared.code.Code.{Code}
 use Rattle.art_c.specs.declared.code.Code.TheVariants.{Done}
 
@@ -22,6 +23,55 @@ module _ {V : Type 0} where
     moved ++ p ∷ [],
     are ∙ ap (λ ps. moved ++ ps) first ∙ sym (append_assoc moved (p ∷ []) rest),
     is ∙ ap (λ ps. with_pairs_put whole (p ∷ []) ps) put ∙ sym (put-more whole moved p old),
+  )
+
+  -- what room the pairs used that moved so far
+  abbrev pub RoomSoFar : Map V → Map V → Map V → Map V → Type 0
+  RoomSoFar other old left now =
+      (n : ℕ) × (length other.pairs ≡ n + length left.pairs)
+      × UsesRoom (2 * n) old.nodes now.nodes × UsesRoom n other.nodes left.nodes
+
+  -- none moved yet
+  pub no-room : (other old : Map V) → RoomSoFar other old other old
+  no-room other old = (
+    0,
+    omega arith,
+    λ n room. subst (HasRoom old.nodes) (omega arith) room,
+    λ n room. subst (HasRoom other.nodes) (omega arith) room,
+  )
+
+  -- one more moves
+  pub room-of-one : (other old left now rest new : Map V) → RoomSoFar other old left now
+      → MovesFirst left.pairs now.pairs rest.pairs new.pairs
+      → UsesRoom 2 now.nodes new.nodes → UsesRoom 1 left.nodes rest.nodes → RoomSoFar other old rest new
+  room-of-one other old left now rest new (n, long, here, there) (p, first, is) two one =
+      let shorter = ap length first in (
+        n + 1,
+        omega (arith, long, shorter),
+        λ m room. two m (here (m + 2) (subst (HasRoom old.nodes) (omega arith) room)),
+        λ m room. one m (there (m + 1) (subst (HasRoom other.nodes) (omega arith) room)),
+      )
+
+  -- and then none moves
+  pub room-at-end : (other old left now rest new : Map V) → RoomSoFar other old left now
+      → KeepsRoom now.nodes new.nodes → KeepsRoom left.nodes rest.nodes → rest.pairs ≡ left.pairs
+      → JoinLeavesRoom other old rest new
+  room-at-end other old left now rest new (n, long, here, there) keeps keeps_other same =
+      let as_long = ap length same in (
+        λ m room. keeps m (here m (subst (HasRoom old.nodes) (omega (arith, long, as_long)) room)),
+        λ m room. keeps_other m (there m (subst (HasRoom other.nodes) (omega (arith, long, as_long)) room)),
+      )
+
+  -- of an empty map none moves
+  pub none-moves : (all old : Pairs V) → all ≡ [] → ArePairsMoved all old Done all old
+  none-moves all old none = subst (λ ps. ArePairsMoved ps old Done ps old) (sym none) ([], refl, refl, refl)
+
+  pub none-joined : (other old : Map V) → other.pairs ≡ [] → IsJoined other old Done other old
+  none-joined other old none = (
+    none-moves other.pairs old.pairs none,
+    λ _. (refl, refl),
+    λ _ some. absurd (some none),
+    λ _. room-at-end other old other old other old (no-room other old) (λ n room. room) (λ n room. room) refl,
   )
 
   -- an empty map takes all at once

@@ -1,5 +1,6 @@
 -- What becomes of a map into which another's pairs move.
-use Rattle.std.specs.Prelude.{◌≡◌, [], ◌∷◌, ◌++◌, Option}
+use Rattle.std.specs.Prelude.{◌≡◌, ◌≢◌, ℕ, ◌-◌, ◌*◌, [], ◌∷◌, ◌++◌, length, Option}
+use Rattle.art_arena.specs.arena.Arena.{UsesRoom}
 use Rattle.art_map.specs.Asked.{with_pairs_put}
 use Rattle.art_operations.specs.Pairs.{with_pair_put}
 use Rattle.art_c.specs.Answers.{Changes, OnMade}
@@ -26,11 +27,20 @@ module _ {V : Type 0} where
   ArePairsMoved other old code left new =
       (moved : Pairs V) × (other ≡ moved ++ left) × (new ≡ with_pairs_put whole moved old) × MoveEnds left new code
 
-  -- The same of two maps. An empty one takes all, with the nodes that hold them.
+  -- each pair that moved may use room for two nodes here, and for one there
+  abbrev pub JoinLeavesRoom : Map V → Map V → Map V → Map V → Type 0
+  JoinLeavesRoom other old left new =
+      let moved : ℕ = length other.pairs - length left.pairs in
+      UsesRoom (2 * moved) old.nodes new.nodes × UsesRoom moved other.nodes left.nodes
+
+  -- The same of two maps. Where the other is empty, both stay what they are; else an empty one changes places with it,
+  -- with all nodes and all room.
   abbrev pub IsJoined : Map V → Map V → Code → Map V → Map V → Type 0
   IsJoined other old code left new =
       ArePairsMoved other.pairs old.pairs code left.pairs new.pairs
-      × (old.pairs ≡ [] → (code ≡ Done) × (left.pairs ≡ []) × (new ≡ other))
+      × (other.pairs ≡ [] → (new ≡ old) × (left ≡ other))
+      × (old.pairs ≡ [] → other.pairs ≢ [] → (code ≡ Done) × (new ≡ other) × (left ≡ old))
+      × (old.pairs ≢ [] → JoinLeavesRoom other old left new)
 
   -- the same of the map in another handle: it has to have one that is not frozen, and else nothing is done
   abbrev pub IsAppended : View V → Map V → Option Store → Code → Map V → Option Store → Type 0

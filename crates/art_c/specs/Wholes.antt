@@ -1,7 +1,8 @@
 -- What is done with a map as a whole.
-use Rattle.std.specs.Prelude.{◌≡◌, ◌≢◌, ◌⊎◌, ℕ, List, [], Option, Some, None}
+use Rattle.std.specs.Prelude.{◌≡◌, ◌≢◌, ◌⊎◌, ℕ, ◌*◌, List, [], length, Option, Some, None}
 use Rattle.std.specs.declared.ops.Bound.TheVariants.{Included, Excluded, Unbounded}
-use Rattle.art_arena.specs.arena.Arena.{HasNoRoom, HasRoom, IsTrimmed}
+use Rattle.art_arena.specs.arena.Arena.{HasNoRoom, HasRoom, IsTrimmed, KeepsRoomOf, UsesRoom}
+use Rattle.art_operations.specs.Frees.{FreesLeaves}
 use Rattle.art_map.specs.Ranges.{pairs_between}
 use Rattle.art_c.specs.Calls.{whole, Nothing}
 use Rattle.art_c.specs.Handles.{IsOwn, IsShut, Map, MapState, own, shut, Pairs, View}
@@ -52,12 +53,24 @@ module _ {V : Type 0} where
   abbrev pub GetsCopy : View V → Pairs V → Option Store → Code → Option Store → Type 0
   GetsCopy view pairs x code y = IsGiven view (IsOwn pairs) x code y
 
+  -- Room after a split. Where some stay, each pair that leaves gives room for a leaf back, and uses that of four nodes
+  -- of each other kind at most. Where none leave, all stays; where all do, all room goes with them.
+  abbrev pub SplitLeavesRoom : Map V → Map V → MapState V → Type 0
+  SplitLeavesRoom old new (own off) =
+      (new.pairs ≢ [] → FreesLeaves (length off.pairs) old.nodes new.nodes
+      × UsesRoom (4 * length off.pairs) old.nodes new.nodes)
+      × (off.pairs ≡ [] → (new ≡ old) × HasNoRoom off.nodes)
+      × (new.pairs ≡ [] → off.pairs ≢ [] → (off ≡ old) × HasNoRoom new.nodes)
+  SplitLeavesRoom old new (shut off) = ⊥
+
   -- the pairs from a key on move to another handle, or there is no memory and both have what they had
   abbrev pub IsSplitOff : View V → List ℕ → Map V → Option Store → Code → Map V → Option Store → Type 0
   IsSplitOff view key old x Done new y =
       (new.pairs ≡ pairs_between whole Unbounded (Excluded key) old.pairs)
       × (s : MapState V) × (view y ≡ Some s) × IsOwn (pairs_between whole (Included key) Unbounded old.pairs) s
-  IsSplitOff view key old x NoMemory new y = (new.pairs ≡ old.pairs) × (y ≡ x)
+      × SplitLeavesRoom old new s
+  IsSplitOff view key old x NoMemory new y =
+      (new.pairs ≡ old.pairs) × KeepsRoomOf old.nodes new.nodes × (y ≡ x)
   IsSplitOff view key old x code new y = ⊥
 
   -- all pairs stay, and the call may find no memory

@@ -1,5 +1,6 @@
 //! All pairs of a map move into another.
 ghost use Rattle.std.specs.Prelude.{◌≡◌, MatchOption};
+ghost use Rattle.art_arena.specs.arena.Arena.{KeepsRoom, UsesRoom};
 ghost use Rattle.art_c.specs.Handles.{byte_map_in, store_of, word_map_in};
 ghost use Rattle.art_c.specs.Joins.{IsJoined, IsAppended, MoveEnds, MovesFirst};
 
@@ -12,9 +13,12 @@ use std::mem;
 /// Moves the first pair of another map. Tells how it ends where it moves none. All memory is allocated before the pair
 /// leaves.
 fn move_first<V: Drop>(map: &mut Map<V>, other: &mut Map<V>) -> Option<Code>
-    ensures { MatchOption result (MovesFirst other.old.pairs map.old.pairs other.new.pairs map.new.pairs)
+    ensures moves { MatchOption result (MovesFirst other.old.pairs map.old.pairs other.new.pairs map.new.pairs)
         (λ code. MoveEnds other.old.pairs map.old.pairs code
         × (other.new.pairs ≡ other.old.pairs) × (map.new.pairs ≡ map.old.pairs)) }
+    ensures room { MatchOption result
+        (UsesRoom 2 map.old.nodes map.new.nodes × UsesRoom 1 other.old.nodes other.new.nodes)
+        (λ code. KeepsRoom map.old.nodes map.new.nodes × KeepsRoom other.old.nodes other.new.nodes) }
 {
     let Some((key, _value)) = other.first_key_value() else {
         return Some(Code::Done);
@@ -35,12 +39,15 @@ fn move_first<V: Drop>(map: &mut Map<V>, other: &mut Map<V>) -> Option<Code>
     }
 }
 
-/// Moves the pairs of another map while they can be put in. An empty map takes them all at once.
+/// Moves the pairs of another map while they can be put in. An empty map takes them all at once, with their room.
 fn append<V: Drop>(map: &mut Map<V>, other: &mut Map<V>) -> Code
     ensures { IsJoined other.old map.old result other.new map.new }
 {
     // Tells that they ascend.
     let (_nodes, _root) = other.nodes();
+    if other.is_empty() {
+        return Code::Done;
+    }
     if map.is_empty() {
         mem::swap(map, other);
         return Code::Done;
