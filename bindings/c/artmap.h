@@ -274,6 +274,7 @@ artmap_code artmap_words_take_prefix(artmap_words *map, const void *prefix, size
 artmap_code artmap_words_clone(artmap_words *map, artmap_words *to);
 
 /* Moves the pairs from a key on, which need not be stored, into a map of their own in another handle, whose map is freed.
+ * Where none are moved all room stays, and where all are all room goes with them.
  * ARTMAP_DONE; ARTMAP_NO_MEMORY: both handles have what they had. */
 artmap_code artmap_words_split_off(artmap_words *map, const void *key, size_t key_len, artmap_words *to);
 
@@ -281,7 +282,8 @@ artmap_code artmap_words_split_off(artmap_words *map, const void *key, size_t ke
  * word. It stops at the first that is refused: the pairs before it have moved, and it is still in the other map with those
  * after it. So a second call goes on from there. The words that are replaced are not told.
  * ARTMAP_DONE: the other map is empty; ARTMAP_CONFLICT: of the other map's least key; ARTMAP_NO_MEMORY; ARTMAP_NO_MAP,
- * ARTMAP_FROZEN: of either map. Where this map is empty it is ARTMAP_DONE, and no memory is asked for. */
+ * ARTMAP_FROZEN: of either map. Where this map is empty it is ARTMAP_DONE, and no memory is asked for: the two change
+ * places, with the room of each. Where the other one is empty, both stay as they are. */
 artmap_code artmap_words_append(artmap_words *map, artmap_words *other);
 
 /* Allocates the nodes of so many more insertions, whatever their keys are: some kilobytes for each. As many insertions then
