@@ -161,6 +161,10 @@ class Model(Entries):
         pairs = [(untagged(key), self.pairs[key]) for key in self.pairs.keys_in_order]
         return operations_tree.tree_of(pairs) if pairs else None
 
+    def call_count_get(self, word, *_):
+        tree, key = self.tree(), bytes_in(word)
+        return Counts(lambda stored: f"{len(operations_tree.look_up(tree, key, stored)) if tree else 0} read")
+
     def call_count_prefix(self, word, *_):
         tree, front = self.tree(), bytes_in(word)
         return Counts(lambda stored: f"{operations_tree.part_of(tree, front, stored)[0] if tree else 0} read")

@@ -62,7 +62,7 @@ ENDED_CALLS |= {"remove_from_both": "p"}
 ENDED_CALLS |= {"append": "", "extend": "", "from_vec": "", "from_iter": "", "clone": "", "compare": ""}
 ENDED_CALLS |= {"hash": "", "debug": "", "extend_from_refs": ""}
 # Calls of a map that tell how many nodes are read; so many stand at the end of a script.
-COUNTS, COUNTED = {"count_prefix": "p", "count_range": "bb", "count_cut": "p"}, 12
+COUNTS, COUNTED = {"count_get": "s", "count_prefix": "p", "count_range": "bb", "count_cut": "p"}, 12
 # Calls that are given a bag of pairs, which is filled before.
 FROM_BAG = ("extend", "from_vec", "from_iter")
 # Calls that make a map larger, and smaller: by turns the ones are made often, and the others.

@@ -293,7 +293,7 @@ class Model(Site):
     def read(self, key, found):
         if not self.pairs:
             return "no tree"
-        return f"{self.item(found)}, {len(way(self.tree(), key)[0])} read"
+        return f"{self.item(found)}, {len(operations_tree.look_up(self.tree(), key, self.prefix_len))} read"
 
     def call_search(self, word, *_):
         key = bytes_in(word)
@@ -315,8 +315,9 @@ class Model(Site):
         key = bytes_in(word)
         if not self.pairs:
             return "no tree"
-        nodes, steps = way(self.tree(), key)
+        _, steps = way(self.tree(), key)
         last = " ".join(f"{name} {byte}" for name, byte in steps[-2:]) or "root"
+        nodes = operations_tree.look_up(self.tree(), key, self.prefix_len)
         return f"{last if key in self.pairs else None}, {len(nodes)} read"
 
     def inside(self, start, end):

@@ -50,6 +50,18 @@ def way(tree, key):
     return nodes, steps
 
 
+def look_up(tree, key, stored):
+    """The nodes that a look-up of a key reads: those to which it leads, up to one with whose prefix, as it is stored, it
+    doesn't go on."""
+    nodes, _ = way(tree, key)
+    depth = 0
+    for at, node in enumerate(nodes[:-1]):
+        if not key.startswith(node.prefix[:stored], depth):
+            return nodes[: at + 1]
+        depth += len(node.prefix) + 1
+    return nodes
+
+
 def to_end(tree, end):
     """How many nodes there are from one down to its first leaf, by `min`, or to its last one, by `max`."""
     count = 1

@@ -67,7 +67,8 @@ TAKE_NONE |= {"first_key_value", "last_key_value", "get_mut", "prefix_get_mut", 
 TAKE_NONE |= {"iter", "keys", "values", "range", "prefix", "range_mut", "prefix_mut", "iter_mut", "values_mut", "swap"}
 TAKE_NONE |= {"compare", "into_iter", "into_keys", "into_values", "contains", "first", "last", "difference", "union"}
 TAKE_NONE |= {"symmetric_difference", "intersection", "is_disjoint", "is_subset", "is_superset", "hash", "debug"}
-TAKE_NONE |= {"read_get", "read_prefix_get", "read_prefix", "read_range", "count_prefix", "count_range"}
+TAKE_NONE |= {"read_get", "read_prefix_get", "read_prefix", "read_range", "count_get", "count_prefix",
+              "count_range"}
 TAKE_NONE |= {"shrink", "held", "less", "more", "in_order"}
 # First words of replies that list nothing.
 REPLIES = {"new", "old", "conflict", "over", "is", "none", "at", "gone", "bounds", "bytes", "dropped", "bad"}

@@ -5,7 +5,7 @@ pub use Rattle.art_arena.specs.arena.Arena.{node_at, slots_of, with_leaf}
 pub use Rattle.art_arena.specs.arena.ArenaClones.{HasNoSpare, IsArenaClone, IsHeldClone}
 pub use Rattle.art_arena.specs.arena.Cells.{AreHeld, Cell, Holds, HoldsOnly, UpdatesAt, branches, copies, leaf_name, pair, same_kind, same_name}
 pub use Rattle.art_arena.specs.arena.Context.{AreAround, AreBelow, Frame, cells_after, cells_before, fill, frame_cell, leaves_after, leaves_before, path_to, plug, root_of}
-pub use Rattle.art_arena.specs.arena.Descents.{GoesNoFurther, GoesOn, GuidesBelow, HasConflict, HasNoFront, IsGuide, LandsAt, NoConflict, OnWayTo, ReadsPath, Stops, TakesFronts, leaf_where, located_where, passing}
+pub use Rattle.art_arena.specs.arena.Descents.{AgreesUpTo, GoesNoFurther, GoesOn, GuidesBelow, HasConflict, HasNoFront, IsGuide, LandsAt, MeetsStored, NoConflict, OnWayTo, ReadsLookUp, ReadsPath, Stops, TakesFronts, leaf_where, located_where, passing}
 pub use Rattle.art_arena.specs.arena.EndLeaves.{IsLeafPlace, end_child, end_slot}
 pub use Rattle.art_arena.specs.arena.Found.{IsAtKey, Located, found_in, located, located_in, located_with_key, pair_of}
 pub use Rattle.art_arena.specs.arena.Lends.{with_leaf_value, with_value_in}
@@ -26,7 +26,7 @@ pub use Rattle.art_arena.specs.tree.Fronts.{byte_after, bytes_after, distinct, f
 pub use Rattle.art_arena.specs.tree.Kinds.{ChangesKind, IsKindOf, IsLimit}
 pub use Rattle.art_arena.specs.tree.Landing.{EndsInConflict, Landing, begins_all, differs, ends, lacks_child, landing, landing_in, on_leaf, pass, passes, splits_prefix}
 pub use Rattle.art_arena.specs.tree.Order.{AreInOrder, AscendsByKey}
-pub use Rattle.art_arena.specs.tree.Paths.{last_leaf, path_in, path_of}
+pub use Rattle.art_arena.specs.tree.Paths.{last_leaf, look_up_in, look_up_path, path_in, path_of}
 pub use Rattle.art_arena.specs.tree.Shrinks.{IsCrossing, IsMeeting, Shrinks, one_fewer, one_if}
 pub use Rattle.art_arena.specs.tree.Tenants.{begins_with, crossings, with_front, without_front}
 pub use Rattle.art_arena.specs.tree.TreeOf.{Group, add_to, children_of, grouped, tree_below, tree_of}

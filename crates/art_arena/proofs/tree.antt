@@ -32,6 +32,8 @@ pub mod Shrinks
 pub mod Landing
 -- The part of a tree below a front holds the items that begin with it.
 pub mod Parts
+-- What a look-up reads of a key's path.
+pub mod LookUps
 -- The items whose keys pass a test stand together, if the test holds between two keys for which it holds.
 pub mod Blocks
 -- All keys with a front taken out of a canonical tree.

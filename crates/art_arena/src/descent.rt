@@ -1,22 +1,22 @@
 //! The way of a key down the tree below a name: to the one leaf that can be meant, or as far as it agrees.
-ghost use Rattle.std.specs.Prelude.{◌≡◌, ◌+◌, ◌-◌, ◌^◌, ◌≤◌, ◌↔◌, ◌||◌, [], ℕ, List, drop, length, min};
+ghost use Rattle.std.specs.Prelude.{◌≡◌, ◌+◌, ◌-◌, ◌^◌, ◌≤◌, ◌↔◌, ◌||◌, [], ℕ, List, drop, length};
 ghost use Rattle.std.specs.Prelude.{IfSome, IsTrue, MatchOption, is_some};
 ghost use Rattle.art_bytes.specs.Keys.{BeginsWith};
 ghost use Rattle.art_nodes.specs.Name.{Name};
 ghost use Rattle.art_arena.specs.arena.Arena.{node_at};
-ghost use Rattle.art_arena.specs.arena.Descents.{HasNoFront, IsGuide, Lands, LandsAt, OnWayTo, Stops};
+ghost use Rattle.art_arena.specs.arena.Descents.{AgreesUpTo, HasNoFront, IsGuide, Lands, LandsAt, OnWayTo};
+ghost use Rattle.art_arena.specs.arena.Descents.{ReadsLookUp, Stops};
 ghost use Rattle.art_arena.specs.arena.Prefixes.{prefix_of};
 ghost use Rattle.art_arena.specs.arena.Reads.{DescentReads, IsReadAt, KeysWithin, ReadsAtLeast, ReadsExactly};
 ghost use Rattle.art_arena.specs.arena.Reads.{guide_cost, unguided};
 ghost use Rattle.art_arena.specs.tree.Ways.{descent_reads, is_cut};
 ghost use Rattle.art_arena.specs.arena.Shapes.{Shape, erase, leaves};
 ghost use Rattle.art_arena.specs.arena.Stores.{Stores, StoresAt};
-ghost use Rattle.art_arena.specs.inner.Stepping.{IsGuided, StepsFrom, TakesStep};
+ghost use Rattle.art_arena.specs.inner.Stepping.{IsComparedAfter, IsGuided, StepsFrom, TakesStep};
 ghost use Rattle.art_arena.specs.arena.Visited.{arena_of, count_of};
-ghost use Rattle.art_arena.specs.tree.Paths.{path_of};
 
 use crate::arena::LeafPtr;
-use crate::front::begins_with;
+use crate::front::{begins_with, rest_after};
 use crate::guide::guided_prefix;
 use crate::inner_ref::{InnerRef, NextStep};
 use crate::path::{TreePath, TreePathSearch};
@@ -27,9 +27,9 @@ use art_nodes::{LeafNode, OpaqueNodePtr};
 /// How a descent passes over the prefix of an inner node.
 #[derive(Clone, Copy, PartialEq, Eq, Debug)]
 pub enum Passing {
-    /// By its length alone. It reads the nodes of the key's path and nothing else, and its caller compares the key of
-    /// the leaf at which it ends.
-    ByLength,
+    /// Only if what is stored of it are the key's bytes. It reads nothing but nodes of the key's path, and its caller
+    /// compares the key of the leaf at which it ends, since the bytes that aren't stored may be others.
+    ByStored,
     /// Only if all its bytes are the key's: so the way is a prefix of the key. Prefixes that aren't wholly stored are
     /// all read from one leaf, to which the descent goes down once.
     ByBytes,
@@ -44,6 +44,9 @@ pub struct Stop<'a, K, V> {
     pub leaf: Option<&'a LeafNode<K, V>>,
     /// How many bytes of the key lead there.
     pub depth: usize,
+    /// How many of the key's first bytes were compared with those of the way, and are the same, if it was passed by
+    /// what is stored.
+    pub compared: usize,
 }
 
 /// The leaf at which a way down ended. If the way was that of a key, no other leaf's key can be that key or a prefix of
@@ -56,6 +59,33 @@ pub struct Landed<'a, K, V> {
     pub leaf: &'a LeafNode<K, V>,
     /// The inner nodes just above it.
     pub path: TreePath,
+    /// How many of the key's first bytes are the leaf's, as a descent for the key found on its way: those before the
+    /// first bytes of a prefix that aren't stored. Of a way without a key none.
+    pub compared: usize,
+}
+
+impl<'a, K: AsBytes, V> Landed<'a, K, V> {
+    /// Returns whether the leaf's key is the one that was looked for. It compares what the descent didn't, which is
+    /// nothing where the way has all the key's bytes.
+    #[inline(always)]
+    pub fn has_key(&self, key: &[u8]) -> bool
+        requires { AgreesUpTo self.now.compared (K.bytes self.now.leaf.now.key) key.now }
+        ensures { IsTrue result ↔ (K.bytes self.now.leaf.now.key ≡ key.now) }
+    {
+        let own = self.leaf.key_ref().as_bytes();
+        rest_after(own, self.compared) == rest_after(key, self.compared)
+    }
+
+    /// Returns whether the leaf's key is a prefix of the query that was looked for, or all of it. It compares what the
+    /// descent didn't.
+    #[inline(always)]
+    pub fn has_prefix_of(&self, query: &[u8]) -> bool
+        requires { AgreesUpTo self.now.compared (K.bytes self.now.leaf.now.key) query.now }
+        ensures { IsTrue result ↔ BeginsWith (K.bytes self.now.leaf.now.key) query.now }
+    {
+        let own = self.leaf.key_ref().as_bytes();
+        rest_after(query, self.compared).starts_with(rest_after(own, self.compared))
+    }
 }
 
 // Whether a key, so many bytes of which lead to an inner node, goes on with the node's whole prefix. Most nodes have
@@ -103,6 +133,23 @@ fn passes_prefix<'a, K: AsBytes, V, const PREFIX_LEN: usize>(
     begins_with(&key[depth..], prefix)
 }
 
+// How many of a key's first bytes are compared after a step: all that led to it, if all were before it and the prefix
+// is wholly stored.
+#[inline(always)]
+fn compared_after<'a, K, V, const PREFIX_LEN: usize>(
+    inner: &InnerRef<'a, K, V, PREFIX_LEN>,
+    compared: usize,
+    depth: usize,
+    step: &NextStep,
+) -> usize
+    ensures { IsComparedAfter PREFIX_LEN inner.now.node compared depth step.now.depth result }
+{
+    if compared == depth && inner.prefix_len() <= PREFIX_LEN {
+        return step.depth;
+    }
+    compared
+}
+
 // The child to which a key goes on from an inner node, which stands after so many of its bytes. Nothing is read for a
 // step, but where a step by bytes needs a guide and there is none yet, one way down to a leaf.
 #[inline(always)]
@@ -123,11 +170,16 @@ fn step_at<'a, K: AsBytes, V, const PREFIX_LEN: usize>(
         → IsReadAt K.bytes PREFIX_LEN (arena_of reader.old) inner.now.node root depth path s
         → StepsFrom K.bytes PREFIX_LEN key.now depth path s passing result guide.old guide.new reader.old reader.new }
     ensures kept { arena_of reader.new ≡ arena_of reader.old }
-    ensures by_length { passing ≡ Passing.ByLength → count_of reader.new ≡ count_of reader.old }
+    ensures by_stored { passing ≡ Passing.ByStored → count_of reader.new ≡ count_of reader.old }
     ensures least { ReadsAtLeast 0 (count_of reader.old) (count_of reader.new) }
 {
     match passing {
-        Passing::ByLength => inner.next_step(key, depth),
+        Passing::ByStored => {
+            if inner.meets_stored(key, depth) {
+                return inner.next_step(key, depth);
+            }
+            None
+        }
         Passing::ByBytes => {
             if passes_prefix(reader, inner, key, depth, guide) {
                 return inner.next_step(key, depth);
@@ -153,13 +205,15 @@ pub fn descend<'a, K: AsBytes, V, const PREFIX_LEN: usize>(
 ) -> Stop<'a, K, V>
     requires tree { (s : Shape K V) × Stores K.bytes PREFIX_LEN (arena_of reader.old) root s }
     requires fresh { search.old ≡ [] }
-    ensures lands { passing ≡ Passing.ByLength → (s : Shape K V)
+    ensures lands { passing ≡ Passing.ByStored → (s : Shape K V)
         → Stores K.bytes PREFIX_LEN (arena_of reader.old) root s
         → MatchOption result.leaf (HasNoFront K.bytes key.now s)
         (λ leaf. LandsAt K.bytes key.now s result.node.slot leaf.now search.new) }
-    ensures counts { passing ≡ Passing.ByLength → (s : Shape K V)
+    ensures agrees { passing ≡ Passing.ByStored
+        → IfSome result.leaf (λ leaf. AgreesUpTo result.compared (K.bytes leaf.now.key) key.now) }
+    ensures counts { passing ≡ Passing.ByStored → (s : Shape K V)
         → Stores K.bytes PREFIX_LEN (arena_of reader.old) root s
-        → count_of reader.new ≡ min (count_of reader.old + length (path_of (erase s) key.now)) (2 ^ 64 - 1) }
+        → ReadsLookUp PREFIX_LEN key.now s (count_of reader.old) (count_of reader.new) }
     ensures way { passing ≡ Passing.ByBytes → (s : Shape K V)
         → Stores K.bytes PREFIX_LEN (arena_of reader.old) root s
         → OnWayTo K.bytes PREFIX_LEN (node_at (arena_of reader.old)) key.now s result.node search.new result.depth }
@@ -178,6 +232,7 @@ pub fn descend<'a, K: AsBytes, V, const PREFIX_LEN: usize>(
 {
     let mut current = root;
     let mut depth = 0;
+    let mut compared = 0;
     let mut guide = None;
     'down: loop {
         match reader.visit(current).leaf() {
@@ -186,6 +241,7 @@ pub fn descend<'a, K: AsBytes, V, const PREFIX_LEN: usize>(
                     node: current,
                     leaf: Some(leaf),
                     depth,
+                    compared,
                 };
             }
             Err(inner) => match step_at(reader, &inner, key, depth, passing, &mut guide) {
@@ -194,9 +250,11 @@ pub fn descend<'a, K: AsBytes, V, const PREFIX_LEN: usize>(
                         node: current,
                         leaf: None,
                         depth,
+                        compared,
                     };
                 }
                 Some(step) => {
+                    compared = compared_after(&inner, compared, depth, &step);
                     search.go_down(current, step.byte);
                     current = step.child;
                     depth = step.depth;
@@ -207,9 +265,10 @@ pub fn descend<'a, K: AsBytes, V, const PREFIX_LEN: usize>(
 }
 
 /// Goes down for a key in the canonical tree below a name. It ends at a leaf, or at a node where the key ends or has no
-/// child. It passes over prefixes by their lengths alone, so its caller compares the leaf's key as a whole.
+/// child, or whose prefix as it is stored it doesn't pass. What isn't stored is passed over by its length, so its
+/// caller compares what of the leaf's key wasn't.
 ///
-/// It reads the nodes of the key's path, each once. Nothing is copied or allocated.
+/// It reads nodes of the key's path, each once: all of them if the key is stored. Nothing is copied or allocated.
 #[inline(always)]
 pub fn land<'a, K: AsBytes, V, const PREFIX_LEN: usize>(
     reader: &mut ArenaReader<'a, K, V, PREFIX_LEN>,
@@ -219,17 +278,20 @@ pub fn land<'a, K: AsBytes, V, const PREFIX_LEN: usize>(
     requires { (s : Shape K V) × Stores K.bytes PREFIX_LEN (arena_of reader.old) root s }
     ensures lands { (s : Shape K V) → Stores K.bytes PREFIX_LEN (arena_of reader.old) root s
         → Lands K.bytes key.now s result }
+    ensures agrees { IfSome result (λ landed.
+        AgreesUpTo landed.compared (K.bytes landed.leaf.now.key) key.now) }
     ensures kept { arena_of reader.new ≡ arena_of reader.old }
     ensures counts { (s : Shape K V) → Stores K.bytes PREFIX_LEN (arena_of reader.old) root s
-        → count_of reader.new ≡ min (count_of reader.old + length (path_of (erase s) key.now)) (2 ^ 64 - 1) }
+        → ReadsLookUp PREFIX_LEN key.now s (count_of reader.old) (count_of reader.new) }
 {
     let mut search = TreePathSearch::default();
-    let stop = descend(reader, &mut search, root, key, Passing::ByLength);
+    let stop = descend(reader, &mut search, root, key, Passing::ByStored);
     match stop.leaf {
         Some(leaf) => Some(Landed {
             name: stop.node.with_kind(),
             leaf,
             path: search.finish(),
+            compared: stop.compared,
         }),
         None => None,
     }

@@ -2,9 +2,9 @@
 ghost use Rattle.std.specs.Prelude.{◌≡◌, ◌+◌, ◌-◌, ◌^◌, ◌≤◌, length, min, filter, IfSome};
 ghost use Rattle.std.specs.Str.{bytes_eq};
 ghost use Rattle.art_arena.specs.arena.Arena.{node_at};
-ghost use Rattle.art_arena.specs.arena.Descents.{ReadsPath};
+ghost use Rattle.art_arena.specs.arena.Descents.{ReadsLookUp};
 ghost use Rattle.art_arena.specs.arena.Found.{found_of, found_in, pair_found, IsAtKey};
-ghost use Rattle.art_arena.specs.tree.Paths.{path_of};
+ghost use Rattle.art_arena.specs.tree.Paths.{look_up_path};
 ghost use Rattle.art_arena.specs.arena.Shapes.{Shape};
 ghost use Rattle.art_arena.specs.arena.Steps.{steps_of};
 ghost use Rattle.art_arena.specs.arena.Stores.{Stores, IsMeant};
@@ -27,8 +27,9 @@ pub struct FoundLeaf {
     pub path: TreePath,
 }
 
-/// Finds the leaf with exactly this key in the canonical tree below a name: by a descent, and one comparison of whole
-/// keys. It reads the nodes of the key's path, each once.
+/// Finds the leaf with exactly this key in the canonical tree below a name: by a descent, and one comparison of what
+/// that didn't compare. It reads nodes of the key's path, each once, up to one whose prefix, as it is stored, isn't the
+/// key's there.
 pub fn find_leaf<K: AsBytes, V, const PREFIX_LEN: usize>(
     reader: &mut ArenaReader<'_, K, V, PREFIX_LEN>,
     root: OpaqueNodePtr,
@@ -45,14 +46,14 @@ pub fn find_leaf<K: AsBytes, V, const PREFIX_LEN: usize>(
     ensures kept { arena_of reader.new ≡ arena_of reader.old }
     ensures counts { (t : Tree (K × V))
         → IsMeant K.bytes PREFIX_LEN (arena_of reader.old) root t
-        → count_of reader.new ≡ min (count_of reader.old + length (path_of t key.now)) (2 ^ 64 - 1) }
+        → count_of reader.new ≡ min (count_of reader.old + length (look_up_path PREFIX_LEN t key.now)) (2 ^ 64 - 1) }
     ensures reads { (s : Shape K V) → Stores K.bytes PREFIX_LEN (arena_of reader.old) root s
-        → ReadsPath key.now s (count_of reader.old) (count_of reader.new) }
+        → ReadsLookUp PREFIX_LEN key.now s (count_of reader.old) (count_of reader.new) }
     ensures few { count_of reader.new ≤ count_of reader.old + (length key.now + 1) }
 {
     match land(reader, root, key) {
         Some(landed) => {
-            if landed.leaf.compare_full_key(key) {
+            if landed.has_key(key) {
                 return Some(FoundLeaf {
                     leaf_node_ptr: landed.name,
                     path: landed.path,

@@ -60,3 +60,14 @@ pub(crate) fn begins_with(bytes: &[u8], front: &[u8]) -> bool
     }
     len == 0 || bytes[0] == front[0]
 }
+
+/// Returns what lies after so many of these bytes: nothing where there are no more.
+#[inline(always)]
+pub fn rest_after(bytes: &[u8], depth: usize) -> &[u8]
+    ensures { result.now ≡ drop depth bytes.now }
+{
+    if depth < bytes.len() {
+        return &bytes[depth..];
+    }
+    &bytes[bytes.len()..]
+}

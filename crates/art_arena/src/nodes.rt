@@ -1,4 +1,7 @@
 //! The nodes of one kind, under their slab keys.
+//!
+//! A slab grows by what memory there is, rather than by what it wants or not at all. What the keys then lack may have
+//! gone to nodes. Nodes of many children are large, so slabs of these grow by less.
 ghost use Rattle.std.specs.Prelude.{◌≡◌, ℕ, ◌<◌, ◌≤◌, ◌-◌, ◌^◌, ◌↔◌, ◌+◌, max};
 ghost use Rattle.std.specs.Prelude.{[], Some, None, IfOk, IfErr, IsOk, IsSome, IsTrue, OnErr, OnOk};
 ghost use Rattle.std.specs.Borrow.{sem};

@@ -1,4 +1,7 @@
 //! What a key's bytes are, and the laws that its type may keep of them.
+//!
+//! A law over all values of a key's type would be false, since in antt an array is a list of any length. So each type
+//! says what it keeps of its values (`is_key`). `as_bytes` tells it of a key at hand, and the laws require it.
 ghost use Rattle.std.specs.Prelude.{◌≡◌, ℕ, List};
 ghost use Rattle.art_bytes.specs.Keys.{AreBytes, BeginsWith, bytes_cmp};
 

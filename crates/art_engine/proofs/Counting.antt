@@ -10,8 +10,9 @@ use Rattle.art_arena.proofs.Common.{IsIn, distinct, AscendsByKey, path_of, begin
 use Rattle.art_arena.proofs.tree.Blocks.{front_is_block}
 use Rattle.art_arena.proofs.tree.Landing.{path_same}
 use Rattle.art_arena.proofs.tree.Sizes.{path_length as path_short}
-use Rattle.art_walks.proofs.Common.{path_length}
-use Rattle.art_engine.proofs.Terms.{path_nodes, fronts_shared, IsOwnPath}
+use Rattle.art_arena.proofs.tree.LookUps.{look_up_few, look_up_whole}
+use Rattle.art_walks.specs.MapReads.{look_up_reads, of_tree}
+use Rattle.art_engine.proofs.Terms.{look_up_nodes, path_nodes, fronts_shared, IsOwnPath}
 use Rattle.art_lines.proofs.Common.{full_key}
 use Rattle.art_engine.proofs.FrontPaths.{front_path}
 use Rattle.art_engine.proofs.Filters.{filter-same}
@@ -88,10 +89,16 @@ module _ {X : Type 0} (key : X → List ℕ) (tenant_of : X → ℕ) (rest_of : 
       let part = path_in_tree (mine xs) own_order x (is_mine x xs own i) k begins in
       let within : items part.0 ≡ with_front key front (items all.0) = part.3 ∙ sym (own_records xs fits) ∙ ap (with_front key front) (sym all.3) in
       let split = tenant_path key front all.0 part.0 all.2 part.2 within x (subst (IsIn x) (sym part.3) (is_mine x xs own i)) in
-      let whole : path_nodes key xs k ≡ length (path_of all.0 (key x)) = ap (path_length k) all.1 ∙ ap length all.4 in
-      let mine_is : path_nodes key (mine xs) k ≡ length (path_of part.0 (key x)) = ap (path_length k) part.1 ∙ ap length part.4 in
+      let whole : path_nodes key xs k ≡ length (path_of all.0 (key x)) = ap (of_tree (λ t. length (path_of t k))) all.1 ∙ ap length all.4 in
+      let mine_is : path_nodes key (mine xs) k ≡ length (path_of part.0 (key x)) = ap (of_tree (λ t. length (path_of t k))) part.1 ∙ ap length part.4 in
       let shared : crossings key front (items all.0) ≡ fronts_shared tenant_of t xs = ap (crossings key front) all.3 ∙ shares xs fits in
       record { path = omega (arith, whole, mine_is, shared, split); few = few_shared xs fits }
+
+  -- a look-up that finds a record reads the whole path
+  pub look_up_whole_path : (P : ℕ) (xs : List X) → AscendsByKey key xs → (x : X) → IsIn x xs → (k : List ℕ) → BeginsWith (key x) k → look_up_nodes key P xs k ≡ path_nodes key xs k
+  look_up_whole_path P xs order x i k begins =
+      let all = path_in_tree xs order x i k begins in
+      ap (of_tree (look_up_reads P k)) all.1 ∙ ap length (look_up_whole key P all.0 all.2 k x (subst (IsIn x) (sym all.3) i) begins) ∙ sym (ap (of_tree (λ u. length (path_of u k))) all.1)
 
   -- the path of any key of the tenant's, where it has a record
   pub own_way : (xs : List X) → AscendsByKey key xs → AreSmall xs → (x : X) → IsIn x xs → tenant_of x ≡ t → (k : List ℕ) → IsOwnPath key tenant_of t (full_key t k) xs (path_nodes key xs (full_key t k))
@@ -102,8 +109,8 @@ module _ {X : Type 0} (key : X → List ℕ) (tenant_of : X → ℕ) (rest_of : 
       let within : items part.0 ≡ with_front key front (items all.0) = part.3 ∙ sym (own_records xs fits) ∙ ap (with_front key front) (sym all.3) in
       let split = subst (λ full. length (path_of all.0 full) ≡ length (path_of part.0 full) + crossings key front (items all.0)) (append_assoc (to_be_bytes w32 t) [] k)
       (front_path key front all.0 part.0 all.2 part.2 within x (subst (IsIn x) (sym part.3) (is_mine x xs own i)) k) in
-      let whole : path_nodes key xs (full_key t k) ≡ length (path_of all.0 (full_key t k)) = ap (path_length (full_key t k)) all.1 in
-      let mine_is : path_nodes key (mine xs) (full_key t k) ≡ length (path_of part.0 (full_key t k)) = ap (path_length (full_key t k)) part.1 in
+      let whole : path_nodes key xs (full_key t k) ≡ length (path_of all.0 (full_key t k)) = ap (of_tree (λ u. length (path_of u (full_key t k)))) all.1 in
+      let mine_is : path_nodes key (mine xs) (full_key t k) ≡ length (path_of part.0 (full_key t k)) = ap (of_tree (λ u. length (path_of u (full_key t k)))) part.1 in
       let shared : crossings key front (items all.0) ≡ fronts_shared tenant_of t xs = ap (crossings key front) all.3 ∙ shares xs fits in
       record { path = omega (arith, whole, mine_is, shared, split); few = few_shared xs fits }
 
@@ -114,13 +121,21 @@ some_own {X} {A} tenant_of part t (x ∷ xs) some =
     cond_both (tenant_of x == t) (x ∷ filter (λ x. tenant_of x == t) xs) (filter (λ x. tenant_of x == t) xs) (λ l. (map part l ≡ [] → ⊥) → (y : X) × IsIn y (x ∷ xs) × (tenant_of y ≡ t))
     (λ own s. (x, inl refl, eqb-true (tenant_of x) t own)) (λ other s. let y = some_own tenant_of part t xs s in (y.0, inr y.1, y.2)) some
 
--- a path has at most one node more than its key has bytes
-pub path_is_short : {X : Type 0} (key : X → List ℕ) (xs : List X) (k : List ℕ) → path_nodes key xs k ≤ length k + 1
-path_is_short {X = X} key xs k = go (tree_of key xs)
+-- a look-up reads no more nodes than the path has
+pub look_up_within : {X : Type 0} (key : X → List ℕ) (P : ℕ) (xs : List X) (k : List ℕ) → look_up_nodes key P xs k ≤ path_nodes key xs k
+look_up_within {X = X} key P xs k = go (tree_of key xs)
   where
-    go : (o : Option (Tree X)) → path_length k o ≤ length k + 1
+    go : (o : Option (Tree X)) → of_tree (look_up_reads P k) o ≤ of_tree (λ t. length (path_of t k)) o
     go None = omega arith
-    go (Some t) = path_short t k
+    go (Some t) = look_up_few P t k
+
+-- and at most one node more than its key has bytes
+pub look_up_is_short : {X : Type 0} (key : X → List ℕ) (P : ℕ) (xs : List X) (k : List ℕ) → look_up_nodes key P xs k ≤ length k + 1
+look_up_is_short {X = X} key P xs k = go (tree_of key xs)
+  where
+    go : (o : Option (Tree X)) → of_tree (look_up_reads P k) o ≤ length k + 1
+    go None = omega arith
+    go (Some t) = let few = look_up_few P t k in let short = path_short t k in omega (arith, few, short)
 
 -- a record that is found among a tenant's by a test of its key, or of its number
 module _ {X A : Type 0} (tenant_of : X → ℕ) (part : X → A × List ℕ) (t : ℕ) (T : A → Bool) where

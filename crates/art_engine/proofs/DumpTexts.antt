@@ -7,13 +7,14 @@ use Rattle.std.proofs.lemmas.Bool.{cond_both, ne_eqb, eq-eqb, true≢false, case
 use Rattle.hex.specs.Hex.{IsBytes, encode_lower, is_hex_digit}
 use Rattle.hex.proofs.HexLemmas.{decode_of-ok, decode_of-encode_lower}
 use Rattle.art_lines.specs.Lines.{whole_lines_of, unfinished_line_of}
-use Rattle.art_lines.proofs.Common.{pieces_of, lines_of, name, natural, signed, bytes, shown, Reads, text_of, line_of, put, nput, of_tenant, fields_of, command_in, end_words, spelled}
+use Rattle.art_lines.proofs.Common.{pieces_of, lines_of, name, natural, signed, bytes, shown, Reads, text_of, line_of, put, nput, of_tenant, Command, fields_of, command_in, end_words, spelled, words_of}
 use Rattle.art_lines.specs.Words.{Word}
 use Rattle.art_lines.specs.Reading.{command_of}
 use Rattle.art_engine.proofs.Terms.{KeyRecord, NumberRecord, KeyFits, NumberFits}
 use Rattle.art_engine.proofs.Dumping.{words_put, words_nput}
 use Rattle.art_engine.proofs.LineLemmas.{last_of, last_of-append, all_but_last, whole_are, unfinished_is}
 use Rattle.art_arena.proofs.Common.{all_weaker, all_append}
+use Rattle.art_arena.proofs.tree.Paths.{all_map}
 
 -- no byte is this one
 abbrev Free : ℕ → List ℕ → Type 0
@@ -100,8 +101,7 @@ plain_back ws h = all_weaker ReadBack Plain (λ w r. r.0) ws h
 
 put_back : (r : KeyRecord) → KeyFits r → AllByRecursion ReadBack (words_put r)
 put_back r fits =
-    let small = fits.tenant_fits in
-    (((omega arith, (omega arith, (omega arith, tt))), refl), ((natural_plain r.tenant, (refl, small)), (bytes_back r.key fits.key_fits, (bytes_back r.value fits.value_fits, tt))))
+    let small = fits.tenant_fits in (((omega arith, (omega arith, (omega arith, tt))), refl), ((natural_plain r.tenant, (refl, small)), (bytes_back r.key fits.key_fits, (bytes_back r.value fits.value_fits, tt))))
 
 nput_back : (r : NumberRecord) → NumberFits r → AllByRecursion ReadBack (words_nput r)
 nput_back r fits =
@@ -110,22 +110,17 @@ nput_back r fits =
       ((natural_plain r.tenant, (refl, small)), ((signed_plain r.key, (refl, fits.number_fits)), (bytes_back r.value fits.value_fits, tt))),
     )
 
--- so the line of a record spells the put that makes it
+-- so words that are a command's spell it, if their line is short, and the line of a record spells the put that makes it
+spelled_back : (w : Word) (ws : List Word) (c : Command) → AllByRecursion ReadBack (w ∷ ws) → words_of c ≡ w ∷ ws → length (text_of (w ∷ ws)) ≤ 4096 → command_of (text_of (w ∷ ws)) ≡ Some c
+spelled_back w ws c back asks short =
+    let read = subst (AllZip Reads (fields_of (text_of (w ∷ ws)))) (sym asks) (subst (λ fs. AllZip Reads fs (w ∷ ws)) (sym (fields_are w ws back)) (all_read_back (w ∷ ws) back)) in
+    spelled (text_of (w ∷ ws)) c (record { short = short; read = read })
+
 pub put_spelled : (r : KeyRecord) → KeyFits r → command_of (text_of (words_put r)) ≡ Some (of_tenant r.tenant (put r.key r.value))
-put_spelled r fits =
-    let back = put_back r fits in
-    spelled (text_of (words_put r)) (of_tenant r.tenant (put r.key r.value)) (record {
-      short = fits.line_fits;
-      read = subst (λ fs. AllZip Reads fs (words_put r)) (sym (fields_are (name (codes "put")) (natural r.tenant ∷ bytes r.key ∷ bytes r.value ∷ []) back)) (all_read_back (words_put r) back);
-    })
+put_spelled r fits = spelled_back _ _ (of_tenant r.tenant (put r.key r.value)) (put_back r fits) refl fits.line_fits
 
 pub nput_spelled : (r : NumberRecord) → NumberFits r → command_of (text_of (words_nput r)) ≡ Some (of_tenant r.tenant (nput r.key r.value))
-nput_spelled r fits =
-    let back = nput_back r fits in
-    spelled (text_of (words_nput r)) (of_tenant r.tenant (nput r.key r.value)) (record {
-      short = fits.line_fits;
-      read = subst (λ fs. AllZip Reads fs (words_nput r)) (sym (fields_are (name (codes "nput")) (natural r.tenant ∷ signed r.key ∷ bytes r.value ∷ []) back)) (all_read_back (words_nput r) back);
-    })
+nput_spelled r fits = spelled_back _ _ (of_tenant r.tenant (nput r.key r.value)) (nput_back r fits) refl fits.line_fits
 
 -- and the end spells nothing
 pub end_spelled : (n : ℕ) → command_of (text_of (end_words n)) ≡ None
@@ -134,12 +129,10 @@ end_spelled n = cond_both (nat_le (length (text_of (end_words n))) 4096) (comman
 
 -- each of these is one line
 pub put_lines : (rs : List KeyRecord) → AllByRecursion KeyFits rs → AllByRecursion OneLine (map words_put rs)
-put_lines [] fits = tt
-put_lines (r ∷ rs) fits = (one_line (name (codes "put")) (natural r.tenant ∷ bytes r.key ∷ bytes r.value ∷ []) (plain_back (words_put r) (put_back r fits.0)), put_lines rs fits.1)
+put_lines rs fits = all_map words_put OneLine rs (all_weaker KeyFits (λ r. OneLine (words_put r)) (λ r f. one_line (name (codes "put")) (natural r.tenant ∷ bytes r.key ∷ bytes r.value ∷ []) (plain_back (words_put r) (put_back r f))) rs fits)
 
 pub nput_lines : (rs : List NumberRecord) → AllByRecursion NumberFits rs → AllByRecursion OneLine (map words_nput rs)
-nput_lines [] fits = tt
-nput_lines (r ∷ rs) fits = (one_line (name (codes "nput")) (natural r.tenant ∷ signed r.key ∷ bytes r.value ∷ []) (plain_back (words_nput r) (nput_back r fits.0)), nput_lines rs fits.1)
+nput_lines rs fits = all_map words_nput OneLine rs (all_weaker NumberFits (λ r. OneLine (words_nput r)) (λ r f. one_line (name (codes "nput")) (natural r.tenant ∷ signed r.key ∷ bytes r.value ∷ []) (plain_back (words_nput r) (nput_back r f))) rs fits)
 
 pub end_line : (n : ℕ) → OneLine (end_words n)
 end_line n = one_line (name (codes "end")) (natural n ∷ []) ((omega arith, (omega arith, (omega arith, tt))), (natural_plain n, tt))

@@ -6,7 +6,8 @@ use Rattle.art_lines.specs.Lines.{whole_lines_of, unfinished_line_of}
 use Rattle.art_lines.proofs.Common.{lines_of, lines_so_far, name, natural, signed, bytes, shown, line_of, span, put, get, nget, drop, of_tenant, dump, Spells, list, full_key, IsCut}
 use Rattle.art_lines.specs.Reading.{command_of, natural_in, tenant_in, number_in, bytes_in}
 use Rattle.art_bytes.proofs.Common.{is_below, conflicts}
-use Rattle.art_engine.proofs.Terms.{number_key_of, number_of_bytes, full_key_of, exactly, visits_of, visit_bounds, path_nodes, fronts_shared, AreRecords, KeyRecord, KeyFits, Records, no_records, own, with_own, State, unread, most_ahead, dump_of, audit_lines, MayRefuse, LineMayRefuse, answers, IsLineDone, reply_to}
+use Rattle.art_engine.proofs.Terms.{number_key_of, number_of_bytes, full_key_of, exactly, visits_of, visit_bounds, path_nodes, fronts_shared, AreRecords, KeyRecord, KeyFits, Records, no_records, own, with_own}
+use Rattle.art_engine.proofs.Terms.{State, unread, most_ahead, dump_of, audit_lines, MayRefuse, LineMayRefuse, answers, IsLineDone, reply_to}
 use Rattle.art_engine.proofs.Terms.{IsAnswerCut, IsOutcome, AfterWriteFault, IsCutLine}
 use Rattle.hex.proofs.OnLiterals.{hex_on_literals}
 use Rattle.std.specs.Fmt.{digits}
@@ -234,7 +235,8 @@ put-done = record {
 
 read_fault-after_a_line : IsOutcome empty (whole_lines_of (codes "put 1 0a 61" ++ 10 ∷ codes "get 1 0")) (codes "new" ++ 10 ∷ []) (record { records = one_record; reads = 0 ∷ []; ahead = 0 ∷ []; prefetched = [] })
 unfolding one_record computed
-read_fault-after_a_line = record { asked = (codes "put 1 0a 61", false) ∷ []; are = refl; output = refl; done = (record { records = one_record; reads = 0 ∷ []; ahead = 0 ∷ []; prefetched = [] }, put-done, refl); told = 0 ∷ []; told_ahead = refl; own_ahead = ((empty.records, inl refl, lit≤ tt), refl) }
+read_fault-after_a_line =
+    record { asked = (codes "put 1 0a 61", false) ∷ []; are = refl; output = refl; done = (record { records = one_record; reads = 0 ∷ []; ahead = 0 ∷ []; prefetched = [] }, put-done, refl); told = 0 ∷ []; told_ahead = refl; own_ahead = ((empty.records, inl refl, lit≤ tt), refl) }
 
 -- one byte of three was taken, after another
 text-cut_after_a_byte : IsCut (codes "o") (codes "on") (codes "new")

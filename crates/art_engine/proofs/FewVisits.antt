@@ -1,6 +1,7 @@
--- What a listing or a drop reads lies between the bounds that are told without the tree.
-use Rattle.std.proofs.Common.{◌≡◌, ℕ, ◌+◌, ◌*◌, ◌≤◌, min, Bool, true, false, cond, List, [], ◌∷◌, length, refl, sym, subst, arith, Some}
-use Rattle.std.specs.Prelude.{int_lt, max, Option}
+-- What a look-up, a listing or a drop reads lies between its bounds.
+use Rattle.std.proofs.Common.{◌≡◌, ℕ, ◌+◌, ◌*◌, ◌≤◌, min, Bool, true, false, cond, List, [], ◌∷◌, length, refl, sym, subst, arith, bytes_eq, Some}
+use Rattle.std.specs.Prelude.{int_lt, is_some, max, Option}
+use Rattle.std.specs.Ordering.{int_eq}
 use Rattle.std.specs.List.{AllByRecursion}
 use Rattle.std.specs.declared.ops.Bound.{Bound}
 use Rattle.std.specs.declared.ops.Bound.TheVariants.{Included, Excluded}
@@ -11,9 +12,14 @@ use Rattle.art_arena.proofs.Terms.{leaf, inner, tree_below}
 use Rattle.art_operations.proofs.FewReads.{counts-few}
 use Rattle.art_operations.specs.Openings.{SpanReads, part_reads, range_reads}
 use Rattle.art_walks.specs.MapReads.{of_tree}
-use Rattle.art_lines.proofs.Common.{Command, of_tenant, list, span, nspan, drop, full_key}
-use Rattle.art_engine.proofs.Terms.{AreRecords, NumberRecord, Records, VisitsAreBounded, exactly, full_key_of, listed_after, listing, longest, number_key_of, part_opening, range_opening, visit_bounds, visits_of}
-use Rattle.art_engine.proofs.CountLaws.{all_numbers_ascend, keys_ascend}
+use Rattle.art_lines.proofs.Common.{Command, of_tenant, get, find, nget, list, span, nspan, drop, full_key}
+use Rattle.art_engine.proofs.Terms.{AreRecords, NumberRecord, Records, VisitsAreBounded, own, value_at, exactly, full_key_of, listed_after, listing, longest, number_key_of, part_opening, range_opening, visit_bounds, visits_of}
+use Rattle.art_engine.proofs.Counting.{look_up_within}
+use Rattle.art_engine.proofs.CountLaws.{all_numbers_ascend, all_read, found_front, got, got_number, keys_ascend, keys_fit, numbers_fit}
+use Rattle.art_engine.proofs.KeyKinds.{under_keys, under_numbers}
+use Rattle.art_engine.proofs.NumberKeys.{bytes_of_number}
+use Rattle.art_engine.specs.FewVisits.{looking_up}
+use Rattle.art_engine.specs.Replies.{front_at}
 use Rattle.art_engine.proofs.Filters.{All-each}
 
 module _ {X : Type 0} (key : X → List ℕ) where
@@ -52,6 +58,11 @@ module _ {X : Type 0} (key : X → List ℕ) where
           let few : SpanReads L 0 (range_reads key P u.0 low high) = (counts-few X key u.0 u.2 L (subst AreShort (sym u.3) short) P).2 low high in
           subst (λ o. of_tree (λ t. range_reads key P t low high) o ≤ 6 * (L + 2)) (sym u.1) (omega (arith, few))
 
+-- a look-up of one record
+looked_up : (found : Bool) (path reads : ℕ) → reads ≤ path → (found ≡ true → reads ≡ path) → ((looking_up found path).least ≤ (exactly reads).least) × ((exactly reads).most ≤ (looking_up found path).most)
+looked_up true path reads few all = let is = all refl in (omega (arith, is), few)
+looked_up false path reads few all = (omega arith, few)
+
 -- a listing whose ends are so near
 listed : (opening m bound L : ℕ) → opening ≤ 6 * (L + 2) → ((listing m bound L).least ≤ listed_after opening m) × (listed_after opening m ≤ (listing m bound L).most)
 listed opening m bound L few =
@@ -70,6 +81,15 @@ module _ (P : ℕ) (records : Records) (are : AreRecords records) where
   twelve = All-each (λ (r : NumberRecord). length (number_key_of r) ≤ 12) (λ r. let long : length (number_key_of r) ≡ 12 = refl in omega (arith, long)) records.numbers
 
   pub bounded : (command : Option Command) → ((visit_bounds P command records).least ≤ (visits_of P command records).least) × ((visits_of P command records).most ≤ (visit_bounds P command records).most)
+  bounded (Some (of_tenant t (get k))) =
+      looked_up (is_some (value_at bytes_eq k (own t records).keys)) _ _ (look_up_within full_key_of P records.keys (full_key t k))
+      (λ some. all_read under_keys t records.keys (keys_fit records are) are.keys_in_order P k (got t records are k some))
+  bounded (Some (of_tenant t (find k))) =
+      looked_up (is_some (front_at k (own t records).keys)) _ _ (look_up_within full_key_of P records.keys (full_key t k))
+      (λ some. all_read under_keys t records.keys (keys_fit records are) are.keys_in_order P k (found_front t records are k some))
+  bounded (Some (of_tenant t (nget m))) =
+      looked_up (is_some (value_at int_eq m (own t records).numbers)) _ _ (look_up_within number_key_of P records.numbers (pair_key (t, m)))
+      (λ some. all_read under_numbers t records.numbers (numbers_fit records are) are.numbers_in_order P (bytes_of_number m) (got_number t records are m some))
   bounded (Some (of_tenant t (list front))) =
       listed _ _ (length front) (longest full_key_of records.keys) (part_few full_key_of P (longest full_key_of records.keys) records.keys (keys_ascend records are) (within_longest full_key_of records.keys) (full_key t front))
   bounded (Some (of_tenant t (span low high))) =

@@ -1,5 +1,5 @@
--- What is read of the tree of some items, and of that of what each of them is turned into, at the ends of a part or of a
--- range: as much of one as of the other.
+-- What is read of the tree of some items, and of that of what each of them is turned into, by a look-up, or at the ends of
+-- a part or of a range: as much of one as of the other.
 use Rattle.std.proofs.Common.{◌≡◌, ℕ, suc, ◌+◌, ◌-◌, nat_lt, Bool, true, false, List, [], ◌∷◌, ◌++◌, length, map, filter, Option, Some, None, refl, sym, ap, ap₂, ◌∙◌, cond, bytes_eq}
 use Rattle.std.specs.Prelude.{◌==◌, if◌then◌else◌, option_map}
 use Rattle.std.specs.BTreeMap.Range.{is_from_start, is_past_end}
@@ -14,8 +14,9 @@ use Rattle.art_arena.specs.declared.ends.End.{End}
 use Rattle.art_arena.specs.declared.ends.End.TheVariants.{First, Last}
 use Rattle.art_arena.specs.tree.Landing.{Passing}
 use Rattle.art_operations.specs.Openings.{beside_reads, bound_reads, end_reads, ends_reads, first_above, near_reads, part_reads, place_reads, range_reads}
-use Rattle.art_walks.specs.MapReads.{of_tree}
-use Rattle.art_engine.proofs.MappedTrees.{itself, key_after, turned, turned_in, path-turned, tree-turned}
+use Rattle.art_arena.specs.tree.Paths.{look_up_path}
+use Rattle.art_walks.specs.MapReads.{look_up_reads, of_tree}
+use Rattle.art_engine.proofs.MappedTrees.{itself, key_after, turned, turned_in, path-turned, look_up-turned, tree-turned}
 
 -- what a way goes on by
 abbrev following : {Z : Type 0} → Forest Z → Passing → List (Tree Z × List ℕ)
@@ -183,15 +184,22 @@ module _ {X Y : Type 0} (f : X → Y) (key : Y → List ℕ) where
       go (Some t) = same t
 
 -- so it goes by the keys alone
-module _ {X Y : Type 0} (key : X → List ℕ) (other : Y → List ℕ) (xs : List X) (ys : List Y) (same : map key xs ≡ map other ys) (P : ℕ) where
-  pub part_by_keys : (front : List ℕ) → of_tree (λ t. part_reads key P t front) (tree_of key xs) ≡ of_tree (λ t. part_reads other P t front) (tree_of other ys)
-  part_by_keys front =
-      let reads : Tree (List ℕ) → ℕ = λ t. part_reads itself P t front in
-      sym (of-turned key itself reads (λ t. part_reads key P t front) (λ t. part-turned key itself P t front) xs)
-      ∙ ap (λ keys. of_tree reads (tree_of itself keys)) same ∙ of-turned other itself reads (λ t. part_reads other P t front) (λ t. part-turned other itself P t front) ys
+module _ {X Y : Type 0} (key : X → List ℕ) (other : Y → List ℕ) (xs : List X) (ys : List Y) (same : map key xs ≡ map other ys) where
+  by_keys : (of : (Z : Type 0) → (Z → List ℕ) → Tree Z → ℕ) → ((Z : Type 0) (f : Z → List ℕ) (t : Tree Z) → of (List ℕ) itself (turned f itself t) ≡ of Z f t)
+      → of_tree (of X key) (tree_of key xs) ≡ of_tree (of Y other) (tree_of other ys)
+  by_keys of turns =
+      sym (of-turned key itself (of (List ℕ) itself) (of X key) (turns X key) xs)
+      ∙ ap (λ keys. of_tree (of (List ℕ) itself) (tree_of itself keys)) same ∙ of-turned other itself (of (List ℕ) itself) (of Y other) (turns Y other) ys
 
-  pub range_by_keys : (start end : Bound (List ℕ)) → of_tree (λ t. range_reads key P t start end) (tree_of key xs) ≡ of_tree (λ t. range_reads other P t start end) (tree_of other ys)
-  range_by_keys start end =
-      let reads : Tree (List ℕ) → ℕ = λ t. range_reads itself P t start end in
-      sym (of-turned key itself reads (λ t. range_reads key P t start end) (λ t. range-turned key itself P t start end) xs)
-      ∙ ap (λ keys. of_tree reads (tree_of itself keys)) same ∙ of-turned other itself reads (λ t. range_reads other P t start end) (λ t. range-turned other itself P t start end) ys
+  pub paths_by_keys : (k : List ℕ) → of_tree (λ t. length (path_of t k)) (tree_of key xs) ≡ of_tree (λ t. length (path_of t k)) (tree_of other ys)
+  paths_by_keys k = by_keys (λ Z f t. length (path_of t k)) (λ Z f t. ap length (path-turned f itself t k) ∙ length-map (path_of t k) (turned f itself))
+
+  module _ (P : ℕ) where
+    pub look_ups_by_keys : (k : List ℕ) → of_tree (look_up_reads P k) (tree_of key xs) ≡ of_tree (look_up_reads P k) (tree_of other ys)
+    look_ups_by_keys k = by_keys (λ Z f t. look_up_reads P k t) (λ Z f t. ap length (look_up-turned f itself P t k) ∙ length-map (look_up_path P t k) (turned f itself))
+
+    pub part_by_keys : (front : List ℕ) → of_tree (λ t. part_reads key P t front) (tree_of key xs) ≡ of_tree (λ t. part_reads other P t front) (tree_of other ys)
+    part_by_keys front = by_keys (λ Z f t. part_reads f P t front) (λ Z f t. part-turned f itself P t front)
+
+    pub range_by_keys : (start end : Bound (List ℕ)) → of_tree (λ t. range_reads key P t start end) (tree_of key xs) ≡ of_tree (λ t. range_reads other P t start end) (tree_of other ys)
+    range_by_keys start end = by_keys (λ Z f t. range_reads f P t start end) (λ Z f t. range-turned f itself P t start end)

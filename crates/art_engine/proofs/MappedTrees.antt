@@ -1,10 +1,10 @@
--- The tree of some items, and that of what each of them is turned into: the one is the other with each item turned, and a
--- path has as many nodes in one as in the other.
-use Rattle.std.proofs.Common.{◌≡◌, ℕ, zero, suc, List, [], ◌∷◌, length, drop, map, Option, Some, None, refl, sym, ap, ap₂, ◌∙◌, true, false, cond}
+-- The tree of some items, and that of what each of them is turned into: the one is the other with each item turned, and so
+-- are the nodes of a path.
+use Rattle.std.proofs.Common.{◌≡◌, ℕ, zero, suc, List, [], ◌∷◌, length, drop, take, map, Option, Some, None, refl, sym, ap, ap₂, ◌∙◌, true, false, cond}
 use Rattle.std.specs.Prelude.{◌==◌, option_map, slice_index}
 use Rattle.art_bytes.proofs.Common.{common_prefix, shared_prefix}
-use Rattle.art_arena.proofs.Common.{Tree, Forest, leaf, inner, no_child, child, Group, add_to, grouped, children_of, tree_below, tree_of, path_of, path_in}
-use Rattle.art_walks.proofs.Common.{path_length}
+use Rattle.art_arena.proofs.Common.{Tree, Forest, leaf, inner, no_child, child, Group, add_to, grouped, children_of, tree_below, tree_of, path_of, path_in, begins_with}
+use Rattle.art_arena.specs.tree.Paths.{look_up_in, look_up_path}
 use Rattle.std.proofs.lemmas.List.{length-map}
 
 module _ {X Y : Type 0} (f : X → Y) (key : Y → List ℕ) where
@@ -34,6 +34,25 @@ module _ {X Y : Type 0} (f : X → Y) (key : Y → List ℕ) where
         elim (b == byte) as (λ c. cond c (path_of (turned t) k) (path_in (turned_in others) (b ∷ k)) ≡ map turned (cond c (path_of t k) (path_in others (b ∷ k)))) [
           | true ↦ path-turned t k
           | false ↦ path_in-turned others (b ∷ k)
+        ]
+
+  mutual
+    pub look_up-turned : (P : ℕ) (t : Tree X) (k : List ℕ) → look_up_path P (turned t) k ≡ map turned (look_up_path P t k)
+    look_up-turned P (leaf x) k = refl
+    look_up-turned P (inner prefix children) k =
+        ap (λ nodes. turned (inner prefix children) ∷ nodes)
+        (elim (begins_with (take P prefix) k) as (λ c. cond c (look_up_in P (turned_in children) (drop (length prefix) k)) [] ≡ map turned (cond c (look_up_in P children (drop (length prefix) k)) [])) [
+          | true ↦ look_up_in-turned P children (drop (length prefix) k)
+          | false ↦ refl
+        ])
+
+    look_up_in-turned : (P : ℕ) (cs : Forest X) (k : List ℕ) → look_up_in P (turned_in cs) k ≡ map turned (look_up_in P cs k)
+    look_up_in-turned P no_child k = refl
+    look_up_in-turned P (child byte t others) [] = refl
+    look_up_in-turned P (child byte t others) (b ∷ k) =
+        elim (b == byte) as (λ c. cond c (look_up_path P (turned t) k) (look_up_in P (turned_in others) (b ∷ k)) ≡ map turned (cond c (look_up_path P t k) (look_up_in P others (b ∷ k)))) [
+          | true ↦ look_up-turned P t k
+          | false ↦ look_up_in-turned P others (b ∷ k)
         ]
 
   abbrev group : Group X → Group Y
@@ -79,18 +98,6 @@ module _ {X Y : Type 0} (f : X → Y) (key : Y → List ℕ) where
   tree-turned [] = refl
   tree-turned (x ∷ xs) = ap (λ n. Some (tree_below key n 0 (map f (x ∷ xs)))) (length-map (x ∷ xs) f) ∙ ap Some (below-turned (length (x ∷ xs)) 0 (x ∷ xs))
 
-  length-turned : (k : List ℕ) (o : Option (Tree X)) → path_length k (option_map turned o) ≡ path_length k o
-  length-turned k None = refl
-  length-turned k (Some t) = ap length (path-turned t k) ∙ length-map (path_of t k) turned
-
-  paths-turned : (k : List ℕ) (xs : List X) → path_length k (tree_of key (map f xs)) ≡ path_length k (tree_of key_after xs)
-  paths-turned k xs = ap (path_length k) (tree-turned xs) ∙ length-turned k (tree_of key_after xs)
-
 -- a list of keys is its own
 abbrev pub itself : List ℕ → List ℕ
 itself k = k
-
--- a path goes by the keys alone
-pub paths_by_keys : {X Y : Type 0} (key : X → List ℕ) (other : Y → List ℕ) (xs : List X) (ys : List Y) → map key xs ≡ map other ys → (k : List ℕ)
-    → path_length k (tree_of key xs) ≡ path_length k (tree_of other ys)
-paths_by_keys key other xs ys same k = sym (paths-turned key itself k xs) ∙ ap (λ keys. path_length k (tree_of itself keys)) same ∙ paths-turned other itself k ys

@@ -13,7 +13,8 @@ use Rattle.art_lines.proofs.Common.{audit, del, drop, dump, find, full_key, get,
 use Rattle.art_lines.specs.Reading.{command_of}
 use Rattle.art_map.specs.Contents.{Contents}
 use Rattle.art_operations.specs.Runs.{HoldsTreeOf}
-use Rattle.art_walks.proofs.Common.{path_length}
+use Rattle.art_arena.specs.tree.Paths.{path_of}
+use Rattle.art_walks.specs.MapReads.{of_tree}
 use Rattle.art_engine.specs.Ahead.{AreOnOwnPath, AreOnPath, is_in_numbers, nodes_to, path_ahead}
 use Rattle.art_engine.specs.OwnAhead.{AheadIsOwn, AreReadAhead, HoldRecords, IsOwnAhead, IsWithinOwnPath, OwnPathsAreOwn, OwnWaysArePaths, own_path_nodes, path_nodes_at}
 use Rattle.art_engine.specs.ReadAhead.{IsOnOwnWay, IsOnWayOf, IsReadAhead}
@@ -22,7 +23,7 @@ use Rattle.art_engine.proofs.Terms.{AreRecords, IsOwnPath, KeyRecord, NumberPair
 use Rattle.art_engine.proofs.Changing.{keys_are}
 use Rattle.art_engine.proofs.Conflicts.{bytes_of}
 use Rattle.art_engine.proofs.CountLaws.{own_way_of, own_way_of_number}
-use Rattle.art_engine.proofs.MappedTrees.{paths_by_keys}
+use Rattle.art_engine.proofs.MappedReads.{paths_by_keys}
 use Rattle.art_engine.proofs.NumberPlaces.{are_in_order, number_bytes, number_keys_are}
 use Rattle.art_engine.proofs.PathsAhead.{first_few, root_first}
 
@@ -39,8 +40,8 @@ module _ (P : ℕ) (keys : Arena (Vec ℕ) (Vec ℕ)) (keys_root : Option Name) 
   on_path line own = go line.of_number own
     where
       go : (b : Bool) → IsOnWayOf keys keys_root numbers numbers_root b line → AreOnPath P keys ps numbers ns b (Some line.key.items) line.visited.items
-      go true way = root_first P numbers line.passing line.key.items (λ k. k) numbers_root ns line.visited.items numbers_held way.way
-      go false way = root_first P keys line.passing line.key.items (λ k. k.items) keys_root ps line.visited.items keys_held way.way
+      go true way = root_first P numbers line.key.items (λ k. k) numbers_root ns line.visited.items numbers_held way.way
+      go false way = root_first P keys line.key.items (λ k. k.items) keys_root ps line.visited.items keys_held way.way
 
   -- that is its own
   read_ahead : (line : Line) → IsOnOwnWay keys keys_root numbers numbers_root line → IsReadAhead P keys ps numbers ns line
@@ -58,7 +59,7 @@ module _ (P : ℕ) (keys : Arena (Vec ℕ) (Vec ℕ)) (keys_root : Option Name) 
   all_read_ahead lines own = all_weaker (IsOnOwnWay keys keys_root numbers numbers_root) (IsReadAhead P keys ps numbers ns) read_ahead lines own
 
 -- a path has as many nodes as it is long
-nodes_long : {X : Type 0} (full : List ℕ) (o : Option (Tree X)) → length (nodes_to full o) ≡ path_length full o
+nodes_long : {X : Type 0} (full : List ℕ) (o : Option (Tree X)) → length (nodes_to full o) ≡ of_tree (λ t. length (path_of t full)) o
 nodes_long full None = refl
 nodes_long full (Some t) = refl
 

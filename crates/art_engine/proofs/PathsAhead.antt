@@ -7,7 +7,6 @@ use Rattle.art_nodes.proofs.Common.{Name, child_at}
 use Rattle.art_nodes.specs.InnerNode.{InnerNode}
 use Rattle.art_arena.proofs.Common.{Arena, AreHeld, Branches, Cell, Shape, Tree, all_left, all_right, branch, branches, cell_of, cells, cells_in, children_at, erase, erase_in, inner_at, key_of, leaf_at, name_of, no_branch, node_at, node_of, pair, path_in, path_of, tree_of}
 use Rattle.art_arena.proofs.shapes.Finding.{dropped}
-use Rattle.art_arena.specs.declared.descent.Passing.{Passing}
 use Rattle.art_operations.specs.Runs.{HoldsTreeOf}
 use Rattle.art_engine.specs.Ahead.{AreNodesAlong, IsWay, nodes_to}
 
@@ -60,9 +59,9 @@ module _ {K V : Type 0} (P : ℕ) (arena : Arena K V) where
         ]
       ]
 
-  module _ (passing : Passing) (key : List ℕ) where
+  module _ (key : List ℕ) where
     -- a way from a part of the tree on
-    way_first : (names : List Name) (s : Shape K V) (depth : ℕ) → AreHeld (node_at arena) (cells P s) → IsWay passing arena key (name_of s, depth) names → AreNodesAlong P arena names (path_of (erase s) (drop depth key))
+    way_first : (names : List Name) (s : Shape K V) (depth : ℕ) → AreHeld (node_at arena) (cells P s) → IsWay arena key (name_of s, depth) names → AreNodesAlong P arena names (path_of (erase s) (drop depth key))
     way_first [] s depth held way = tt
     way_first (n ∷ []) s depth held way = first_of n [] s (drop depth key) way.0 held tt
     way_first (n ∷ m ∷ names) (leaf_at slot k v) depth held (is, next, (node, byte, there, goes, passes), on) =
@@ -80,15 +79,15 @@ module _ {K V : Type 0} (P : ℕ) (arena : Arena K V) where
         ∙ ap (λ b. b ∷ drop (depth + node.header.prefix_len + 1) key) goes.byte_is ∙ ap (λ k. byte ∷ drop k key) (sym after) in
         first_of n (m ∷ names) (inner_at name prefix kids) (drop depth key) is held
         (subst (AreNodesAlong P arena (m ∷ names)) (sym (ap (path_in (erase_in kids)) rest ∙ kid.path))
-        (way_first (m ∷ names) kid.shape next.1 kid.held (subst (λ x. IsWay passing arena key (x, next.1) (m ∷ names)) (sym kid.named) on)))
+        (way_first (m ∷ names) kid.shape next.1 kid.held (subst (λ x. IsWay arena key (x, next.1) (m ∷ names)) (sym kid.named) on)))
 
     -- a way from the root of the tree of some pairs
-    pub root_first : (bytes : K → List ℕ) (root : Option Name) (pairs : List (K × V)) (names : List Name) → HoldsTreeOf bytes P arena root pairs → MatchOption root (names ≡ []) (λ r. IsWay passing arena key (r, 0) names)
+    pub root_first : (bytes : K → List ℕ) (root : Option Name) (pairs : List (K × V)) (names : List Name) → HoldsTreeOf bytes P arena root pairs → MatchOption root (names ≡ []) (λ r. IsWay arena key (r, 0) names)
         → AreNodesAlong P arena names (nodes_to key (tree_of (key_of bytes) pairs))
     root_first bytes None pairs names holds none = subst (λ ns. AreNodesAlong P arena ns (nodes_to key (tree_of (key_of bytes) pairs))) (sym none) tt
     root_first bytes (Some root) pairs names holds way =
         let means = holds.2 in
-        let first = way_first names means.shape 0 means.is_tree.nodes.holds.held (subst (λ x. IsWay passing arena key (x, 0) names) (sym means.is_tree.nodes.named) way) in
+        let first = way_first names means.shape 0 means.is_tree.nodes.holds.held (subst (λ x. IsWay arena key (x, 0) names) (sym means.is_tree.nodes.named) way) in
         subst (λ o. AreNodesAlong P arena names (nodes_to key o)) (sym holds.1) (subst (λ t. AreNodesAlong P arena names (path_of t key)) means.erased first)
 
   -- no more names than nodes

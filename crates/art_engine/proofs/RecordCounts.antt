@@ -12,21 +12,19 @@ use Rattle.std.specs.BTreeMap.Range.{range_contains}
 use Rattle.art_bytes.proofs.Common.{is_below, bytes_cmp, pair_key}
 use Rattle.art_arena.proofs.Common.{begins_with, key_of}
 use Rattle.art_operations.specs.Openings.{part_reads, range_reads}
-use Rattle.art_walks.proofs.Common.{ReadsPathOf}
-use Rattle.art_walks.specs.MapReads.{ReadsTree}
+use Rattle.art_walks.specs.MapReads.{ReadsTree, look_up_reads}
 use Rattle.art_lines.proofs.Common.{full_key}
 use Rattle.art_engine.proofs.Changing.{option_map-map}
-use Rattle.art_engine.proofs.Counting.{path_is_short}
+use Rattle.art_engine.proofs.Counting.{look_up_is_short}
 use Rattle.art_engine.proofs.Filters.{All-each, lookup-entry, map-alike}
 use Rattle.art_engine.proofs.FullTests.{begins_full, between_full}
 use Rattle.art_engine.proofs.KeyKinds.{number_pairs_stand, under_keys, under_numbers}
 use Rattle.art_engine.proofs.Listings.{listing_grew, listing_most, path_grew}
-use Rattle.art_engine.proofs.MappedReads.{part_by_keys, range_by_keys}
-use Rattle.art_engine.proofs.MappedTrees.{paths_by_keys}
+use Rattle.art_engine.proofs.MappedReads.{look_ups_by_keys, part_by_keys, range_by_keys}
 use Rattle.art_engine.proofs.NumberKeys.{HaveBytes, between_numbers}
 use Rattle.art_engine.proofs.OwnLaws.{part_of}
 use Rattle.art_engine.proofs.TenantKeys.{HeldPair, IsTest, Kind, StandsUnder, found, key_in, keys_are, passing, record_in, whole_of}
-use Rattle.art_engine.proofs.Terms.{exactly, listed_after, part_opening, path_nodes, range_opening, GrewBy, GrewUpTo, Grew, AreNumberPairs, NumberPair, number_key_of, number_record_of, own_part, value_at, Record}
+use Rattle.art_engine.proofs.Terms.{exactly, listed_after, look_up_nodes, part_opening, range_opening, GrewBy, GrewUpTo, Grew, AreNumberPairs, NumberPair, number_key_of, number_record_of, own_part, value_at, Record}
 
 module _ {K M : Type 0} {bytes : M → List ℕ} {rest : K → List ℕ} {back : List ℕ → K} {Fits : K → Type 0} {lt same : K → K → Bool} {Before : Record K → Record K → Type 0}
     (kind : Kind bytes rest back Fits lt same Before) where
@@ -38,11 +36,11 @@ module _ {K M : Type 0} {bytes : M → List ℕ} {rest : K → List ℕ} {back :
   own_pairs ps = map-alike part_of (record_in kind) own_in ps (All-each (λ p. part_of (record_in kind p) ≡ own_in p) (λ p. refl) ps)
 
   module _ (ps : List (HeldPair kind)) (stand : AllByRecursion (StandsUnder kind) ps) (old new : ℕ) where
-    -- a path in the map is one in the tree of the records
-    pub record_path : (full : List ℕ) → length full ≤ 2049 → ReadsPathOf bytes full ps old new → Grew (exactly (path_nodes (whole_of kind) (map (record_in kind) ps) full)) old new
-    record_path full short reads =
-        let same = paths_by_keys (key_in kind) (whole_of kind) ps (map (record_in kind) ps) (keys_are kind ps stand) full in
-        let few = path_is_short (whole_of kind) (map (record_in kind) ps) full in
+    -- a look-up in the map is one in the tree of the records
+    pub record_look_up : (P : ℕ) (full : List ℕ) → length full ≤ 2049 → ReadsTree bytes (look_up_reads P full) ps old new → Grew (exactly (look_up_nodes (whole_of kind) P (map (record_in kind) ps) full)) old new
+    record_look_up P full short reads =
+        let same = look_ups_by_keys (key_in kind) (whole_of kind) ps (map (record_in kind) ps) (keys_are kind ps stand) P full in
+        let few = look_up_is_short (whole_of kind) P (map (record_in kind) ps) full in
         path_grew _ old new (omega arith) (reads ∙ ap (λ n. min (old + n) (2 ^ 64 - 1)) same)
 
     -- and so are the nodes that are read to find the ends of a part, or of a range
@@ -105,7 +103,7 @@ pub number_tests : (t : ℕ) (low high : ℤ) → HaveBytes t low → HaveBytes 
     → IsTest under_numbers t (λ u. false) (range_contains bytes_cmp (Included (pair_key (t, low))) (Included (pair_key (t, high)))) (λ m. not (int_lt m low) && not (int_lt high m))
 number_tests t low high fits_low fits_high u m s f = between_numbers t u low high m fits_low fits_high (s, f)
 
--- the path of a tenant's number
-pub number_path : (t : ℕ) (n : ℤ) (ns : List NumberPair) → AreNumberPairs ns → (old new : ℕ) → ReadsPathOf (λ (k : List ℕ). k) (pair_key (t, n)) ns old new
-    → Grew (exactly (path_nodes number_key_of (map number_record_of ns) (pair_key (t, n)))) old new
-number_path t n ns are old new reads = let long : length (pair_key (t, n)) ≡ 12 = refl in record_path under_numbers ns (number_pairs_stand ns are) old new (pair_key (t, n)) (omega arith) reads
+-- a look-up of a tenant's number
+pub number_look_up : (P t : ℕ) (n : ℤ) (ns : List NumberPair) → AreNumberPairs ns → (old new : ℕ) → ReadsTree (λ (k : List ℕ). k) (look_up_reads P (pair_key (t, n))) ns old new
+    → Grew (exactly (look_up_nodes number_key_of P (map number_record_of ns) (pair_key (t, n)))) old new
+number_look_up P t n ns are old new reads = let long : length (pair_key (t, n)) ≡ 12 = refl in record_look_up under_numbers ns (number_pairs_stand ns are) old new P (pair_key (t, n)) (omega arith) reads

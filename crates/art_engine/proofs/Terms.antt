@@ -2,7 +2,7 @@
 pub use Rattle.art_engine.specs.Ahead.{AreNext, IsAllTold, IsNextLine, Tells, most_ahead, total}
 pub use Rattle.art_engine.specs.ReadAhead.{read_of, texts_of, to_come}
 pub use Rattle.art_engine.specs.Changed.{IsChangeDone, IsPutDone, changed_words, change_is_memory}
-pub use Rattle.art_engine.specs.Counts.{Grew, GrewBy, GrewUpTo, IsOwnPath, IsShort, IsWithin, ReadsOwnPath, Visits, drop_nodes, exactly, fronts_shared, key_visits, line_visits, list_nodes, listed_after, number_span_nodes, number_visits, part_opening, path_nodes, range_opening, span_nodes, visits_of}
+pub use Rattle.art_engine.specs.Counts.{Grew, GrewBy, GrewUpTo, IsOwnPath, IsShort, IsWithin, ReadsOwnPath, Visits, drop_nodes, exactly, fronts_shared, key_visits, line_visits, list_nodes, listed_after, look_up_nodes, number_span_nodes, number_visits, part_opening, path_nodes, range_opening, span_nodes, visits_of}
 pub use Rattle.art_engine.specs.Faults.{AfterWriteFault, IsAnswerCut, IsCutLine}
 pub use Rattle.art_engine.specs.FewVisits.{VisitsAreBounded, dropping, listing, longest, visit_bounds}
 pub use Rattle.art_engine.specs.Held.{IsNumberRecordIn, IsRecordIn, IsShortNumber, IsShortNumberPair, IsShortPair, IsShortRecord}

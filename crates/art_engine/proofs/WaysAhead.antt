@@ -7,31 +7,30 @@ use Rattle.std.specs.Prelude.{None, IfSome, IsSome, MatchOption}
 use Rattle.art_nodes.proofs.Common.{Name}
 use Rattle.art_arena.proofs.Common.{Arena, all_weaker, held_at}
 use Rattle.art_arena.specs.arena.Arena.{Held}
-use Rattle.art_arena.specs.declared.descent.Passing.{Passing}
 use Rattle.art_engine.specs.Ahead.{AllLeadTo, IsWayAhead, IsWay, LeadsTo}
 use Rattle.art_engine.specs.ReadAhead.{IsAtStart, IsDescended, IsOnOwnWay, IsOnWayIn, IsOnWayOf}
 use Rattle.art_engine.specs.declared.read_ahead.line.Line.{Line}
 
-module _ {K V : Type 0} (passing : Passing) (arena : Arena K V) (key : List ℕ) where
+module _ {K V : Type 0} (arena : Arena K V) (key : List ℕ) where
   -- nodes that lead to a place, and the node there
-  way-more : (from : Name × ℕ) (names : List Name) (here : Name × ℕ) → AllLeadTo passing arena key from names here → IsSome (held_at arena here.0) → IsWay passing arena key from (names ++ here.0 ∷ [])
+  way-more : (from : Name × ℕ) (names : List Name) (here : Name × ℕ) → AllLeadTo arena key from names here → IsSome (held_at arena here.0) → IsWay arena key from (names ++ here.0 ∷ [])
   way-more from [] here e there = (ap (λ (p : Name × ℕ). p.0) e, there)
   way-more from (n ∷ []) here (is, next, leads, e) there = (is, next, leads, (ap (λ (p : Name × ℕ). p.0) e, there))
   way-more from (n ∷ m ∷ names) here (is, next, leads, on) there = (is, next, leads, way-more next (m ∷ names) here on there)
 
   -- and the place to which that one leads
-  leads-more : (from : Name × ℕ) (names : List Name) (here next : Name × ℕ) → AllLeadTo passing arena key from names here → LeadsTo passing arena key here next → AllLeadTo passing arena key from (names ++ here.0 ∷ []) next
-  leads-more from [] here next e leads = (ap (λ (p : Name × ℕ). p.0) e, next, subst (λ p. LeadsTo passing arena key p next) e leads, refl)
+  leads-more : (from : Name × ℕ) (names : List Name) (here next : Name × ℕ) → AllLeadTo arena key from names here → LeadsTo arena key here next → AllLeadTo arena key from (names ++ here.0 ∷ []) next
+  leads-more from [] here next e leads = (ap (λ (p : Name × ℕ). p.0) e, next, subst (λ p. LeadsTo arena key p next) e leads, refl)
   leads-more from (n ∷ names) here next (is, between, first, on) leads = (is, between, first, leads-more between names here next on leads)
 
   -- the node at a place is visited: it ends the way, or leads on
   pub visited_once : (later : Arena K V) (root : Option Name) (names more : List Name) (left left' : ℕ) (here next : Name × ℕ) (held : Held K V) → later ≡ arena → more ≡ names ++ here.0 ∷ [] → 0 < left
-      → held_at arena here.0 ≡ Some held → (0 < left' → LeadsTo passing arena key here next) → IsWayAhead passing arena key root names left here → IsWayAhead passing later key root more left' next
+      → held_at arena here.0 ≡ Some held → (0 < left' → LeadsTo arena key here next) → IsWayAhead arena key root names left here → IsWayAhead later key root more left' next
   visited_once later root names more left left' here next held same is low there leads way =
       let on = way.goes_on low in
-      subst (λ a. IsWayAhead passing a key root more left' next) (sym same)
-      (subst (λ ns. IsWayAhead passing arena key root ns left' next) (sym is) (record {
-        way = subst (λ (o : Option Name). MatchOption o (names ++ here.0 ∷ [] ≡ []) (λ r. IsWay passing arena key (r, 0) (names ++ here.0 ∷ []))) (sym on.1)
+      subst (λ a. IsWayAhead a key root more left' next) (sym same)
+      (subst (λ ns. IsWayAhead arena key root ns left' next) (sym is) (record {
+        way = subst (λ (o : Option Name). MatchOption o (names ++ here.0 ∷ [] ≡ []) (λ r. IsWay arena key (r, 0) (names ++ here.0 ∷ []))) (sym on.1)
             (way-more (on.0, 0) names here on.2 (subst IsSome (sym there) refl));
         goes_on = λ more. (on.0, on.1, leads-more (on.0, 0) names here next on.2 (leads more));
       }))
@@ -92,13 +91,13 @@ start_in arena root given line none is starts = record {
   goes_on = λ low. let s = starts low in (
     line.node,
     subst (λ o. IfSome o (λ name. root ≡ Some name)) s.1 is,
-    subst (λ names. AllLeadTo line.passing arena line.key.items (line.node, 0) names (line.node, line.depth)) (sym none) (ap (λ d. (line.node, d)) s.0),
+    subst (λ names. AllLeadTo arena line.key.items (line.node, 0) names (line.node, line.depth)) (sym none) (ap (λ d. (line.node, d)) s.0),
   );
 }
   where
-    of_root : (o : Option Name) → MatchOption o (line.visited.items ≡ []) (λ r. IsWay line.passing arena line.key.items (r, 0) line.visited.items)
+    of_root : (o : Option Name) → MatchOption o (line.visited.items ≡ []) (λ r. IsWay arena line.key.items (r, 0) line.visited.items)
     of_root None = none
-    of_root (Some r) = subst (λ names. IsWay line.passing arena line.key.items (r, 0) names) (sym none) tt
+    of_root (Some r) = subst (λ names. IsWay arena line.key.items (r, 0) names) (sym none) tt
 
 module _ (keys : Arena (Vec ℕ) (Vec ℕ)) (keys_root : Option Name) (numbers : Arena (List ℕ) (Vec ℕ)) (numbers_root : Option Name) where
   abbrev own_if : Bool → Line → Type 0

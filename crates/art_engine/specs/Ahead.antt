@@ -1,21 +1,19 @@
 -- What is read ahead of a line.
-use Rattle.std.specs.Prelude.{◌≡◌, ◌⊎◌, ℕ, suc, ◌+◌, ◌<◌, int_lt, if◌then◌else◌, List, [], ◌∷◌, ◌++◌, length, drop}
-use Rattle.std.specs.Prelude.{Option, Some, None, IsSome, MatchOption, option_map, unwrap_or, nat_eq, Bool, true, false}
+use Rattle.std.specs.Prelude.{◌≡◌, ◌⊎◌, ℕ, suc, ◌+◌, ◌<◌, int_lt, if◌then◌else◌, List, [], ◌∷◌, ◌++◌, length}
+use Rattle.std.specs.Prelude.{Option, Some, None, IsSome, MatchOption, option_map, unwrap_or, Bool, true, false}
 use Rattle.std.specs.Global.{Vec}
-use Rattle.std.specs.List.{starts_with, sum_by}
+use Rattle.std.specs.List.{sum_by}
 use Rattle.art_bytes.specs.Keys.{is_below}
 use Rattle.art_bytes.specs.Laws.{pair_key}
 use Rattle.art_nodes.specs.Name.{Name}
 use Rattle.art_nodes.specs.InnerNode.{InnerNode}
 use Rattle.art_arena.specs.arena.Arena.{Arena, held_at, inner_held, node_at}
 use Rattle.art_arena.specs.arena.Cells.{AreHeld}
-use Rattle.art_arena.specs.arena.Descents.{GoesOn}
+use Rattle.art_arena.specs.arena.Descents.{GoesOn, MeetsStored}
 use Rattle.art_arena.specs.arena.Shapes.{Shape, cells, erase, name_of}
 use Rattle.art_arena.specs.tree.Paths.{path_of}
 use Rattle.art_arena.specs.tree.TreeOf.{tree_of}
 use Rattle.art_arena.specs.tree.Trees.{Tree}
-use Rattle.art_arena.specs.declared.descent.Passing.{Passing}
-use Rattle.art_arena.specs.declared.descent.Passing.TheVariants.{ByBytes, ByLength}
 use Rattle.art_lines.specs.Commands.{Command, of_tenant, over, del, get, find, list, span, nget, ndel, nspan}
 use Rattle.art_lines.specs.Keys.{full_key}
 use Rattle.art_lines.specs.Lines.{whole_lines_of}
@@ -46,15 +44,6 @@ is_in_numbers (Some (of_tenant tenant (ndel number))) = true
 is_in_numbers (Some (of_tenant tenant (nspan low high))) = true
 is_in_numbers other = false
 
--- how prefixes are passed on it: by their lengths where the command compares the key of its leaf as a whole
-abbrev pub passing_ahead : Option Command → Passing
-passing_ahead (Some (of_tenant tenant (get key))) = ByLength
-passing_ahead (Some (of_tenant tenant (find key))) = ByLength
-passing_ahead (Some (of_tenant tenant (nget number))) = ByLength
-passing_ahead (Some (of_tenant tenant (del key))) = ByLength
-passing_ahead (Some (of_tenant tenant (ndel number))) = ByLength
-passing_ahead other = ByBytes
-
 -- whether its answer shows the value of a record that its path leads to
 abbrev pub shows_value : Option Command → Bool
 shows_value (Some (of_tenant tenant (get key))) = true
@@ -65,13 +54,12 @@ shows_value (Some (of_tenant tenant (nget number))) = true
 shows_value (Some (of_tenant tenant (nspan low high))) = true
 shows_value other = false
 
-module _ {K V : Type 0} (passing : Passing) (arena : Arena K V) (key : List ℕ) where
+module _ {K V : Type 0} (arena : Arena K V) (key : List ℕ) where
   -- From one place of a path, a node and how many bytes of the key lead there, to the next: the node is an inner one
-  -- from which the key goes on by its next byte. By bytes the key meets its prefix, as much as is stored.
+  -- from which the key goes on by its next byte, and whose prefix, as much as is stored, the key meets.
   abbrev pub LeadsTo : Name × ℕ → Name × ℕ → Type 0
   LeadsTo from to = (node : InnerNode) × (byte : ℕ) × (held_at arena from.0 ≡ Some (inner_held node))
-      × GoesOn key from.1 node byte to.0 to.1
-      × (passing ≡ ByBytes → starts_with nat_eq (drop from.1 key) node.header.stored ≡ true)
+      × GoesOn key from.1 node byte to.0 to.1 × MeetsStored key from.1 node
 
   -- a step: it stays, or goes on
   abbrev pub IsStepAhead : Name × ℕ → Name × ℕ → Type 0

@@ -11,7 +11,8 @@ use Rattle.art_arena.specs.tree.Fronts.{distinct}
 use Rattle.art_arena.specs.tree.TreeOf.{tree_of}
 use Rattle.art_operations.specs.NodeCounts.{node_count}
 use Rattle.art_operations.specs.Openings.{part_reads, range_reads}
-use Rattle.art_walks.specs.MapReads.{of_tree, path_length}
+use Rattle.art_arena.specs.tree.Paths.{path_of}
+use Rattle.art_walks.specs.MapReads.{look_up_reads, of_tree}
 use Rattle.art_lines.specs.Commands.{get, find, list, span, nget, nspan, drop, Command, of_tenant}
 use Rattle.art_bytes.specs.Laws.{pair_key}
 use Rattle.art_lines.specs.Keys.{full_key}
@@ -31,9 +32,13 @@ exactly n = record { least = n; most = n }
 module _ {X : Type 0} (key : X → List ℕ) where
   -- how many nodes the path of a full key has in the tree of some records
   abbrev pub path_nodes : List X → List ℕ → ℕ
-  path_nodes xs full = path_length full (tree_of key xs)
+  path_nodes xs full = of_tree (λ t. length (path_of t full)) (tree_of key xs)
 
   module _ (P : ℕ) (xs : List X) where
+    -- how many of them a look-up reads: up to one with whose prefix, as it is stored, the full key doesn't go on
+    abbrev pub look_up_nodes : List ℕ → ℕ
+    look_up_nodes full = of_tree (look_up_reads P full) (tree_of key xs)
+
     -- what is read there to find the first and the last record whose full key begins with a front
     abbrev pub part_opening : List ℕ → ℕ
     part_opening front = of_tree (λ t. part_reads key P t front) (tree_of key xs)
@@ -78,16 +83,17 @@ drop_nodes P tenant records =
     min (cut_nodes full_key_of P records.keys (λ r. r.tenant) tenant
     + cut_nodes number_key_of P records.numbers (λ r. r.tenant) tenant) (2 ^ 64 - 1)
 
--- What a command reads: a look-up the path of its full key, or what its listing reads; a drop as above; all others
--- nothing that counts. `P` is how many bytes of a prefix a node stores.
+-- What a command reads: a look-up of one record nodes of the path of its full key, another what its listing reads, a
+-- drop as above, and all others nothing that counts. `P` is how many bytes of a prefix a node stores.
 abbrev pub visits_of : ℕ → Option Command → Records → Visits
-visits_of P (Some (of_tenant t (get key))) records = exactly (path_nodes full_key_of records.keys (full_key t key))
-visits_of P (Some (of_tenant t (find key))) records = exactly (path_nodes full_key_of records.keys (full_key t key))
+visits_of P (Some (of_tenant t (get key))) records = exactly (look_up_nodes full_key_of P records.keys (full_key t key))
+visits_of P (Some (of_tenant t (find key))) records =
+    exactly (look_up_nodes full_key_of P records.keys (full_key t key))
 visits_of P (Some (of_tenant t (list front))) records = exactly (list_nodes P t front records)
 visits_of P (Some (of_tenant t (span low high))) records =
     if is_below high low then exactly 0 else exactly (span_nodes P t low high records)
 visits_of P (Some (of_tenant t (nget number))) records =
-    exactly (path_nodes number_key_of records.numbers (pair_key (t, number)))
+    exactly (look_up_nodes number_key_of P records.numbers (pair_key (t, number)))
 visits_of P (Some (of_tenant t (nspan low high))) records =
     if int_lt high low then exactly 0 else exactly (number_span_nodes P t low high records)
 visits_of P (Some (of_tenant t drop)) records = exactly (drop_nodes P t records)

@@ -60,7 +60,7 @@ pub record IsAtStart (keys numbers : Option Name) (line : Line) : Type 0 where
 -- what was visited for the line is a way in this arena, from this root on
 abbrev pub IsOnWayIn : {K V : Type 0} → Arena K V → Option Name → Line → Type 0
 IsOnWayIn arena root line =
-    IsWayAhead line.passing arena line.key.items root line.visited.items line.left (line.node, line.depth)
+    IsWayAhead arena line.key.items root line.visited.items line.left (line.node, line.depth)
 
 -- A line after a descent in one of both maps: if its path lies in that map, its way stays one; else it is what it was.
 pub record IsDescended {K V : Type 0} (arena : Arena K V) (in_numbers : Bool) (old new : Line) : Type 0 where

@@ -96,9 +96,10 @@ pub fn drops_read_few()
     ensures { DropsReadFew }
 {}
 
-/// What a listing or a drop reads lies between bounds that are told without the tree.
+/// What a look-up, a listing or a drop reads lies between bounds, which the keys of the records tell.
 ///
-/// Of a listing of m records these are m and m + 2 * (b + 6) * (L + 2). Here b is the number of bytes of the prefix or
+/// Of a look-up of one record these are 0 and the nodes of its full key's path, and where it finds one all of these. Of
+/// a listing of m records they are m and m + 2 * (b + 6) * (L + 2). Here b is the number of bytes of the prefix or
 /// of the longer bound, L that of the longest full key. For numbers they are 8 and 12. Those of a drop are told by
 /// `drops_read_few`.
 #[tactic(auto, using(crate::proofs::FewVisits::visits_are_bounded))]

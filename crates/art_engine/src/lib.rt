@@ -5,6 +5,9 @@
 //! `Records` and `Keys`; `ReplyWords` of art_lines; `Replies`, `Refusals`, `Outcome` and `Faults`. `Outcome` reads a
 //! line by `Reading` of art_lines, which need not be believed: the law `reading_is_spelling` there says that it is the
 //! grammar of `Commands`.
+//!
+//! It knows no standard input, so an index can stand in another program. Since a program can't be stood upon, all calls
+//! are here, and `art_index` only calls them. What of art_lines they are used with is passed on.
 #![tactic(auto)]
 
 mod audit;

@@ -1,4 +1,8 @@
 //! Walks over a tenant's records, each leaf that is read counted. A span is opened, and then read and written as lines.
+//!
+//! Lines are gathered in a buffer, so a list takes no memory, whatever its length. Where a prefix isn't stored whole, a
+//! leaf is read for it: so what a list or a drop reads goes by `PREFIX_LEN`, too, and the model of an index has it as a
+//! parameter.
 ghost use Rattle.std.specs.Prelude.{◌≡◌, ◌+◌, ◌++◌, ◌^◌, ◌<◌, ◌≤◌, ℕ, IfOk, List, OnErr, OnOk, Some, false, flat_map};
 ghost use Rattle.std.specs.Prelude.{int_lt, is_err, length, map, take};
 ghost use Rattle.std.specs.Global.{Vec};
@@ -13,7 +17,7 @@ ghost use Rattle.art_lines.specs.Gathered.{IsPartTaken};
 ghost use Rattle.art_engine.specs.Replies.{own_reply, pairs_from_to, numbers_from_to};
 ghost use Rattle.art_lines.specs.Writes.{IsCut, Writes};
 ghost use Rattle.art_engine.specs.Counts.{visits_of, exactly, span_nodes, number_span_nodes, GrewBy, GrewUpTo, Grew};
-ghost use Rattle.art_lines.specs.Parsed.{tenant_in_place, key_in_place, value_in_place};
+ghost use Rattle.art_lines.specs.Parsed.{tenant_in_place, key_in_place, upper_in_place};
 ghost use Rattle.art_lines.specs.Parsed.{number_in_place, bound_in_place};
 ghost use Rattle.art_engine.specs.Stored.{Pair, NumberPair, records_of, number_records_of};
 ghost use Rattle.art_engine.specs.Spans.{span_pairs, own_pair, IsListed, ReadsRecords};
@@ -167,19 +171,19 @@ pub(crate) fn write_span<W: Sink, const PREFIX_LEN: usize>(
     requires reads { (ps : List Pair) × ReadsRecords PREFIX_LEN records.old ps }
     ensures output { (ps : List Pair) → ReadsRecords PREFIX_LEN records.old ps
         → Writes result (W.taken sink.old) (W.taken sink.new)
-        (flat_map line_of (own_reply (span (key_in_place fields.now) (value_in_place fields.now))
+        (flat_map line_of (own_reply (span (key_in_place fields.now) (upper_in_place fields.now))
         (own (tenant_in_place fields.now) (records_of ps))))
         (W.has_failed sink.new) }
     ensures kept { IsSameMap records.old records.new }
     ensures visits { (ps : List Pair) → ReadsRecords PREFIX_LEN records.old ps → OnOk result (Grew
         (visits_of PREFIX_LEN (Some (of_tenant (tenant_in_place fields.now)
-        (span (key_in_place fields.now) (value_in_place fields.now)))) (records_of ps))
+        (span (key_in_place fields.now) (upper_in_place fields.now)))) (records_of ps))
         records.old.count records.new.count) }
     ensures few { (ps : List Pair) → ReadsRecords PREFIX_LEN records.old ps → records.new.count ≤ records.old.count
         + (visits_of PREFIX_LEN (Some (of_tenant (tenant_in_place fields.now)
-        (span (key_in_place fields.now) (value_in_place fields.now)))) (records_of ps)).most }
+        (span (key_in_place fields.now) (upper_in_place fields.now)))) (records_of ps)).most }
 {
-    if fields.value().cmp(fields.key()).is_lt() {
+    if fields.upper().cmp(fields.key()).is_lt() {
         return write_piece(sink, b"bounds\n");
     }
     write_between(records, fields, sink)
@@ -193,22 +197,22 @@ fn write_between<W: Sink, const PREFIX_LEN: usize>(
 ) -> Result<(), WriteFailed>
     requires open { W.has_failed sink.old ≡ false }
     requires reads { (ps : List Pair) × ReadsRecords PREFIX_LEN records.old ps }
-    requires order { is_below (value_in_place fields.now) (key_in_place fields.now) ≡ false }
+    requires order { is_below (upper_in_place fields.now) (key_in_place fields.now) ≡ false }
     ensures output { (ps : List Pair) → ReadsRecords PREFIX_LEN records.old ps
         → Writes result (W.taken sink.old) (W.taken sink.new)
-        (flat_map line_of (listed (pairs_from_to (key_in_place fields.now) (value_in_place fields.now)
+        (flat_map line_of (listed (pairs_from_to (key_in_place fields.now) (upper_in_place fields.now)
         (own (tenant_in_place fields.now) (records_of ps)).keys)))
         (W.has_failed sink.new) }
     ensures kept { IsSameMap records.old records.new }
     ensures visits { (ps : List Pair) → ReadsRecords PREFIX_LEN records.old ps → OnOk result (Grew
         (exactly (span_nodes PREFIX_LEN (tenant_in_place fields.now) (key_in_place fields.now)
-        (value_in_place fields.now) (records_of ps)))
+        (upper_in_place fields.now) (records_of ps)))
         records.old.count records.new.count) }
     ensures few { (ps : List Pair) → ReadsRecords PREFIX_LEN records.old ps → records.new.count ≤ records.old.count
         + span_nodes PREFIX_LEN (tenant_in_place fields.now) (key_in_place fields.now)
-        (value_in_place fields.now) (records_of ps) }
+        (upper_in_place fields.now) (records_of ps) }
 {
-    let (low, high) = (SliceKey(fields.full_key()), SliceKey(fields.full_bound()));
+    let (low, high) = (SliceKey(fields.full_key()), SliceKey(fields.full_upper()));
     let mut span = records.range(Bound::Included(&low), Bound::Excluded(&high));
     write_pairs(records, &mut span, sink)
 }

@@ -1,5 +1,8 @@
 //! Look-ups. They are given a reader of each map and what was read of the line, and nothing else to answer from. The
 //! readers count each node that they read.
+//!
+//! `look` is given a `Command`, which is a copy of its fields, of up to 4 KB. So lines go by `look_up`, which is given
+//! a word and the fields where they are. `look` calls it, and both have one contract.
 ghost use Rattle.std.specs.Prelude.{◌≡◌, ◌+◌, ◌≤◌, List, Some, false, true, flat_map, IfErr, OnOk};
 ghost use Rattle.art_walks.specs.MapReads.{IsSameMap};
 ghost use Rattle.art_lines.specs.Words.{line_of};

@@ -1,4 +1,7 @@
 //! From a source to a sink.
+//!
+//! The order of calls is no value that a clause could name. So `read_piece` alone reads from the source. It requires of
+//! the sink that nothing is held back in it (`is_out`), which `send` ensures.
 ghost use Rattle.std.specs.Prelude.{◌≡◌, ℕ, ◌+◌, ◌<◌, ◌≤◌, ◌++◌, ◌∷◌, ◌↔◌, ◌⊎◌, [], List, length, take, OnOk, OnErr};
 ghost use Rattle.std.specs.Prelude.{Bool, IfErr, IfOk, IsTrue, is_err, true, false, suc, Err, Ok};
 ghost use Rattle.art_lines.specs.Ends.{bytes_taken, calls_to_flush, has_write_failed, writes_unflushed};

@@ -1,5 +1,5 @@
 -- Bytes as the full key of the tenant at their front.
-use Rattle.std.proofs.Common.{◌≡◌, ℕ, zero, suc, [], ◌∷◌, ◌++◌, drop, get_or, take-append-drop, ◌^◌, ◌<◌, ◌≤◌, List, length, take, refl, ap, sym, ◌∙◌, arith}
+use Rattle.std.proofs.Common.{◌≡◌, ℕ, zero, suc, [], ◌∷◌, ◌++◌, drop, get_or, take-append-drop, ◌^◌, ◌<◌, ◌≤◌, List, Some, length, take, refl, ap, sym, ◌∙◌, subst, arith}
 use Rattle.std.specs.Int.{from_be_bytes, w32}
 use Rattle.std.proofs.lemmas.List.{length-take-le}
 use Rattle.std.proofs.lemmas.Nat.{be_bytes_4}
@@ -23,3 +23,7 @@ pub tenant_small : (xs : List ℕ) → ((i : ℕ) → get_or xs i 0 < 256) → f
 tenant_small xs small =
     let a = front_small 4 xs small 0 in let b = front_small 4 xs small 1 in let c = front_small 4 xs small 2 in let d = front_small 4 xs small 3 in
     omega arith
+
+-- some bytes that begin so are all that an option has
+pub begins_so : {A : Type 0} (bytes : A → List ℕ) (a x : A) (front : List ℕ) → Some a ≡ Some x → 4 ≤ length (bytes a) → take 4 (bytes a) ≡ front → (4 ≤ length (bytes x)) × (take 4 (bytes x) ≡ front)
+begins_so bytes a x front is long same = let one : a ≡ x = cc in subst (λ y. (4 ≤ length (bytes y)) × (take 4 (bytes y) ≡ front)) one (long, same)

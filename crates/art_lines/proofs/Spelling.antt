@@ -10,7 +10,7 @@ use Rattle.std.proofs.lemmas.Fmt.{decimal_is_IsNumeral, decimal_nonempty}
 use Rattle.std.proofs.lemmas.Str.Parse.{digit_at}
 use Rattle.hex.specs.Hex.{decode_of, decode_pairs}
 use Rattle.art_lines.specs.Words.{Word}
-use Rattle.art_lines.proofs.Terms.{name, natural, signed, bytes, Reads, Shape, Key, KeyAndValue, Number, NumberAndValue, TwoNumbers, Tenant, Nothing, put, over, del, get, find, list, span, nput, nget, ndel, nspan, drop, Command, of_tenant, dump, audit, words_of, fields_of, Spells}
+use Rattle.art_lines.proofs.Terms.{name, natural, signed, bytes, Reads, Shape, Key, KeyAndValue, Number, NumberAndValue, TwoKeys, TwoNumbers, Tenant, Nothing, put, over, del, get, find, list, span, nput, nget, ndel, nspan, drop, Command, of_tenant, dump, audit, words_of, fields_of, Spells}
 use Rattle.art_lines.proofs.Terms.{FieldsFor, shape_of, made_by, called, found_among, all_words, word_in, negated, some_bytes, one_in, two_in, tenant_alone_in, nothing_in, fields_in, command_by, command_in}
 use Rattle.art_lines.specs.declared.command.word.Word.{Word as Called}
 use Rattle.art_lines.specs.declared.command.word.Word.TheVariants.{LookUp, Change, Whole, Drop}
@@ -85,6 +85,7 @@ nothing_reads (f ∷ fs) h = absurd h
 abbrev words_after : (shape : Shape) → FieldsFor shape → List Word
 words_after Key v = natural v.0 ∷ bytes v.1 ∷ []
 words_after KeyAndValue v = natural v.0 ∷ bytes v.1 ∷ bytes v.2 ∷ []
+words_after TwoKeys v = natural v.0 ∷ bytes v.1 ∷ bytes v.2 ∷ []
 words_after Number v = natural v.0 ∷ signed v.1 ∷ []
 words_after NumberAndValue v = natural v.0 ∷ signed v.1 ∷ bytes v.2 ∷ []
 words_after TwoNumbers v = natural v.0 ∷ signed v.1 ∷ signed v.2 ∷ []
@@ -94,6 +95,7 @@ words_after Nothing v = []
 after_reads : (shape : Shape) (v : FieldsFor shape) (fs : List (List ℕ)) → AllZip Reads fs (words_after shape v) → fields_in shape fs ≡ Some v
 after_reads Key v fs h = one_reads bytes_in of_bytes bytes_reads fs v.0 v.1 h
 after_reads KeyAndValue v fs h = two_reads bytes_in of_bytes bytes_reads bytes_in of_bytes bytes_reads fs v.0 v.1 v.2 h
+after_reads TwoKeys v fs h = two_reads bytes_in of_bytes bytes_reads bytes_in of_bytes bytes_reads fs v.0 v.1 v.2 h
 after_reads Number v fs h = one_reads number_in of_number number_reads fs v.0 v.1 h
 after_reads NumberAndValue v fs h = two_reads number_in of_number number_reads bytes_in of_bytes bytes_reads fs v.0 v.1 v.2 h
 after_reads TwoNumbers v fs h = two_reads number_in of_number number_reads number_in of_number number_reads fs v.0 v.1 v.2 h
@@ -214,6 +216,7 @@ nothing_spelled (x ∷ xs) h = cc
 after_spelled : (shape : Shape) (fs : List (List ℕ)) (v : FieldsFor shape) → fields_in shape fs ≡ Some v → AllZip Reads fs (words_after shape v)
 after_spelled Key fs v h = one_spelled bytes_in of_bytes bytes_spelled fs v h
 after_spelled KeyAndValue fs v h = two_spelled bytes_in of_bytes bytes_spelled bytes_in of_bytes bytes_spelled fs v h
+after_spelled TwoKeys fs v h = two_spelled bytes_in of_bytes bytes_spelled bytes_in of_bytes bytes_spelled fs v h
 after_spelled Number fs v h = one_spelled number_in of_number number_spelled fs v h
 after_spelled NumberAndValue fs v h = two_spelled number_in of_number number_spelled bytes_in of_bytes bytes_spelled fs v h
 after_spelled TwoNumbers fs v h = two_spelled number_in of_number number_spelled number_in of_number number_spelled fs v h

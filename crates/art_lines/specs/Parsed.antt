@@ -1,5 +1,5 @@
 -- What the parser's values stand for.
-use Rattle.std.specs.Prelude.{ℕ, ℤ, Bool, true, false, List, take, drop}
+use Rattle.std.specs.Prelude.{ℕ, ℤ, Bool, true, false, List, [], take, drop, option_map, unwrap_or}
 use Rattle.std.specs.Int.{from_be_bytes, w32}
 use Rattle.art_lines.specs.declared.command.Command.{Command}
 use Rattle.art_lines.specs.declared.command.Command.TheVariants.{Put, Over, Del, Get, Find, List as ListOf, Span}
@@ -11,7 +11,7 @@ use Rattle.art_lines.specs.declared.command.word.LookUp.{LookUp as LookUpWord}
 use Rattle.art_lines.specs.declared.command.word.Change.{Change as ChangeWord}
 use Rattle.art_lines.specs.declared.command.word.Shape.{Shape}
 use Rattle.art_lines.specs.declared.command.word.Shape.TheVariants.{Key, KeyAndValue, Number, NumberAndValue}
-use Rattle.art_lines.specs.declared.command.word.Shape.TheVariants.{TwoNumbers, Tenant, Nothing}
+use Rattle.art_lines.specs.declared.command.word.Shape.TheVariants.{TwoKeys, TwoNumbers, Tenant, Nothing}
 use Rattle.art_lines.specs.Commands as said
 use Rattle.art_lines.specs.Table.{FieldsFor, Row, row, row_of_word}
 pub use Rattle.art_lines.specs.Table.{asks_all}
@@ -32,15 +32,18 @@ meaning (DropOf tenant) = said.of_tenant tenant said.drop
 meaning Dump = said.dump
 meaning Audit = said.audit
 
--- the tenant, the key and the value that were read in place
+-- the tenant, the key, the upper one of two keys, if one was read, and the value that were read in place
 abbrev pub tenant_in_place : Fields → ℕ
 tenant_in_place f = from_be_bytes w32 (take 4 f.full_key.items)
 
 abbrev pub key_in_place : Fields → List ℕ
 key_in_place f = drop 4 f.full_key.items
 
+abbrev pub upper_in_place : Fields → List ℕ
+upper_in_place f = unwrap_or (option_map (λ u. drop 4 u.items) f.upper) []
+
 abbrev pub value_in_place : Fields → List ℕ
-value_in_place f = drop 4 f.value.items
+value_in_place f = f.value.items
 
 -- the number and the upper one of two numbers
 abbrev pub number_in_place : Fields → ℤ
@@ -53,6 +56,7 @@ bound_in_place f = f.bound
 abbrev pub fields_in_place : (shape : Shape) → Fields → FieldsFor shape
 fields_in_place Key f = (tenant_in_place f, key_in_place f)
 fields_in_place KeyAndValue f = (tenant_in_place f, key_in_place f, value_in_place f)
+fields_in_place TwoKeys f = (tenant_in_place f, key_in_place f, upper_in_place f)
 fields_in_place Number f = (tenant_in_place f, number_in_place f)
 fields_in_place NumberAndValue f = (tenant_in_place f, number_in_place f, value_in_place f)
 fields_in_place TwoNumbers f = (tenant_in_place f, number_in_place f, bound_in_place f)

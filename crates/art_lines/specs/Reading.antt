@@ -10,7 +10,7 @@ use Rattle.hex.specs.declared.error.FromHexError.{FromHexError}
 use Rattle.art_lines.specs.declared.command.word.Word.{Word}
 use Rattle.art_lines.specs.declared.command.word.Shape.{Shape}
 use Rattle.art_lines.specs.declared.command.word.Shape.TheVariants.{Key, KeyAndValue, Number, NumberAndValue}
-use Rattle.art_lines.specs.declared.command.word.Shape.TheVariants.{TwoNumbers, Tenant, Nothing}
+use Rattle.art_lines.specs.declared.command.word.Shape.TheVariants.{TwoKeys, TwoNumbers, Tenant, Nothing}
 use Rattle.art_lines.specs.Commands.{Command, fields_of}
 use Rattle.art_lines.specs.Table.{FieldsFor, shape_of, made_by, word_in}
 
@@ -77,10 +77,11 @@ abbrev pub nothing_in : List (List ℕ) → Option (Unit {0})
 nothing_in [] = Some tt
 nothing_in other = None
 
--- What stands after a word, by its shape. A prefix is read as a key, two bounds as a key and a value.
+-- What stands after a word, by its shape. A prefix is read as a key, and so is each of two bounds.
 abbrev pub fields_in : (shape : Shape) → List (List ℕ) → Option (FieldsFor shape)
 fields_in Key fields = one_in bytes_in fields
 fields_in KeyAndValue fields = two_in bytes_in bytes_in fields
+fields_in TwoKeys fields = two_in bytes_in bytes_in fields
 fields_in Number fields = one_in number_in fields
 fields_in NumberAndValue fields = two_in number_in bytes_in fields
 fields_in TwoNumbers fields = two_in number_in number_in fields

@@ -9,7 +9,7 @@ use Rattle.art_lines.specs.declared.command.word.Change.TheVariants as change
 use Rattle.art_lines.specs.declared.command.word.Whole.TheVariants as whole
 use Rattle.art_lines.specs.declared.command.word.Shape.{Shape}
 use Rattle.art_lines.specs.declared.command.word.Shape.TheVariants.{Key, KeyAndValue, Number, NumberAndValue}
-use Rattle.art_lines.specs.declared.command.word.Shape.TheVariants.{TwoNumbers, Tenant, Nothing}
+use Rattle.art_lines.specs.declared.command.word.Shape.TheVariants.{TwoKeys, TwoNumbers, Tenant, Nothing}
 use Rattle.art_lines.specs.Words.{Word as Part, name}
 use Rattle.art_lines.specs.Commands.{Request, put, over, del, get, find, list, span, nput, nget, ndel, nspan, drop}
 use Rattle.art_lines.specs.Commands.{Command, of_tenant, dump, audit, words_of}
@@ -18,6 +18,7 @@ use Rattle.art_lines.specs.Commands.{Command, of_tenant, dump, audit, words_of}
 abbrev pub FieldsFor : Shape → Type 0
 FieldsFor Key = ℕ × List ℕ
 FieldsFor KeyAndValue = ℕ × List ℕ × List ℕ
+FieldsFor TwoKeys = ℕ × List ℕ × List ℕ
 FieldsFor Number = ℕ × ℤ
 FieldsFor NumberAndValue = ℕ × ℤ × List ℕ
 FieldsFor TwoNumbers = ℕ × ℤ × ℤ
@@ -51,7 +52,7 @@ abbrev pub row_of_word : Word → Row
 row_of_word (LookUp look_up.Get) = row Key (of_one get)
 row_of_word (LookUp look_up.Find) = row Key (of_one find)
 row_of_word (LookUp look_up.List) = row Key (of_one list)
-row_of_word (LookUp look_up.Span) = row KeyAndValue (of_two span)
+row_of_word (LookUp look_up.Span) = row TwoKeys (of_two span)
 row_of_word (LookUp look_up.NGet) = row Number (of_one nget)
 row_of_word (LookUp look_up.NSpan) = row TwoNumbers (of_two nspan)
 row_of_word (Change change.Put) = row KeyAndValue (of_two put)
@@ -84,6 +85,7 @@ made_by w = made_in (row_of_word w)
 abbrev pub any_fields : (shape : Shape) → FieldsFor shape
 any_fields Key = (0, [])
 any_fields KeyAndValue = (0, [], [])
+any_fields TwoKeys = (0, [], [])
 any_fields Number = (0, pos 0)
 any_fields NumberAndValue = (0, pos 0, [])
 any_fields TwoNumbers = (0, pos 0, pos 0)

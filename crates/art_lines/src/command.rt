@@ -1,6 +1,9 @@
 //! Commands, and how a line spells one.
 //!
 //! A line is read by its word (`word`), whose shape (`shapes`) says what fields stand after it (`fields`).
+//!
+//! The grammar is a relation, `Spells`. The reading computes it in place, by the shape of a word, and the law
+//! `reading_is_spelling` ties the two.
 ghost use Rattle.std.specs.Prelude.{◌≡◌, ◌≤◌, ◌↔◌, Option, Some, length, option_map};
 ghost use Rattle.art_lines.specs.Commands.{Command as AskedCommand, Spells};
 ghost use Rattle.art_lines.specs.Reading.{command_of};
@@ -144,7 +147,7 @@ fn look_up_of_fields(word: LookUp, fields: &Fields) -> Command
         LookUp::Span => Command::Span {
             tenant,
             low: key,
-            high: bytes_of(fields.value()),
+            high: bytes_of(fields.upper()),
         },
         LookUp::NGet => Command::NGet {
             tenant,

@@ -1,20 +1,18 @@
 -- What a look-up finds where it lands.
 use Rattle.std.proofs.Common.{◌≡◌, ℕ, Bool, true, false, bytes_eq, IsTrue, ◌==◌, ◌↔◌, List, [], ◌∷◌, refl, sym, ap, ◌∙◌}
-use Rattle.std.specs.List.{starts_with}
 use Rattle.std.proofs.lemmas.Bool.{false_from_ne_true}
+use Rattle.art_bytes.proofs.Common.{BeginsWith}
 use Rattle.art_nodes.specs.declared.leaf.LeafNode.{LeafNode}
-use Rattle.art_arena.proofs.Common.{begins_with, begins_of, begins_same, begins_true, other_key, same_key, takes_equal, takes_front, HasNoFront, LandsAt, TakesFronts, passing, Shape, leaves, Step, leaves_of, located-fails, located-passes, passing-located}
-use Rattle.art_arena.proofs.shapes.Prefixes.{begins_not}
+use Rattle.art_arena.proofs.Common.{begins_with, begins_same, begins_true, other_key, same_key, takes_equal, takes_front, HasNoFront, LandsAt, TakesFronts, passing, Shape, leaves, Step, leaves_of, located-fails, located-passes, passing-located}
 use Rattle.art_operations.proofs.Terms.{takes_key}
 
 takes : (of_prefixes : Bool) (query : List ℕ) → TakesFronts query (takes_key of_prefixes query)
 takes true query = takes_front query
 takes false query = takes_equal query
 
-pub told-prefix : (r : Bool) (query read k : List ℕ) → read ≡ k → r ≡ starts_with ◌==◌ query read → r ≡ begins_with k query
-told-prefix true query read k same e = sym (begins_same k query (begins_of true query query read k refl same e refl))
-told-prefix false query read k same e =
-    sym (false_from_ne_true (begins_with k query) (λ passed. begins_not false query query read k refl same e refl (begins_true k query passed)))
+pub told-prefix : (r : Bool) (query k : List ℕ) → IsTrue r ↔ BeginsWith k query → r ≡ begins_with k query
+told-prefix true query k e = sym (begins_same k query (e.0 refl))
+told-prefix false query k e = sym (false_from_ne_true (begins_with k query) (λ passed. let t = e.1 (begins_true k query passed) in cc))
 
 pub told-key : (r : Bool) (query k : List ℕ) → IsTrue r ↔ (k ≡ query) → r ≡ bytes_eq k query
 told-key true query k e = sym (same_key k query (e.0 refl))

@@ -1,5 +1,5 @@
 -- What a look-up answers.
-pub use Rattle.art_arena.specs.arena.Descents.{leaf_where, ReadsPath}
+pub use Rattle.art_arena.specs.arena.Descents.{leaf_where, ReadsLookUp, ReadsPath}
 use Rattle.std.specs.Prelude.{◌≡◌, ℕ, ◌<◌, ◌≤◌, nat_le, List, [], ◌∷◌, length, drop, Ok, Err, if◌then◌else◌}
 use Rattle.std.specs.Prelude.{Bool, Option, Some, None}
 use Rattle.std.specs.Str.{bytes_eq}

@@ -2,14 +2,14 @@
 ghost use Rattle.std.specs.Prelude.{◌≡◌, ◌<◌, ◌≤◌, ◌⊎◌, ◌↔◌, drop, IsTrue, MatchResult};
 ghost use Rattle.std.specs.Str.{bytes_eq};
 ghost use Rattle.art_bytes.specs.Keys.{BeginsWith};
-ghost use Rattle.art_arena.specs.arena.Descents.{passing};
+ghost use Rattle.art_arena.specs.arena.Descents.{AgreesUpTo, passing};
 ghost use Rattle.art_arena.specs.arena.Shapes.{leaves};
 ghost use Rattle.art_arena.specs.tree.Tenants.{begins_with};
 ghost use Rattle.art_operations.specs.Lookups.{behavior_after, landed_leaf, seen_by, takes_key};
-ghost use Rattle.art_operations.specs.Lookups.{IsMatchedByBytes, IsMatchedByLength, ReadsPath};
+ghost use Rattle.art_operations.specs.Lookups.{IsMatchedByBytes, IsMatchedByLength, ReadsLookUp};
 ghost use Rattle.art_operations.specs.Whichever.{FindsLeaf, HasTree, OfTree};
 
-use art_arena::{ArenaReader, Landed, LeafPtr, NodeArena, land};
+use art_arena::{ArenaReader, Landed, LeafPtr, NodeArena, land, rest_after};
 use art_bytes::AsBytes;
 use art_nodes::{InnerNodeCommon, LeafNode, OpaqueNodePtr, PessimisticMismatch, PrefixMatch};
 
@@ -20,16 +20,6 @@ pub enum PrefixMatchBehavior {
     Pessimistic,
     /// By their lengths alone, since a prefix came that isn't wholly stored. The key is compared at the leaf.
     Optimistic,
-}
-
-// What lies after so many of these bytes: nothing where there are no more.
-fn rest_after(bytes: &[u8], depth: usize) -> &[u8]
-    ensures { result.now ≡ drop depth bytes.now }
-{
-    if depth < bytes.len() {
-        return &bytes[depth..];
-    }
-    &bytes[bytes.len()..]
 }
 
 impl PrefixMatchBehavior {
@@ -109,7 +99,8 @@ impl PrefixMatchBehavior {
 
 /// Returns the leaf with exactly this key in the tree below a name, or `None` if there is none.
 ///
-/// The nodes on the key's way are read once each, and no others. Nothing is copied or allocated.
+/// It reads nodes of the key's path, each once, up to one whose prefix, as it is stored, isn't the key's there. Nothing
+/// is copied or allocated.
 pub fn search_unchecked<K: AsBytes, V, const PREFIX_LEN: usize>(
     arena: &NodeArena<K, V, PREFIX_LEN>,
     root: OpaqueNodePtr,
@@ -125,7 +116,8 @@ pub fn search_unchecked<K: AsBytes, V, const PREFIX_LEN: usize>(
 /// Returns the leaf whose key is a prefix of this one, or all of it, in the tree below a name, or `None` if there is
 /// none.
 ///
-/// The nodes on the key's way are read once each, and no others. Nothing is copied or allocated.
+/// It reads nodes of the key's path, each once, up to one whose prefix, as it is stored, isn't the key's there. Nothing
+/// is copied or allocated.
 pub fn prefix_search_unchecked<K: AsBytes, V, const PREFIX_LEN: usize>(
     arena: &NodeArena<K, V, PREFIX_LEN>,
     root: OpaqueNodePtr,
@@ -138,21 +130,23 @@ pub fn prefix_search_unchecked<K: AsBytes, V, const PREFIX_LEN: usize>(
     prefix_search_with(&mut counted, root, key)
 }
 
-// Whether a look-up takes a leaf's key for a query.
+// Whether a look-up takes the leaf at which it landed for its query.
 #[inline(always)]
-fn takes_leaf<K: AsBytes, V>(leaf: &LeafNode<K, V>, query: &[u8], of_prefixes: bool) -> bool
-    ensures { result ≡ takes_key of_prefixes query.now (K.bytes leaf.now.key) }
+fn takes_leaf<'a, K: AsBytes, V>(landed: &Landed<'a, K, V>, query: &[u8], of_prefixes: bool) -> bool
+    requires { AgreesUpTo landed.now.compared (K.bytes landed.now.leaf.now.key) query.now }
+    ensures { result ≡ takes_key of_prefixes query.now (K.bytes landed.now.leaf.now.key) }
 {
     if of_prefixes {
-        return query.starts_with(leaf.key_ref().as_bytes());
+        return landed.has_prefix_of(query);
     }
-    leaf.compare_full_key(query)
+    landed.has_key(query)
 }
 
 /// Returns the leaf whose key equals a query, or is a prefix of it where prefixes are asked for, in the tree below a
 /// name, or `None` if there is none. The leaf is lent as long as the arena is.
 ///
-/// The reader counts each node that is read: those of the query's path. The count stays at the greatest number.
+/// The reader counts each node that is read: those of the query's path, up to one whose prefix, as it is stored, isn't
+/// the query's there. The count stays at the greatest number.
 #[inline(always)]
 pub fn search_leaf_with<'a, K: AsBytes, V, const PREFIX_LEN: usize>(
     reader: &mut ArenaReader<'a, K, V, PREFIX_LEN>,
@@ -165,11 +159,11 @@ pub fn search_leaf_with<'a, K: AsBytes, V, const PREFIX_LEN: usize>(
         (λ s. landed_leaf result ≡ passing K.bytes (takes_key of_prefixes query.now) (leaves s)) }
     ensures kept { reader.new.arena.now ≡ reader.old.arena.now }
     ensures counts { OfTree K.bytes PREFIX_LEN reader.old.arena.now root
-        (λ s. ReadsPath query.now s reader.old.count reader.new.count) }
+        (λ s. ReadsLookUp PREFIX_LEN query.now s reader.old.count reader.new.count) }
 {
     match land(reader, root, query) {
         Some(landed) => {
-            if takes_leaf(landed.leaf, query, of_prefixes) {
+            if takes_leaf(&landed, query, of_prefixes) {
                 return Some(landed);
             }
             None
@@ -178,8 +172,8 @@ pub fn search_leaf_with<'a, K: AsBytes, V, const PREFIX_LEN: usize>(
     }
 }
 
-/// Returns what `search_unchecked` does, by a reader that counts each node that is read: those of the key's path. The
-/// count stays at the greatest number.
+/// Returns what `search_unchecked` does, by a reader that counts each node that is read: those of the key's path, up to
+/// one whose prefix, as it is stored, isn't the key's there. The count stays at the greatest number.
 pub fn search_with<K: AsBytes, V, const PREFIX_LEN: usize>(
     reader: &mut ArenaReader<'_, K, V, PREFIX_LEN>,
     root: OpaqueNodePtr,
@@ -189,7 +183,7 @@ pub fn search_with<K: AsBytes, V, const PREFIX_LEN: usize>(
     ensures value { FindsLeaf K.bytes PREFIX_LEN reader.old.arena.now root (λ k. bytes_eq k key.now) result }
     ensures kept { reader.new.arena.now ≡ reader.old.arena.now }
     ensures counts { OfTree K.bytes PREFIX_LEN reader.old.arena.now root
-        (λ s. ReadsPath key.now s reader.old.count reader.new.count) }
+        (λ s. ReadsLookUp PREFIX_LEN key.now s reader.old.count reader.new.count) }
 {
     match search_leaf_with(reader, root, key, false) {
         Some(found) => Some(found.name),
@@ -198,7 +192,7 @@ pub fn search_with<K: AsBytes, V, const PREFIX_LEN: usize>(
 }
 
 /// Returns what `prefix_search_unchecked` does, by a reader that counts each node that is read: those of the key's
-/// path. The count stays at the greatest number.
+/// path, up to one whose prefix, as it is stored, isn't the key's there. The count stays at the greatest number.
 pub fn prefix_search_with<K: AsBytes, V, const PREFIX_LEN: usize>(
     reader: &mut ArenaReader<'_, K, V, PREFIX_LEN>,
     root: OpaqueNodePtr,
@@ -208,7 +202,7 @@ pub fn prefix_search_with<K: AsBytes, V, const PREFIX_LEN: usize>(
     ensures value { FindsLeaf K.bytes PREFIX_LEN reader.old.arena.now root (λ k. begins_with k key.now) result }
     ensures kept { reader.new.arena.now ≡ reader.old.arena.now }
     ensures counts { OfTree K.bytes PREFIX_LEN reader.old.arena.now root
-        (λ s. ReadsPath key.now s reader.old.count reader.new.count) }
+        (λ s. ReadsLookUp PREFIX_LEN key.now s reader.old.count reader.new.count) }
 {
     match search_leaf_with(reader, root, key, true) {
         Some(found) => Some(found.name),

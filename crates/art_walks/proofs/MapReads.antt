@@ -5,12 +5,12 @@ use Rattle.std.proofs.lemmas.Bool.Decides.{eqb_tells}
 use Rattle.std.proofs.lemmas.List.{length-map}
 use Rattle.art_nodes.proofs.Common.{Name}
 use Rattle.art_nodes.specs.declared.leaf.LeafNode.{LeafNode}
-use Rattle.art_arena.proofs.Common.{Arena, cell_of, held_at, leaf_held, links_at, node_at, leaf_name, ReadsPath, passing, AreLinked, KeysWithin, Shape, LeafAt}
+use Rattle.art_arena.proofs.Common.{Arena, cell_of, held_at, leaf_held, links_at, node_at, leaf_name, passing, AreLinked, KeysWithin, Shape, LeafAt}
 use Rattle.art_arena.proofs.Common.{erase, key_of, leaves, pairs_of, Stores, Tree, tree_of, canonical-erase, items-erase, nodes-subtree}
 use Rattle.art_arena.specs.arena.Reads.{ReadsExactly}
 use Rattle.art_arena.proofs.tree.Unique.{tree_of_items}
 use Rattle.art_operations.proofs.Common.{AreEndsWhere, leaf_pair, IsConvex}
-use Rattle.art_walks.proofs.Terms.{IsSpan, IsSpanOf, PairsWithin, ReadsPathOf, ReadsPairs, ReadsTree, of_tree, path_length, Ends, HasEnds, IsWalk, AreStored}
+use Rattle.art_walks.proofs.Terms.{IsSpan, IsSpanOf, PairsWithin, ReadsPairs, ReadsTree, of_tree, Ends, HasEnds, IsWalk, AreStored}
 use Rattle.art_walks.proofs.RunSteps.{front-alone, front-is, front-step, next_of}
 use Rattle.art_walks.proofs.Spans.{passing-pairs, span-in}
 
@@ -46,14 +46,7 @@ module _ {K V : Type 0} (bytes : K → List ℕ) (P : ℕ) (arena : Arena K V) (
   pub the-pairs : pairs_of (leaves the-shape) ≡ pairs
   the-pairs = has.1.2
 
-  -- a path in it is one in the tree that is built of the pairs
-  pub path-read : (key : List ℕ) (old new : ℕ) → ((s : Shape K V) → Stores bytes P arena root s → ReadsPath key s old new) → ReadsPathOf bytes key pairs old new
-  path-read key old new reads =
-      let built : tree_of (key_of bytes) pairs ≡ Some (erase the-shape) =
-      ap (tree_of (key_of bytes)) (sym the-pairs) ∙ sym (ap (tree_of (key_of bytes)) (items-erase the-shape)) ∙ tree_of_items (key_of bytes) (erase the-shape) (canonical-erase bytes [] the-shape has.1.1.nodes.under) in
-      reads the-shape the-stores ∙ ap (λ t. min (old + path_length key t) (2 ^ 64 - 1)) (sym built)
-
-  -- what is read of it is read of that one
+  -- what is read of it is read of the tree that is built of the pairs
   pub tree-read : (of : Tree (K × V) → ℕ) (old new : ℕ) → ReadsExactly (of (erase the-shape)) old new → ReadsTree bytes of pairs old new
   tree-read of old new reads =
       let built : tree_of (key_of bytes) pairs ≡ Some (erase the-shape) =

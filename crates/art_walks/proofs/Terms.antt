@@ -1,6 +1,6 @@
 -- The words of this crate that its proofs and those above name, from one place.
 pub use Rattle.art_walks.specs.Faults.{FaultMeansNoTree, HasDeadName, HasLoop, HasOtherKeys, HasOtherLinks, HasWrongCount, Stands, child_in, led_to, onward}
-pub use Rattle.art_walks.specs.MapReads.{IsSameMap, IsSpan, IsSpanOf, PairsWithin, ReadsPairs, ReadsTree, of_tree, ReadsPathOf, path_length}
+pub use Rattle.art_walks.specs.MapReads.{IsSameMap, IsSpan, IsSpanOf, PairsWithin, ReadsPairs, ReadsTree, look_up_reads, of_tree}
 pub use Rattle.art_walks.specs.Runs.{Ends, HasEnds, IsWalk}
 pub use Rattle.art_walks.specs.Stats.{AreCounts, in_range, no_nodes}
 pub use Rattle.art_walks.specs.Walked.{AreStored, IsCounted, IsRest, ends_after, leaves_left, pairs_along, pairs_left, pairs_with, run_length, start_of}

@@ -5,7 +5,7 @@ use Rattle.art_nodes.specs.Name.{Name}
 use Rattle.art_arena.specs.arena.Arena.{Arena}
 use Rattle.art_arena.specs.arena.Cells.{Cell}
 use Rattle.art_arena.specs.arena.Shapes.{key_of, pairs_of}
-use Rattle.art_arena.specs.tree.Paths.{path_of}
+use Rattle.art_arena.specs.tree.Paths.{look_up_path}
 use Rattle.art_arena.specs.tree.TreeOf.{tree_of}
 use Rattle.art_arena.specs.tree.Trees.{Tree}
 use Rattle.art_operations.specs.Pairs.{HasPairsBeside}
@@ -35,10 +35,9 @@ module _ {K V : Type 0} (bytes : K → List ℕ) (P : ℕ) (arena : Arena K V) (
   abbrev pub OfPairs : (List (K × V) → Type 0) → Type 0
   OfPairs IsSo = (pairs : List (K × V)) → ReadsPairs pairs → IsSo pairs
 
--- how many nodes the path of a key has in a tree, if there is one
-abbrev pub path_length : {X : Type 0} → List ℕ → Option (Tree X) → ℕ
-path_length key None = 0
-path_length key (Some t) = length (path_of t key)
+-- how many nodes a look-up of a key reads in a tree where a node stores `P` bytes of its prefix
+abbrev pub look_up_reads : {X : Type 0} → ℕ → List ℕ → Tree X → ℕ
+look_up_reads P key t = length (look_up_path P t key)
 
 -- so much of a tree, if there is one
 abbrev pub of_tree : {X : Type 0} → (Tree X → ℕ) → Option (Tree X) → ℕ
@@ -49,10 +48,6 @@ module _ {K V : Type 0} (bytes : K → List ℕ) where
   -- as many nodes were read as this says of the tree of the pairs; the greatest count stays
   abbrev pub ReadsTree : (Tree (K × V) → ℕ) → List (K × V) → ℕ → ℕ → Type 0
   ReadsTree reads pairs old new = new ≡ min (old + of_tree reads (tree_of (key_of bytes) pairs)) (2 ^ 64 - 1)
-
-  -- as many nodes were read as the path of a key has in the tree of the pairs; the greatest count stays
-  abbrev pub ReadsPathOf : List ℕ → List (K × V) → ℕ → ℕ → Type 0
-  ReadsPathOf key pairs old new = new ≡ min (old + path_length key (tree_of (key_of bytes) pairs)) (2 ^ 64 - 1)
 
   -- no key of these pairs has more bytes than this
   abbrev pub PairsWithin : ℕ → List (K × V) → Type 0

@@ -13,8 +13,8 @@ ghost use Rattle.art_operations.specs.Openings.{part_reads, range_reads};
 ghost use Rattle.art_operations.specs.Pairs.{HasPairsBeside};
 ghost use Rattle.art_operations.specs.Whichever.{HasSome};
 ghost use Rattle.art_walks.specs.Bounds.{AreValidKeyBounds};
-ghost use Rattle.art_walks.specs.MapReads.{IsSameMap, IsSpan, IsSpanOf, OfPairs, PairsWithin, ReadsMap, ReadsPathOf};
-ghost use Rattle.art_walks.specs.MapReads.{ReadsTree};
+ghost use Rattle.art_walks.specs.MapReads.{IsSameMap, IsSpan, IsSpanOf, OfPairs, PairsWithin, ReadsMap, ReadsTree};
+ghost use Rattle.art_walks.specs.MapReads.{look_up_reads};
 
 use crate::raw_iterator::RawIterator;
 use art_arena::{ArenaReader, LeafPtr, NodeArena};
@@ -143,7 +143,8 @@ impl<'a, K: AsBytes, V, const PREFIX_LEN: usize> MapReader<'a, K, V, PREFIX_LEN>
         self.reader.count()
     }
 
-    // The pair whose key is taken for a query, if there is one. The nodes of the query's path are read, and no others.
+    // The pair whose key is taken for a query, if there is one. Nodes of the query's path are read, up to one whose
+    // prefix, as it is stored, isn't the query's there, and no others.
     #[inline(always)]
     fn pair_of(&mut self, query: &[u8], of_fronts: bool) -> Option<(&'a K, &'a V)>
         ensures value { OfPairs K.bytes PREFIX_LEN self.old.nodes self.old.root (λ pairs. option_map deref_pair result
@@ -151,7 +152,7 @@ impl<'a, K: AsBytes, V, const PREFIX_LEN: usize> MapReader<'a, K, V, PREFIX_LEN>
             else bytes_eq (K.bytes k) query.now) pairs) }
         ensures kept { IsSameMap self.old self.new }
         ensures counts { OfPairs K.bytes PREFIX_LEN self.old.nodes self.old.root
-            (λ pairs. ReadsPathOf K.bytes query.now pairs self.old.count self.new.count) }
+            (λ pairs. ReadsTree K.bytes (look_up_reads PREFIX_LEN query.now) pairs self.old.count self.new.count) }
     {
         let root = match self.root {
             Some(root) => root,
@@ -164,8 +165,9 @@ impl<'a, K: AsBytes, V, const PREFIX_LEN: usize> MapReader<'a, K, V, PREFIX_LEN>
         Some(found.leaf.entry_ref())
     }
 
-    /// Returns the pair whose key has the query's bytes, if there is one. The nodes of the key's path are read, and no
-    /// others.
+    /// Returns the pair whose key has the query's bytes, if there is one. Nodes of the key's path are read, each once,
+    /// up to one whose prefix, as it is stored, isn't the key's there, and no others. If a pair is found, they are the
+    /// whole path.
     ///
     /// ```
     /// use art_map::TreeMap;
@@ -178,13 +180,14 @@ impl<'a, K: AsBytes, V, const PREFIX_LEN: usize> MapReader<'a, K, V, PREFIX_LEN>
             ≡ lookup_entry (λ k. bytes_eq (K.bytes k) (Q.bytes key.now)) pairs) }
         ensures kept { IsSameMap self.old self.new }
         ensures counts { OfPairs K.bytes PREFIX_LEN self.old.nodes self.old.root
-            (λ pairs. ReadsPathOf K.bytes (Q.bytes key.now) pairs self.old.count self.new.count) }
+            (λ pairs. ReadsTree K.bytes (look_up_reads PREFIX_LEN (Q.bytes key.now)) pairs
+            self.old.count self.new.count) }
     {
         self.pair_of(key.as_bytes(), false)
     }
 
-    /// Returns the one pair whose key is a prefix of the query's bytes, or equals them, if there is one. The nodes of
-    /// the path of the query's bytes are read, and no others. If a pair is found, they are those of its own path.
+    /// Returns the one pair whose key is a prefix of the query's bytes, or equals them, if there is one. Nodes of the
+    /// path of the query's bytes are read, as by `get_key_value`. If a pair is found, they are those of its own path.
     ///
     /// ```
     /// use art_map::TreeMap;
@@ -197,7 +200,8 @@ impl<'a, K: AsBytes, V, const PREFIX_LEN: usize> MapReader<'a, K, V, PREFIX_LEN>
             ≡ lookup_entry (λ k. begins_with (K.bytes k) (Q.bytes key.now)) pairs) }
         ensures kept { IsSameMap self.old self.new }
         ensures counts { OfPairs K.bytes PREFIX_LEN self.old.nodes self.old.root
-            (λ pairs. ReadsPathOf K.bytes (Q.bytes key.now) pairs self.old.count self.new.count) }
+            (λ pairs. ReadsTree K.bytes (look_up_reads PREFIX_LEN (Q.bytes key.now)) pairs
+            self.old.count self.new.count) }
     {
         self.pair_of(key.as_bytes(), true)
     }

@@ -3,6 +3,8 @@
 //! along the links from all of these in turn: none waits for the others.
 //!
 //! Nothing rests on what is read here, so a contract sees nothing of it.
+//!
+//! The model of a `Prefetcher` is ⊤. So a walk that lends can hold one, and still say exactly what it is after a step.
 ghost use Rattle.std.specs.Prelude.{⊤};
 
 use crate::raw_iterator::RawIterator;

@@ -1,7 +1,8 @@
 -- The way of a key: what one step down finds, and where it ends.
-use Rattle.std.proofs.Common.{◌≡◌, ◌≢◌, ℕ, suc, ◌+◌, ◌<◌, ◌≤◌, min, Bool, true, false, List, [], ◌∷◌, ◌++◌, length, get_or, drop, filter, map, None, refl, sym, ap, ap₂, ◌∙◌, inl, inr, arith, length-append, append_assoc, add-one, drop-cons, bytes_eq}
+use Rattle.std.proofs.Common.{◌≡◌, ◌≢◌, ℕ, suc, ◌+◌, ◌<◌, ◌≤◌, min, Bool, true, false, List, [], ◌∷◌, ◌++◌, length, get_or, drop, filter, map, None, refl, sym, ap, ap₂, subst, ◌∙◌, inl, inr, arith, length-append, append_assoc, add-one, drop-cons, bytes_eq}
 use Rattle.std.specs.List.{AllByRecursion}
 use Rattle.std.specs.Bool.{Decides}
+use Rattle.std.specs.Prelude.{◌==◌, if◌then◌else◌}
 use Rattle.std.proofs.lemmas.Bool.{false_from_ne_true}
 use Rattle.std.proofs.lemmas.Bool.Decides.{eqb_tells}
 use Rattle.std.proofs.lemmas.Slice.Eq.{bytes_eq-Decides}
@@ -10,11 +11,11 @@ use Rattle.std.proofs.lemmas.List.Elements.{filter-append}
 use Rattle.art_bytes.proofs.Common.{BeginsWith, begins_step}
 use Rattle.art_nodes.proofs.Common.{Name, child_at}
 use Rattle.art_arena.specs.tree.Trees as tree
-use Rattle.art_arena.proofs.Terms.{path_of, path_in, Shape, Branches, leaf_at, inner_at, no_branch, branch, LeafAt, children_at, join, leaves, leaves_in, erase, erase_in, AreUnder, AreBelow, Step, Located, located, located_in, located_with_key, TakesFronts, located_where}
+use Rattle.art_arena.proofs.Terms.{path_of, path_in, look_up_path, look_up_in, Shape, Branches, leaf_at, inner_at, no_branch, branch, LeafAt, children_at, join, leaves, leaves_in, erase, erase_in, AreUnder, AreBelow, Step, Located, located, located_in, located_with_key, TakesFronts, located_where}
 use Rattle.art_arena.proofs.tree.Order.{all_append, all_left, all_right, all_weaker}
 use Rattle.art_arena.proofs.tree.Filters.{filter-map}
 use Rattle.art_arena.proofs.tree.Fronts.{begins_trans}
-use Rattle.art_arena.proofs.shapes.Passing.{byte_following}
+use Rattle.art_arena.proofs.shapes.Passing.{byte_following, next_byte}
 use Rattle.art_arena.proofs.shapes.Places.{leaves-begin}
 
 -- a key that goes on after the path by one byte is no front of one that goes on by another, or that ends with it
@@ -125,25 +126,72 @@ module _ {K V : Type 0} (bytes : K → List ℕ) (key : List ℕ) where
         (filter-append (λ l. test (bytes l.leaf.key)) (located step here) (located_in above n after)
         ∙ ap (λ xs. located_where bytes test (located step here) ++ xs) none_after ∙ append-nil (located_where bytes test (located step here)))
 
-  -- the path goes on in the child under the next byte, or ends
+  -- no leaf below a prefix with which the key doesn't go on can be meant
+  pub none-differs : (path prefix front : List ℕ) (depth low : ℕ) (f : Branches K V) → length path ≡ depth → AreUnder bytes (path ++ prefix) low f
+      → ((more : List ℕ) → BeginsWith front (prefix ++ more)) → (BeginsWith front (drop depth key) → ⊥) → NoneFits (leaves_in f)
+  none-differs path prefix front depth low no_branch len h part differs = tt
+  none-differs path prefix front depth low (branch c s rest) len h part differs =
+      all_append (λ l. BeginsWith (bytes l.key) key → ⊥) (leaves s) (leaves_in rest)
+      (all_weaker _ (λ l. BeginsWith (bytes l.key) key → ⊥)
+      (λ l st fits. let more = next_byte path prefix key depth c len (begins_trans ((path ++ prefix) ++ c ∷ []) (bytes l.key) key st fits) in differs (subst (BeginsWith front) (sym more.1) (part (c ∷ more.0))))
+      (leaves s) (leaves-begin bytes ((path ++ prefix) ++ c ∷ []) s h.1))
+      (none-differs path prefix front depth (c + 1) rest len h.2 part differs)
+
+  -- a walk of forests that takes the trees one by one, up to the one under the key's next byte
+  record IsByByte (on : tree.Tree (K × V) → List ℕ → List (tree.Tree (K × V))) (within : tree.Forest (K × V) → List ℕ → List (tree.Tree (K × V))) : Type 0 where
+    none : (k : List ℕ) → within tree.no_child k ≡ []
+    ended : (c : ℕ) (t : tree.Tree (K × V)) (f : tree.Forest (K × V)) → within (tree.child c t f) [] ≡ []
+    goes : (c : ℕ) (t : tree.Tree (K × V)) (f : tree.Forest (K × V)) (b : ℕ) (k : List ℕ) → within (tree.child c t f) (b ∷ k) ≡ (if b == c then on t k else within f (b ∷ k))
+
+  module _ (on : tree.Tree (K × V) → List ℕ → List (tree.Tree (K × V))) (within : tree.Forest (K × V) → List ℕ → List (tree.Tree (K × V))) (by : IsByByte on within) where
+    -- it goes on in the child under the next byte, or ends
+    child-step : (before : Branches K V) (b : ℕ) (here : Shape K V) (after : Branches K V) (rest : List ℕ) → AreBelow b before → within (erase_in (join before (branch b here after))) (b ∷ rest) ≡ on (erase here) rest
+    child-step no_branch b here after rest below =
+        by.goes b (erase here) (erase_in after) b rest ∙ elim (eqb_tells b b) [ inl same ↦ rw same.0 refl | inr other ↦ absurd (other.1 refl) ]
+    child-step (branch c s before) b here after rest below =
+        by.goes c (erase s) (erase_in (join before (branch b here after))) b rest ∙ elim (eqb_tells b c) [
+          | inl same ↦ absurd (omega (arith, same.1, below.0))
+          | inr other ↦ rw other.0 (child-step before b here after rest below.1)
+        ]
+
+    child-missing : (f : Branches K V) (b : ℕ) (rest : List ℕ) → Avoid b f → within (erase_in f) (b ∷ rest) ≡ []
+    child-missing no_branch b rest avoid = by.none (b ∷ rest)
+    child-missing (branch c s f) b rest avoid = by.goes c (erase s) (erase_in f) b rest ∙ elim (eqb_tells b c) [
+      | inl same ↦ absurd (avoid.0 (sym same.1))
+      | inr other ↦ rw other.0 (child-missing f b rest avoid.1)
+    ]
+
+    child-ended : (f : Branches K V) → within (erase_in f) [] ≡ []
+    child-ended no_branch = by.none []
+    child-ended (branch c s f) = by.ended c (erase s) (erase_in f)
+
+  -- a path, and a look-up
+  on-path : IsByByte path_of path_in
+  on-path = record { none = λ k. refl; ended = λ c t f. refl; goes = λ c t f b k. refl }
+
   pub path_in-step : (before : Branches K V) (b : ℕ) (here : Shape K V) (after : Branches K V) (rest : List ℕ) → AreBelow b before
       → path_in (erase_in (join before (branch b here after))) (b ∷ rest) ≡ path_of (erase here) rest
-  path_in-step no_branch b here after rest below = elim (eqb_tells b b) [ inl same ↦ rw same.0 refl | inr other ↦ absurd (other.1 refl) ]
-  path_in-step (branch c s before) b here after rest below = elim (eqb_tells b c) [
-    | inl same ↦ absurd (omega (arith, same.1, below.0))
-    | inr other ↦ rw other.0 (path_in-step before b here after rest below.1)
-  ]
+  path_in-step = child-step path_of path_in on-path
 
   pub path_in-missing : (f : Branches K V) (b : ℕ) (rest : List ℕ) → Avoid b f → path_in (erase_in f) (b ∷ rest) ≡ []
-  path_in-missing no_branch b rest avoid = refl
-  path_in-missing (branch c s f) b rest avoid = elim (eqb_tells b c) [
-    | inl same ↦ absurd (avoid.0 (sym same.1))
-    | inr other ↦ rw other.0 (path_in-missing f b rest avoid.1)
-  ]
+  path_in-missing = child-missing path_of path_in on-path
 
   pub path_in-ended : (f : Branches K V) → path_in (erase_in f) [] ≡ []
-  path_in-ended no_branch = refl
-  path_in-ended (branch c s f) = refl
+  path_in-ended = child-ended path_of path_in on-path
+
+  module _ (P : ℕ) where
+    on-look_up : IsByByte (look_up_path P) (look_up_in P)
+    on-look_up = record { none = λ k. refl; ended = λ c t f. refl; goes = λ c t f b k. refl }
+
+    pub look_up-step : (before : Branches K V) (b : ℕ) (here : Shape K V) (after : Branches K V) (rest : List ℕ) → AreBelow b before
+        → look_up_in P (erase_in (join before (branch b here after))) (b ∷ rest) ≡ look_up_path P (erase here) rest
+    look_up-step = child-step (look_up_path P) (look_up_in P) on-look_up
+
+    pub look_up-missing : (f : Branches K V) (b : ℕ) (rest : List ℕ) → Avoid b f → look_up_in P (erase_in f) (b ∷ rest) ≡ []
+    look_up-missing = child-missing (look_up_path P) (look_up_in P) on-look_up
+
+    pub look_up-ended : (f : Branches K V) → look_up_in P (erase_in f) [] ≡ []
+    look_up-ended = child-ended (look_up_path P) (look_up_in P) on-look_up
 
   -- the leaves with the key, as pairs
   abbrev pub pair_at : Located K V → K × V

@@ -1,20 +1,26 @@
 -- The walk of a descent from the root to a leaf.
-use Rattle.std.proofs.Common.{◌≡◌, ℕ, suc, ◌+◌, ◌-◌, ◌^◌, ◌<◌, ◌≤◌, min, Bool, List, [], ◌∷◌, ◌++◌, length, get_or, take, drop, Option, Some, None, IsSome, IfSome, refl, sym, ap, ap₂, subst, ◌∙◌, inl, inr, arith, length-append}
+use Rattle.std.proofs.Common.{◌≡◌, ℕ, suc, ◌+◌, ◌-◌, ◌^◌, ◌<◌, ◌≤◌, min, Bool, List, [], ◌∷◌, ◌++◌, length, get_or, take, drop, Option, Some, None, IsSome, IfSome, refl, sym, ap, ap₂, subst, ◌∙◌, inl, inr, arith, append_assoc, length-append}
 use Rattle.std.proofs.Math.ListN.{drop_of_length-le}
+use Rattle.std.proofs.lemmas.Bool.{cond-true, cond-false, cond_both}
 use Rattle.std.proofs.lemmas.Bool.Decides.{leb_tells}
-use Rattle.std.proofs.lemmas.List.{drop-drop}
+use Rattle.std.specs.Prelude.{if◌then◌else◌, ◌⊎◌}
+use Rattle.std.proofs.lemmas.List.{drop-drop, take-append-drop, take-append-le, take_all}
 use Rattle.art_nodes.proofs.Common.{Name, InnerNode, child_at}
 use Rattle.art_nodes.specs.declared.leaf.LeafNode.{LeafNode}
-use Rattle.art_arena.proofs.Terms.{path_of, path_in, Cell, pair, branches, copies, AreHeld, Shape, Branches, leaf_at, inner_at, name_of, children_at, cells, erase, erase_in, leaves_in, Frame, path_to, cells_before, cells_after, IsSubtree, Step, steps_to, IsPlace, prefix_of, located}
-use Rattle.art_arena.proofs.Terms.{located_in, GoesOn, GoesNoFurther, GuidesBelow, IsGuide, TakesFronts, located_where, LandsAt, HasNoFront, OnWayTo, ReadsPath, Arena, Held, leaf_held, inner_held, held_at, cell_of, node_at}
+use Rattle.art_arena.proofs.Terms.{look_up_path, look_up_in, begins_with, Cell, pair, branches, copies, AreHeld, Shape, Branches, leaf_at, inner_at, name_of, children_at, cells, erase, erase_in, leaves_in, Frame, path_to, cells_before, cells_after, IsSubtree, Step, steps_to, IsPlace, prefix_of, located}
+use Rattle.art_arena.proofs.Terms.{located_in, GoesOn, GoesNoFurther, GuidesBelow, IsGuide, TakesFronts, located_where, LandsAt, HasNoFront, AgreesUpTo, MeetsStored, OnWayTo, ReadsLookUp, Arena, Held, leaf_held, inner_held, held_at, cell_of, node_at}
 use Rattle.art_bytes.proofs.Common.{BeginsWith}
 use Rattle.art_arena.proofs.shapes.Guides.{guide_down}
 use Rattle.art_arena.proofs.shapes.LastSteps.{last_two}
+use Rattle.art_arena.proofs.shapes.Prefixes.{drop-front, take-front}
 use Rattle.art_arena.proofs.shapes.Reads.{some_weaker}
+use Rattle.art_arena.specs.inner.Stepping.{IsComparedAfter}
 use Rattle.art_arena.proofs.shapes.CellLists.{copies-append}
 use Rattle.art_arena.proofs.shapes.Contexts.{cells-plug}
 use Rattle.art_arena.proofs.shapes.Places.{Splits, held-below, leaf-there, inner-there, place_below, split, at-root}
-use Rattle.art_arena.proofs.shapes.Finding.{NoneFits, dropped, counted_more, located-step, none-located_in, none-avoid, none-short, avoid-missing, path_in-step, path_in-missing, path_in-ended}
+use Rattle.art_arena.proofs.tree.LookUps.{begins_taken}
+use Rattle.art_arena.proofs.tree.Parts.{begins_not, begins_same}
+use Rattle.art_arena.proofs.shapes.Finding.{NoneFits, dropped, counted_more, located-step, none-located_in, none-avoid, none-short, none-differs, avoid-missing, look_up-step, look_up-missing, look_up-ended}
 
 -- how many nodes are counted after so many more
 abbrev pub counted : ℕ → ℕ → ℕ
@@ -43,13 +49,21 @@ module _ {K V : Type 0} (bytes : K → List ℕ) (key : List ℕ) (whole : Shape
     pub steps : take 2 (steps_to ctx) ≡ last
     pub depth_is : length (path_to ctx) ≡ depth
     pub finds : (test : List ℕ → Bool) → TakesFronts key test → located_where bytes test (located [] whole) ≡ located_where bytes test (located (steps_to ctx) part)
-    pub long : length (path_of (erase whole) key) ≡ length ctx + length (path_of (erase part) (drop depth key))
     pub reads : min (count + 1) (2 ^ 64 - 1) ≡ counted start (suc (length ctx))
 
-  -- and where so, the way is a front of the key, and what was found stands for the prefixes that the key meets from there on
-  abbrev pub IsOnWayIf : {X : Type 0} → Type 0 → Option X → (X → List ℕ) → Name → List Step → ℕ → ℕ → Type 0
-  IsOnWayIf so found bytes_of current last depth count =
+  -- a look-up of the key has come to this part below these frames
+  abbrev pub IsLookedUp : ℕ → List (Frame K V) → Shape K V → ℕ → Type 0
+  IsLookedUp P ctx part depth = length (look_up_path P (erase whole) key) ≡ length ctx + length (look_up_path P (erase part) (drop depth key))
+
+  -- so many of the key's first bytes are those of this path
+  abbrev pub IsAgreed : ℕ → List ℕ → Type 0
+  IsAgreed compared path = (compared ≤ length path) × AgreesUpTo compared path key
+
+  -- and where so, the way is a front of the key, and what was found stands for the prefixes that the key meets from there on; a look-up has come this far, and so many bytes are compared
+  abbrev pub IsOnWayIf : {X : Type 0} → ℕ → Type 0 → Type 0 → Option X → (X → List ℕ) → Name → List Step → ℕ → ℕ → ℕ → Type 0
+  IsOnWayIf P so looks found bytes_of current last depth compared count =
       (on : IsOnWay current last depth count) × (so → BeginsWith (path_to on.ctx) key) × (so → IfSome found (λ x. IsGuide key (bytes_of x) (path_to on.ctx) on.part))
+      × (looks → IsLookedUp P on.ctx on.part depth × IsAgreed compared (path_to on.ctx))
 
   module _ (P : ℕ) (at : Name → Option (Cell K V)) (root : Name) (tree : IsSubtree bytes P at root [] whole) where
     pub way-start : IsOnWay root [] 0 start
@@ -61,13 +75,12 @@ module _ {K V : Type 0} (bytes : K → List ℕ) (key : List ℕ) (whole : Shape
       steps = refl;
       depth_is = refl;
       finds = λ test takes. refl;
-      long = omega arith;
       reads = omega arith;
     }
 
-    pub way-starts : (so : Type 0) → (on : IsOnWay root [] 0 start) × (so → BeginsWith (path_to on.ctx) key) × (so → Unit {0})
+    pub way-starts : (so looks : Type 0) → (on : IsOnWay root [] 0 start) × (so → BeginsWith (path_to on.ctx) key) × (so → Unit {0}) × (looks → IsLookedUp P on.ctx on.part 0 × IsAgreed 0 (path_to on.ctx))
     unfolding way-start
-    way-starts so = (way-start, λ h. (key, refl), λ h. tt)
+    way-starts so looks = (way-start, λ h. (key, refl), λ h. tt, λ h. (omega arith, (omega arith, refl)))
 
     module _ (current : Name) (last : List Step) (depth count : ℕ) (way : IsOnWay current last depth count) where
       pub part-held : AreHeld at (cells P way.part)
@@ -109,8 +122,14 @@ module _ {K V : Type 0} (bytes : K → List ℕ) (key : List ℕ) (whole : Shape
           only = λ test takes. rw (key_is, value_is) (way.finds test takes ∙ ap (λ s. located_where bytes test (located (steps_to way.ctx) s)) the_leaf);
         }
 
-        pub reads-leaf : ReadsPath key whole start (min (count + 1) (2 ^ 64 - 1))
-        reads-leaf = way.reads ∙ ap (counted start) (omega (arith, way.long, ap (λ s. length (path_of (erase s) (drop depth key))) the_leaf))
+        -- the leaf's key has the bytes that were compared
+        pub agrees-leaf : (compared : ℕ) → IsAgreed compared (path_to way.ctx) → AgreesUpTo compared (bytes k) key
+        agrees-leaf compared agreed =
+            let below : BeginsWith (path_to way.ctx) (bytes k) = leaf-place.under in
+            ap (take compared) below.1 ∙ take-append-le compared (path_to way.ctx) below.0 agreed.0 ∙ agreed.1
+
+        pub reads-leaf : IsLookedUp P way.ctx way.part depth → ReadsLookUp P key whole start (min (count + 1) (2 ^ 64 - 1))
+        reads-leaf long = way.reads ∙ ap (counted start) (omega (arith, long, ap (λ s. length (look_up_path P (erase s) (drop depth key))) the_leaf))
 
       -- at an inner node
       module _ (node : InnerNode) (there : at current ≡ Some (branches node)) where
@@ -136,9 +155,30 @@ module _ {K V : Type 0} (bytes : K → List ℕ) (key : List ℕ) (whole : Shape
         following : drop (length here.prefix) (drop depth key) ≡ drop (depth + node.header.prefix_len) key
         following = drop-drop (length here.prefix) depth key ∙ ap (λ n. drop (depth + n.header.prefix_len) key) (sym here.node_is)
 
-        -- the path of what is left of the key, in the part
-        part-path : length (path_of (erase way.part) (drop depth key)) ≡ suc (length (path_in (erase_in here.kids) (drop (depth + node.header.prefix_len) key)))
-        part-path = ap (λ s. length (path_of (erase s) (drop depth key))) here.is ∙ ap (λ k. suc (length (path_in (erase_in here.kids) k))) following
+        stored-is : node.header.stored ≡ take P here.prefix
+        stored-is = ap (λ n. n.header.stored) here.node_is
+
+        -- what a look-up of what is left of the key reads, in the part
+        part-path : length (look_up_path P (erase way.part) (drop depth key))
+            ≡ suc (length (if begins_with (take P here.prefix) (drop depth key) then look_up_in P (erase_in here.kids) (drop (length here.prefix) (drop depth key)) else []))
+        part-path = ap (λ s. length (look_up_path P (erase s) (drop depth key))) here.is
+
+        goes-on : MeetsStored key depth node → length (look_up_path P (erase way.part) (drop depth key)) ≡ suc (length (look_up_in P (erase_in here.kids) (drop (depth + node.header.prefix_len) key)))
+        goes-on meets =
+            part-path
+            ∙ ap (λ nodes. suc (length nodes)) (cond-true (begins_with (take P here.prefix) (drop depth key)) (look_up_in P (erase_in here.kids) (drop (length here.prefix) (drop depth key))) []
+            (begins_same (take P here.prefix) (drop depth key) (subst (λ p. BeginsWith p (drop depth key)) stored-is meets)))
+            ∙ ap (λ k. suc (length (look_up_in P (erase_in here.kids) k))) following
+
+        stays : (MeetsStored key depth node → ⊥) ⊎ (look_up_in P (erase_in here.kids) (drop (depth + node.header.prefix_len) key) ≡ []) → length (look_up_path P (erase way.part) (drop depth key)) ≡ 1
+        stays (inl differs) =
+            part-path
+            ∙ ap (λ nodes. suc (length nodes)) (cond-false (begins_with (take P here.prefix) (drop depth key)) (look_up_in P (erase_in here.kids) (drop (length here.prefix) (drop depth key))) []
+            (begins_not (take P here.prefix) (drop depth key) (λ meets. differs (subst (λ p. BeginsWith p (drop depth key)) (sym stored-is) meets))))
+        stays (inr none) =
+            part-path
+            ∙ ap (λ nodes. suc (length nodes)) (cond_both (begins_with (take P here.prefix) (drop depth key)) (look_up_in P (erase_in here.kids) (drop (length here.prefix) (drop depth key))) []
+            (λ nodes. nodes ≡ []) (λ _. ap (look_up_in P (erase_in here.kids)) following ∙ none) (λ _. refl))
 
         -- the child to which it goes on
         way-down : (b : ℕ) (child : Name) (next : ℕ) → GoesOn key depth node b child next → Splits here.kids b child
@@ -152,10 +192,6 @@ module _ {K V : Type 0} (bytes : K → List ℕ) (key : List ℕ) (whole : Shape
             let at_b : get_or key (length path) 0 ≡ b = ap (λ i. get_or key i 0) path-long ∙ goes.byte_is in
             let sd = way-down b child next goes in
             let place = place_below bytes whole way.ctx current h.prefix h.kids sd.before b sd.here sd.after h.place sd.kids_are in
-            let rest : drop (depth + node.header.prefix_len) key ≡ b ∷ drop next key =
-            dropped (depth + node.header.prefix_len) key (omega (arith, goes.within, goes.next_is)) ∙ ap₂ (λ c n. c ∷ drop n key) goes.byte_is (sym goes.next_is) in
-            let inner_path : path_in (erase_in h.kids) (drop (depth + node.header.prefix_len) key) ≡ path_of (erase sd.here) (drop next key) =
-            ap₂ (λ f k. path_in (erase_in f) k) sd.kids_are rest ∙ path_in-step bytes key sd.before b sd.here sd.after (drop next key) place.around.2 in
             record {
               ctx = record { name = current; prefix = h.prefix; before = sd.before; byte = b; after = sd.after } ∷ way.ctx;
               part = sd.here;
@@ -167,9 +203,49 @@ module _ {K V : Type 0} (bytes : K → List ℕ) (key : List ℕ) (whole : Shape
                   way.finds test takes ∙ ap (λ s. located_where bytes test (located (steps_to way.ctx) s)) h.is
                   ∙ ap (λ f. located_where bytes test (located_in (steps_to way.ctx) current f)) sd.kids_are
                   ∙ located-step bytes key test takes path (steps_to way.ctx) current sd.before b sd.here sd.after at_b place.around.1 place.around.2 place.around.3;
-              long = omega (arith, way.long, part-path, ap length inner_path);
               reads = ap (λ c. min (c + 1) (2 ^ 64 - 1)) way.reads ∙ counted_more start (suc (length way.ctx)) (2 ^ 64 - 1);
             }
+
+        -- and so does a look-up
+        way-looks : (b : ℕ) (child : Name) (next : ℕ) (goes : GoesOn key depth node b child next) → MeetsStored key depth node → IsLookedUp P way.ctx way.part depth
+            → IsLookedUp P (way-step b child next goes).ctx (way-step b child next goes).part next
+        unfolding way-step
+        way-looks b child next goes meets long =
+            let h = here in
+            let sd = way-down b child next goes in
+            let place = place_below bytes whole way.ctx current h.prefix h.kids sd.before b sd.here sd.after h.place sd.kids_are in
+            let rest : drop (depth + node.header.prefix_len) key ≡ b ∷ drop next key =
+            dropped (depth + node.header.prefix_len) key (omega (arith, goes.within, goes.next_is)) ∙ ap₂ (λ c n. c ∷ drop n key) goes.byte_is (sym goes.next_is) in
+            let below : look_up_in P (erase_in h.kids) (drop (depth + node.header.prefix_len) key) ≡ look_up_path P (erase sd.here) (drop next key) =
+            ap₂ (λ f k. look_up_in P (erase_in f) k) sd.kids_are rest ∙ look_up-step bytes key P sd.before b sd.here sd.after (drop next key) place.around.2 in
+            omega (arith, long, goes-on meets, ap length below)
+
+        -- and so many bytes are compared
+        way-agrees : (b : ℕ) (child : Name) (next : ℕ) (goes : GoesOn key depth node b child next) → MeetsStored key depth node → (compared more : ℕ) → IsComparedAfter P node compared depth next more
+            → IsAgreed compared (path_to way.ctx) → IsAgreed more (path_to (way-step b child next goes).ctx)
+        unfolding way-step
+        way-agrees b child next goes meets compared more (inl same) agreed =
+            let longer = length-append path (b ∷ []) in
+            let long = length-append (path_to way.ctx) here.prefix in
+            subst (λ n. IsAgreed n (path ++ b ∷ [])) (sym same) (
+              omega (arith, agreed.0, longer, long),
+              take-append-le compared path (b ∷ []) (omega (arith, agreed.0, long)) ∙ take-append-le compared (path_to way.ctx) here.prefix agreed.0 ∙ agreed.1,
+            )
+        way-agrees b child next goes meets compared more (inr (all, whole, is)) agreed =
+            let before : path_to way.ctx ≡ take depth key = sym (take_all compared (path_to way.ctx) (omega (arith, all, way.depth_is))) ∙ agreed.1 ∙ ap (λ n. take n key) all in
+            let stored : node.header.stored ≡ here.prefix = stored-is ∙ take_all P here.prefix (omega (arith, whole, ap (λ n. n.header.prefix_len) here.node_is)) in
+            let passed : drop depth key ≡ here.prefix ++ meets.0 = meets.1 ∙ ap (λ p. p ++ meets.0) stored in
+            let after : drop (depth + node.header.prefix_len) key ≡ meets.0 = sym following ∙ ap (drop (length here.prefix)) passed ∙ drop-front here.prefix meets.0 in
+            let rest : meets.0 ≡ b ∷ drop next key =
+            sym after ∙ dropped (depth + node.header.prefix_len) key (omega (arith, goes.within, goes.next_is)) ∙ ap₂ (λ c n. c ∷ drop n key) goes.byte_is (sym goes.next_is) in
+            let spelled : key ≡ (path ++ b ∷ []) ++ drop next key =
+            sym (take-append-drop depth key) ∙ ap₂ (λ p r. p ++ r) (sym before) (passed ∙ ap (λ r. here.prefix ++ r) rest)
+            ∙ sym (append_assoc (path_to way.ctx) here.prefix (b ∷ drop next key)) ∙ sym (append_assoc path (b ∷ []) (drop next key)) in
+            let long : length (path ++ b ∷ []) ≡ more = omega (arith, length-append path (b ∷ []), path-long, goes.next_is, is) in
+            subst (λ n. IsAgreed n (path ++ b ∷ [])) long (
+              omega arith,
+              take_all (length (path ++ b ∷ [])) (path ++ b ∷ []) (omega arith) ∙ sym (ap (take (length (path ++ b ∷ []))) spelled ∙ take-front (path ++ b ∷ []) (drop next key)),
+            )
 
         -- and what was found stands for the prefixes that the key meets from there on
         way-guides : (b : ℕ) (child : Name) (next : ℕ) (goes : GoesOn key depth node b child next) → BeginsWith ((path_to way.ctx ++ here.prefix) ++ b ∷ []) key → (guide : List ℕ)
@@ -188,31 +264,34 @@ module _ {K V : Type 0} (bytes : K → List ℕ) (key : List ℕ) (whole : Shape
         way-front b child next goes begins = begins
 
         -- by its bytes too
-        pub way-steps : {X : Type 0} (so : Type 0) (found : Option X) (bytes_of : X → List ℕ) (b : ℕ) (child : Name) (next : ℕ) → GoesOn key depth node b child next
+        pub way-steps : {X : Type 0} (so looks : Type 0) (found : Option X) (bytes_of : X → List ℕ) (b : ℕ) (child : Name) (next : ℕ) → GoesOn key depth node b child next
             → (so → BeginsWith ((path_to way.ctx ++ prefix_of way.part) ++ b ∷ []) key) → (so → IfSome found (λ x. IsGuide key (bytes_of x) (path_to way.ctx) way.part))
-            → IsOnWayIf so found bytes_of child (take 2 (record { node = current; byte = b } ∷ last)) next (min (count + 1) (2 ^ 64 - 1))
-        way-steps so found bytes_of b child next goes begins guided = (
+            → (looks → MeetsStored key depth node) → (compared more : ℕ) → IsComparedAfter P node compared depth next more
+            → (looks → IsLookedUp P way.ctx way.part depth × IsAgreed compared (path_to way.ctx))
+            → IsOnWayIf P so looks found bytes_of child (take 2 (record { node = current; byte = b } ∷ last)) next more (min (count + 1) (2 ^ 64 - 1))
+        way-steps so looks found bytes_of b child next goes begins guided meets compared more after come = (
           way-step b child next goes,
           λ h. way-front b child next goes (passes b (begins h)),
           λ h. some_weaker found _ _ (λ x. way-guides b child next goes (passes b (begins h)) (bytes_of x)) (guided h),
+          λ h. (way-looks b child next goes (meets h) (come h).0, way-agrees b child next goes (meets h) compared more after (come h).1),
         )
 
-        -- where no leaf below can be meant, and the path has no further node, it ends
+        -- where no leaf below can be meant, and a look-up reads no further node, it ends
         pub record HasEnded (total : ℕ) : Type 0 where
           pub none : HasNoFront bytes key whole
-          pub reads : ReadsPath key whole start total
+          pub reads : IsLookedUp P way.ctx way.part depth → ReadsLookUp P key whole start total
 
-        ended : NoneFits bytes key (leaves_in here.kids) → path_in (erase_in here.kids) (drop (depth + node.header.prefix_len) key) ≡ [] → HasEnded (min (count + 1) (2 ^ 64 - 1))
+        ended : NoneFits bytes key (leaves_in here.kids) → (MeetsStored key depth node → ⊥) ⊎ (look_up_in P (erase_in here.kids) (drop (depth + node.header.prefix_len) key) ≡ []) → HasEnded (min (count + 1) (2 ^ 64 - 1))
         ended none no_more = record {
           none = λ test takes.
               way.finds test takes ∙ ap (λ s. located_where bytes test (located (steps_to way.ctx) s)) here.is ∙ none-located_in bytes key test takes (steps_to way.ctx) current here.kids none;
-          reads = way.reads ∙ ap (counted start) (omega (arith, way.long, part-path, ap length no_more));
+          reads = λ long. way.reads ∙ ap (counted start) (omega (arith, long, stays no_more));
         }
 
         ends-short : length key ≤ depth + node.header.prefix_len → HasEnded (min (count + 1) (2 ^ 64 - 1))
         ends-short short = ended
             (none-short bytes key path 0 here.kids here.place.under.1 (omega (arith, path-long)))
-            (ap (path_in (erase_in here.kids)) (drop_of_length-le key short) ∙ path_in-ended bytes key here.kids)
+            (inr (ap (look_up_in P (erase_in here.kids)) (drop_of_length-le key short) ∙ look_up-ended bytes key P here.kids))
 
         ends-missing : depth + node.header.prefix_len < length key → child_at node.children (get_or key (depth + node.header.prefix_len) 0) ≡ None → HasEnded (min (count + 1) (2 ^ 64 - 1))
         ends-missing more missing =
@@ -220,12 +299,19 @@ module _ {K V : Type 0} (bytes : K → List ℕ) (key : List ℕ) (whole : Shape
             let avoid = avoid-missing bytes key b here.kids (ap (λ n. child_at n.children b) (sym here.node_is) ∙ missing) in
             ended
             (none-avoid bytes key path b 0 here.kids here.place.under.1 (ap (λ i. get_or key i 0) path-long) avoid)
-            (ap (path_in (erase_in here.kids)) (dropped (depth + node.header.prefix_len) key more) ∙ path_in-missing bytes key here.kids b (drop (depth + node.header.prefix_len + 1) key) avoid)
+            (inr (ap (look_up_in P (erase_in here.kids)) (dropped (depth + node.header.prefix_len) key more) ∙ look_up-missing bytes key P here.kids b (drop (depth + node.header.prefix_len + 1) key) avoid))
+
+        ends-differing : (MeetsStored key depth node → ⊥) → HasEnded (min (count + 1) (2 ^ 64 - 1))
+        ends-differing differs = ended
+            (none-differs bytes key (path_to way.ctx) here.prefix node.header.stored depth 0 here.kids way.depth_is here.place.under.1
+            (λ more. subst (λ p. BeginsWith p (here.prefix ++ more)) (sym stored-is) (begins_taken P here.prefix more)) differs)
+            (inl differs)
 
         -- it ends
-        pub way-ends : GoesNoFurther key depth node → HasEnded (min (count + 1) (2 ^ 64 - 1))
-        way-ends (inl short) = ends-short short
-        way-ends (inr missing) = elim (leb_tells (length key) (depth + node.header.prefix_len)) [
+        pub way-ends : (MeetsStored key depth node → ⊥) ⊎ GoesNoFurther key depth node → HasEnded (min (count + 1) (2 ^ 64 - 1))
+        way-ends (inl differs) = ends-differing differs
+        way-ends (inr (inl short)) = ends-short short
+        way-ends (inr (inr missing)) = elim (leb_tells (length key) (depth + node.header.prefix_len)) [
           | inl short ↦ ends-short short.1
           | inr more ↦ ends-missing (omega (arith, more.1)) missing
         ]

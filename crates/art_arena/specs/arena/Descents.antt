@@ -1,5 +1,5 @@
 -- The way of a key down a tree: where it turns at a node, and the one leaf at which it can end.
-use Rattle.std.specs.Prelude.{◌≡◌, ℕ, ◌+◌, ◌-◌, ◌^◌, ◌≤◌, ◌⊎◌, min, Bool, true, List, [], ◌∷◌, ◌++◌, length}
+use Rattle.std.specs.Prelude.{◌≡◌, ℕ, ◌+◌, ◌-◌, ◌^◌, ◌≤◌, ◌⊎◌, min, Bool, true, List, [], ◌∷◌, ◌++◌, length, drop}
 use Rattle.std.specs.Prelude.{take, filter, get_or, Option, Some, None}
 use Rattle.std.specs.List.{AllByRecursion}
 use Rattle.art_bytes.specs.Keys.{BeginsWith, Conflict}
@@ -7,7 +7,7 @@ use Rattle.art_nodes.specs.Name.{Name}
 use Rattle.art_nodes.specs.InnerNode.{InnerNode, child_at}
 use Rattle.art_nodes.specs.declared.leaf.LeafNode.{LeafNode}
 use Rattle.art_arena.specs.tree.Changes.{IsIn}
-use Rattle.art_arena.specs.tree.Paths.{path_of}
+use Rattle.art_arena.specs.tree.Paths.{look_up_path, path_of}
 use Rattle.art_arena.specs.arena.Cells.{Cell}
 use Rattle.art_arena.specs.arena.Shapes.{Shape, Branches, leaf_at, inner_at, no_branch, branch, children_at, erase}
 use Rattle.art_arena.specs.arena.Shapes.{LeafAt}
@@ -33,9 +33,22 @@ GoesNoFurther key depth node =
     (length key ≤ depth + node.header.prefix_len)
     ⊎ (child_at node.children (get_or key (depth + node.header.prefix_len) 0) ≡ None)
 
+-- two keys have the same first bytes, so many
+abbrev pub AgreesUpTo : ℕ → List ℕ → List ℕ → Type 0
+AgreesUpTo n a b = take n a ≡ take n b
+
+-- so much of the node's prefix as is stored is what the key has after `depth` bytes
+abbrev pub MeetsStored : List ℕ → ℕ → InnerNode → Type 0
+MeetsStored key depth node = BeginsWith node.header.stored (drop depth key)
+
 -- so many nodes were read as the key's path has; the greatest count stays
 abbrev pub ReadsPath : {K V : Type 0} → List ℕ → Shape K V → ℕ → ℕ → Type 0
 ReadsPath key s old new = new ≡ min (old + length (path_of (erase s) key)) (2 ^ 64 - 1)
+
+-- so many nodes were read as a look-up of the key reads, where a node stores `P` bytes of its prefix; the greatest
+-- count stays
+abbrev pub ReadsLookUp : {K V : Type 0} → ℕ → List ℕ → Shape K V → ℕ → ℕ → Type 0
+ReadsLookUp P key s old new = new ≡ min (old + length (look_up_path P (erase s) key)) (2 ^ 64 - 1)
 
 -- A guide stands for prefixes that aren't wholly stored. Wherever the key leads from here by all its bytes, the guide
 -- begins with the path there, and with the whole prefix of the node there after it.

@@ -1,4 +1,7 @@
 //! The unsigned numbers.
+//!
+//! `Coding` ties the mapping to what the bytes are kept in, so `ToUBE` and `ToIBE` are implemented once each. A struct
+//! for each coding was proved, too, but its callers could not be.
 #![tactic(auto, using(crate::specs::lemmas::NumberLaws::be_bytes_16))]
 
 ghost use Rattle.std.specs.Prelude.{◌<◌, ◌^◌};

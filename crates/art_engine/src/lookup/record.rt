@@ -17,8 +17,9 @@ use art_lines::command::fields::{Fields, NUMBER_KEY};
 use art_lines::gather::key_of;
 use art_walks::MapReader;
 
-/// The value at the tenant's key that was read. It is looked up by its full key in place, without an allocation. The
-/// nodes of the full key's path are read, and no others.
+/// The value at the tenant's key that was read. It is looked up by its full key in place, without an allocation. Nodes
+/// of the full key's path are read, and no others: all of them if the value is there, else up to one whose prefix, as
+/// it is stored, isn't the full key's there.
 pub(crate) fn value_of<'a, const PREFIX_LEN: usize>(
     records: &mut MapReader<'a, Vec<u8>, Vec<u8>, PREFIX_LEN>,
     fields: &Fields,

@@ -1,15 +1,14 @@
 //! A line that is parsed before its turn, and how far the path of its key is descended.
-ghost use Rattle.std.specs.Prelude.{◌≡◌, ℕ, ◌+◌, ◌<◌, ◌≤◌, ◌++◌, List, [], true, IsTrue, IfSome, drop, length};
-ghost use Rattle.std.specs.Prelude.{Option, Some, option_map, if◌then◌else◌, nat_eq};
+ghost use Rattle.std.specs.Prelude.{◌≡◌, ℕ, ◌+◌, ◌<◌, ◌≤◌, ◌++◌, List, [], true, IsTrue, IfSome, length};
+ghost use Rattle.std.specs.Prelude.{Option, Some, option_map, if◌then◌else◌};
 ghost use Rattle.art_arena.specs.arena.Visited.{count_of};
 ghost use Rattle.art_arena.specs.arena.Arena.{held_at, leaf_held};
-ghost use Rattle.art_arena.specs.arena.Descents.{GoesOn};
-ghost use Rattle.std.specs.List.{starts_with};
+ghost use Rattle.art_arena.specs.arena.Descents.{GoesOn, MeetsStored};
 ghost use Rattle.art_lines.specs.Parsed.{command_with};
 ghost use Rattle.art_lines.specs.Reading.{command_of};
 ghost use Rattle.art_lines.specs.declared.command.fields.Fields.{Fields};
 ghost use Rattle.art_nodes.specs.Name.{Name};
-ghost use Rattle.art_engine.specs.Ahead.{path_ahead, most_ahead, is_in_numbers, passing_ahead, shows_value};
+ghost use Rattle.art_engine.specs.Ahead.{path_ahead, most_ahead, is_in_numbers, shows_value};
 ghost use Rattle.art_engine.specs.Ahead.{IsStepAhead, IsWayAhead};
 ghost use Rattle.art_nodes.specs.declared.leaf.LeafNode.{LeafNode};
 ghost use Rattle.std.specs.Global.{Vec};
@@ -17,7 +16,7 @@ ghost use Rattle.std.specs.Global.{Vec};
 use crate::read_ahead::names::Names;
 use crate::read_ahead::{ParsedLine, PathReader, Roots};
 use arrayvec::ArrayVec;
-use art_arena::{InnerRef, NextStep, Passing};
+use art_arena::{InnerRef, NextStep};
 use art_lines::command::fields::Fields;
 use art_lines::command::read_line;
 use art_lines::command::word::{Change, LookUp, Whole, Word};
@@ -31,8 +30,7 @@ pub(crate) const KEY: usize = 132;
 
 /// A line that is parsed before its turn. It has the node that comes next on the path of its key, how many bytes of the
 /// key lead there, how many nodes were read, and how many may be still. Of a line that has a path the key is that of
-/// its command, and prefixes are passed as its look-up passes them. For proofs alone it keeps the names of the nodes
-/// that were read.
+/// its command. For proofs alone it keeps the names of the nodes that were read.
 #[derive(Drop)]
 pub(crate) struct Line {
     text: ArrayVec<u8, SHORT>,
@@ -40,7 +38,6 @@ pub(crate) struct Line {
     fields: Fields,
     key: ArrayVec<u8, KEY>,
     of_number: bool,
-    passing: Passing,
     node: OpaqueNodePtr,
     depth: usize,
     read: u64,
@@ -51,34 +48,24 @@ pub(crate) struct Line {
     ghost small: { read + left ≤ 133 },
     ghost path: { 0 < read + left → path_ahead (command_of text.items) ≡ Some key.items },
     ghost map: { 0 < read + left → of_number ≡ is_in_numbers (command_of text.items) },
-    ghost passed: { 0 < read + left → passing ≡ passing_ahead (command_of text.items) },
     ghost told: { length visited.items ≡ read },
 }
 
-/// The child to which a key goes on from an inner node after so many of its bytes. By bytes it goes no further where it
-/// doesn't meet the prefix, as much of it as is stored.
+/// The child to which a key goes on from an inner node after so many of its bytes. It goes no further where it doesn't
+/// meet the prefix, as much of it as is stored: so a look-up of the key doesn't either.
 #[inline(always)]
 fn next_of<K, const PREFIX_LEN: usize>(
     inner: &InnerRef<'_, K, Vec<u8>, PREFIX_LEN>,
     key: &[u8],
     depth: usize,
-    passing: Passing,
 ) -> Option<NextStep>
     ensures goes { IfSome result (λ step. GoesOn key.now depth inner.now.node step.byte step.child step.depth) }
-    ensures meets { IfSome result (λ step. passing ≡ Passing.ByBytes
-        → starts_with nat_eq (drop depth key.now) inner.now.node.header.stored ≡ true) }
+    ensures meets { IfSome result (λ step. MeetsStored key.now depth inner.now.node) }
 {
-    if depth > key.len() {
-        return None;
+    if depth <= key.len() && inner.meets_stored(key, depth) {
+        return inner.next_step(key, depth);
     }
-    let is_met = match passing {
-        Passing::ByLength => true,
-        Passing::ByBytes => key[depth..].starts_with(inner.read_prefix()),
-    };
-    if !is_met {
-        return None;
-    }
-    inner.next_step(key, depth)
+    None
 }
 
 /// Sets a key to these bytes, and returns whether there is room for them.
@@ -98,7 +85,7 @@ fn set_path_key(word: Word, fields: &Fields, key: &mut ArrayVec<u8, KEY>) -> boo
         Word::LookUp(LookUp::Find) => set_key(key, fields.full_key()),
         Word::LookUp(LookUp::List) => set_key(key, fields.full_key()),
         Word::LookUp(LookUp::Span) => {
-            !fields.value().cmp(fields.key()).is_lt() && set_key(key, fields.full_key())
+            !fields.upper().cmp(fields.key()).is_lt() && set_key(key, fields.full_key())
         }
         Word::LookUp(LookUp::NGet) => set_key(key, &fields.number_key()),
         Word::LookUp(LookUp::NSpan) => {
@@ -133,29 +120,6 @@ fn is_of_number(word: Word) -> bool
         Word::Whole(Whole::Dump) => false,
         Word::Whole(Whole::Audit) => false,
         Word::Drop => false,
-    }
-}
-
-/// How the look-up of a word passes the prefix of a node. One that compares the key of its leaf as a whole passes it by
-/// its length, whatever its bytes are. So does what is read ahead of it: else a miss would wait for the nodes below.
-fn passing_of(word: Word) -> Passing
-    ensures { (fields : Fields) → result ≡ passing_ahead (Some (command_with word fields)) }
-{
-    match word {
-        Word::LookUp(LookUp::Get) => Passing::ByLength,
-        Word::LookUp(LookUp::Find) => Passing::ByLength,
-        Word::LookUp(LookUp::NGet) => Passing::ByLength,
-        Word::LookUp(LookUp::List) => Passing::ByBytes,
-        Word::LookUp(LookUp::Span) => Passing::ByBytes,
-        Word::LookUp(LookUp::NSpan) => Passing::ByBytes,
-        Word::Change(Change::Del) => Passing::ByLength,
-        Word::Change(Change::NDel) => Passing::ByLength,
-        Word::Change(Change::Put) => Passing::ByBytes,
-        Word::Change(Change::NPut) => Passing::ByBytes,
-        Word::Change(Change::Over) => Passing::ByBytes,
-        Word::Whole(Whole::Dump) => Passing::ByBytes,
-        Word::Whole(Whole::Audit) => Passing::ByBytes,
-        Word::Drop => Passing::ByBytes,
     }
 }
 
@@ -203,7 +167,6 @@ impl Line {
             fields,
             key: ArrayVec::new(),
             of_number: false,
-            passing: Passing::ByBytes,
             node: OpaqueNodePtr::default(),
             depth: 0,
             read: 0,
@@ -231,7 +194,6 @@ impl Line {
             return;
         };
         self.of_number = is_of_number(word);
-        self.passing = passing_of(word);
         let Some(root) = roots.of(self.of_number) else {
             return;
         };
@@ -284,11 +246,11 @@ impl Line {
         ensures one { self.new.read ≤ self.old.read + 1 }
         ensures named { (more : List Name) × (self.new.visited.items ≡ self.old.visited.items ++ more)
             × (reader.new.visited.items ≡ reader.old.visited.items ++ more) }
-        ensures along { IsStepAhead self.old.passing reader.old.arena.now self.old.key.items
+        ensures along { IsStepAhead reader.old.arena.now self.old.key.items
             (self.old.node, self.old.depth) (self.new.node, self.new.depth) }
-        ensures way { (root : Option Name) → IsWayAhead self.old.passing reader.old.arena.now self.old.key.items root
+        ensures way { (root : Option Name) → IsWayAhead reader.old.arena.now self.old.key.items root
             self.old.visited.items self.old.left (self.old.node, self.old.depth)
-            → IsWayAhead self.new.passing reader.new.arena.now self.new.key.items root
+            → IsWayAhead reader.new.arena.now self.new.key.items root
             self.new.visited.items self.new.left (self.new.node, self.new.depth) }
         ensures leaf { IfSome result (λ early. (leaf : LeafNode K (Vec ℕ))
             × (held_at reader.old.arena.now self.old.node ≡ Some (leaf_held leaf))
@@ -315,7 +277,7 @@ impl Line {
                 Some(early_of(self.word, leaf))
             }
             Err(inner) => {
-                match next_of(&inner, self.key.as_slice(), self.depth, self.passing) {
+                match next_of(&inner, self.key.as_slice(), self.depth) {
                     Some(next) => {
                         self.node = next.child;
                         self.depth = next.depth;

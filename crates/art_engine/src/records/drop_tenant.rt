@@ -1,4 +1,7 @@
 //! The drop of a tenant: all of its records are removed.
+//!
+//! A map that is empty then keeps its memory. Giving it back was tried under 16 MiB: a load of another shape then
+//! mostly stored more records, but the same load again fewer, since glibc then asks the system for larger blocks only.
 ghost use Rattle.std.specs.Prelude.{◌≡◌, ◌+◌, ◌-◌, ◌^◌, min};
 ghost use Rattle.art_engine.specs.Dropped.{IsDropDone};
 ghost use Rattle.art_engine.specs.declared.drop_tenant.Dropped.TheVariants.{Gone};

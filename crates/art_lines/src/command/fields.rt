@@ -1,5 +1,6 @@
 //! The fields of a line: a tenant, bytes, and signed numbers, read in place of what was there.
 ghost use Rattle.std.specs.Prelude.{◌≡◌, ◌+◌, ◌/◌, ◌^◌, ◌<◌, ◌≤◌, length, take, drop, IsSome, true, FitsSigned};
+ghost use Rattle.std.specs.Option.{ForSome};
 ghost use Rattle.std.specs.Int.{from_be_bytes, to_be_bytes, w32, w64};
 ghost use Rattle.art_bytes.specs.Laws.{pair_key};
 ghost use Rattle.art_lines.specs.Keys.{full_key as full_key_of};
@@ -28,30 +29,30 @@ pub const NUMBER_KEY: usize = 12;
 /// is read.
 ///
 /// A key stands after the four bytes of its tenant, the highest first, so the full key is there without a copy. So does
-/// a value, since the upper one of two bounds is read in its place.
+/// the upper one of two keys, whose buffer is made when the first one is read: no other line has to clear it.
 #[derive(Drop)]
 pub struct Fields {
     full_key: ArrayVec<u8, FULL_KEY>,
-    value: ArrayVec<u8, FULL_KEY>,
+    upper: Option<ArrayVec<u8, FULL_KEY>>,
+    value: ArrayVec<u8, FIELD>,
     number: i64,
     bound: i64,
     ghost front: { 4 ≤ length full_key.items },
-    ghost same_front: { (4 ≤ length value.items) × (take 4 value.items ≡ take 4 full_key.items) },
+    ghost same_front: { ForSome upper (λ u. (4 ≤ length u.items) × (take 4 u.items ≡ take 4 full_key.items)) },
 }
 
 impl Fields {
-    ghost use Rattle.art_lines.specs.Parsed.{tenant_in_place, key_in_place, value_in_place};
+    ghost use Rattle.art_lines.specs.Parsed.{tenant_in_place, key_in_place, upper_in_place, value_in_place};
     ghost use Rattle.art_lines.specs.Parsed.{number_in_place, bound_in_place};
 
     /// Room for fields. What stands in it does not matter.
     pub fn new() -> Fields {
         let mut full_key = ArrayVec::new();
         let _ = full_key.try_extend_from_slice(&[0; TENANT_LEN]);
-        let mut value = ArrayVec::new();
-        let _ = value.try_extend_from_slice(&[0; TENANT_LEN]);
         Fields {
             full_key,
-            value,
+            upper: None,
+            value: ArrayVec::new(),
             number: 0,
             bound: 0,
         }
@@ -88,15 +89,44 @@ impl Fields {
         ensures value { result.now ≡ value_in_place self.now }
         ensures short { length result.now ≤ 2045 }
     {
-        &self.value.as_slice()[TENANT_LEN..]
+        self.value.as_slice()
     }
 
-    /// Returns the tenant's four bytes, and then the upper bound, which is read as a value.
+    /// Returns the upper one of two keys, or no bytes where none was read yet.
+    ///
+    /// ```
+    /// use art_lines::command::{fields::Fields, read_line};
+    /// let mut fields = Fields::new();
+    /// assert!(rt; read_line(b"span 7 0a 0b0c", &mut fields).is_some());
+    /// assert_eq!(rt; (fields.key(), fields.upper()), ([10].as_slice(), [11, 12].as_slice()));
+    /// ```
     #[inline]
-    pub fn full_bound(&self) -> &[u8]
-        ensures { result.now ≡ full_key_of (tenant_in_place self.now) (value_in_place self.now) }
+    pub fn upper(&self) -> &[u8]
+        ensures value { result.now ≡ upper_in_place self.now }
+        ensures short { length result.now ≤ 2045 }
     {
-        split_of(self.value.as_slice())
+        match &self.upper {
+            Some(upper) => &upper.as_slice()[TENANT_LEN..],
+            None => &[],
+        }
+    }
+
+    /// Returns the tenant's four bytes, and then the upper one of two keys.
+    ///
+    /// ```
+    /// use art_lines::command::{fields::Fields, read_line};
+    /// let mut fields = Fields::new();
+    /// assert!(rt; read_line(b"span 7 0a 0b0c", &mut fields).is_some());
+    /// assert_eq!(rt; fields.full_upper(), [0, 0, 0, 7, 11, 12].as_slice());
+    /// ```
+    #[inline]
+    pub fn full_upper(&self) -> &[u8]
+        ensures { result.now ≡ full_key_of (tenant_in_place self.now) (upper_in_place self.now) }
+    {
+        match &self.upper {
+            Some(upper) => split_of(upper.as_slice()),
+            None => split_of(&self.full_key.as_slice()[..TENANT_LEN]),
+        }
     }
 
     #[inline]
@@ -151,7 +181,9 @@ impl Fields {
         ensures { tenant_in_place self.new ≡ tenant }
     {
         set_front(&mut self.full_key, tenant);
-        set_front(&mut self.value, tenant);
+        if let Some(upper) = &mut self.upper {
+            set_front(upper, tenant);
+        }
     }
 
     /// Sets the number.
@@ -181,7 +213,32 @@ impl Fields {
         ensures key { key_in_place self.new ≡ key_in_place self.old }
         ensures number { number_in_place self.new ≡ number_in_place self.old }
     {
-        decode_bytes(field, &mut self.value, TENANT_LEN)
+        decode_bytes(field, &mut self.value, 0)
+    }
+
+    /// Reads the upper one of two keys, after the tenant that is there. It returns false if the field is read as no
+    /// bytes.
+    ///
+    /// ```
+    /// use art_lines::command::fields::Fields;
+    /// let mut fields = Fields::new();
+    /// assert!(rt; fields.read_upper(b"0b0c"));
+    /// assert_eq!(rt; fields.upper(), [11, 12].as_slice());
+    /// assert!(rt; !fields.read_upper(b"0b0"));
+    /// ```
+    pub fn read_upper(&mut self, field: &[u8]) -> bool
+        requires { length field.now ≤ 4090 }
+        ensures read { IsRead result (upper_in_place self.new) (bytes_in field.now) }
+        ensures tenant { tenant_in_place self.new ≡ tenant_in_place self.old }
+        ensures key { key_in_place self.new ≡ key_in_place self.old }
+    {
+        if let Some(upper) = &mut self.upper {
+            return decode_bytes(field, upper, TENANT_LEN);
+        }
+        let mut upper = room_after(self.full_key.as_slice());
+        let is_read = decode_bytes(field, &mut upper, TENANT_LEN);
+        self.upper = Some(upper);
+        is_read
     }
 
     /// Reads the number. It returns false if the field is read as none.
@@ -221,6 +278,16 @@ fn set_front(bytes: &mut ArrayVec<u8, FULL_KEY>, tenant: u32)
     if let Some(front) = bytes.as_mut_slice().first_chunk_mut() {
         *front = tenant.to_be_bytes();
     }
+}
+
+/// Room for a key after the tenant's bytes that these begin with.
+fn room_after(full: &[u8]) -> ArrayVec<u8, FULL_KEY>
+    requires { 4 ≤ length full.now }
+    ensures { result.items ≡ take 4 full.now }
+{
+    let mut bytes = ArrayVec::new();
+    let _ = bytes.try_extend_from_slice(&full[..TENANT_LEN]);
+    bytes
 }
 
 /// Four bytes of the tenant, the highest first, and eight of the number with its top bit flipped. They ascend by tenant

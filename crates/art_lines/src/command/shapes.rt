@@ -1,10 +1,10 @@
 //! What stands after a word, by its shape: a reader in place for each.
 //!
-//! A prefix is read as a key is, two bounds as a key and a value are. The last field is not looked through for a space,
-//! which is no digit.
+//! A prefix is read as a key is, and so is the lower one of two bounds. The last field is not looked through for a
+//! space, which is no digit.
 ghost use Rattle.std.specs.Prelude.{◌≡◌, ◌+◌, ◌<◌, ◌≤◌, ◌∷◌, [], length, IfSome, IfNone, option_copied};
 ghost use Rattle.art_lines.specs.declared.command.word.Shape.TheVariants.{Key, KeyAndValue, Number, NumberAndValue};
-ghost use Rattle.art_lines.specs.declared.command.word.Shape.TheVariants.{TwoNumbers};
+ghost use Rattle.art_lines.specs.declared.command.word.Shape.TheVariants.{TwoKeys, TwoNumbers};
 ghost use Rattle.art_lines.specs.Commands.{fields_of};
 ghost use Rattle.art_lines.specs.Reading.{fields_in};
 ghost use Rattle.art_lines.specs.InPlace.{fields_after, IsRead};
@@ -28,6 +28,7 @@ pub(crate) fn read_fields(shape: Shape, rest: Option<&[u8]>, fields: &mut Fields
     match shape {
         Shape::Key => read_key(text, fields),
         Shape::KeyAndValue => read_key_and_value(text, fields),
+        Shape::TwoKeys => read_two_keys(text, fields),
         Shape::Number => read_number(text, fields),
         Shape::NumberAndValue => read_number_and_value(text, fields),
         Shape::TwoNumbers => read_two_numbers(text, fields),
@@ -65,6 +66,24 @@ fn read_key_and_value(text: &[u8], fields: &mut Fields) -> bool
         return false;
     }
     fields.read_value(value)
+}
+
+/// Reads a tenant, a key and an upper bound.
+fn read_two_keys(text: &[u8], fields: &mut Fields) -> bool
+    requires { length text.now ≤ 4092 }
+    ensures { IsRead result (fields_in_place TwoKeys fields.new) (fields_in TwoKeys (fields_of text.now)) }
+{
+    let Some((tenant, rest)) = split_tenant(text) else {
+        return false;
+    };
+    let Some((low, high)) = split_once(rest) else {
+        return false;
+    };
+    fields.set_tenant(tenant);
+    if !fields.read_key(low) {
+        return false;
+    }
+    fields.read_upper(high)
 }
 
 /// Reads a tenant and a number.

@@ -61,8 +61,10 @@ pub enum Word {
 pub enum Shape {
     /// A tenant and a key: `get`, `find`, `del`; the prefix of `list` is read as a key.
     Key,
-    /// A tenant, a key and a value: `put`, `over`; the two bounds of `span` are read as a key and a value.
+    /// A tenant, a key and a value: `put`, `over`.
     KeyAndValue,
+    /// A tenant and two keys: the bounds of `span`.
+    TwoKeys,
     /// A tenant and a number: `nget`, `ndel`.
     Number,
     /// A tenant, a number and a value: `nput`.
@@ -88,7 +90,7 @@ pub fn row_of(field: &[u8]) -> Option<(Word, Shape)>
         b"del" => (Word::Change(Change::Del), Shape::Key),
         b"find" => (Word::LookUp(LookUp::Find), Shape::Key),
         b"list" => (Word::LookUp(LookUp::List), Shape::Key),
-        b"span" => (Word::LookUp(LookUp::Span), Shape::KeyAndValue),
+        b"span" => (Word::LookUp(LookUp::Span), Shape::TwoKeys),
         b"nput" => (Word::Change(Change::NPut), Shape::NumberAndValue),
         b"nget" => (Word::LookUp(LookUp::NGet), Shape::Number),
         b"ndel" => (Word::Change(Change::NDel), Shape::Number),

@@ -1,5 +1,7 @@
 //! The inner nodes of a tree that are made anew over its leaves, which stand linked in their arena. It is the walk of a
 //! builder, but the leaves are there already.
+//!
+//! Leaves keep their names and their links. All room is allocated before, so `rebuild` can't fail.
 ghost use Rattle.std.specs.Prelude.{◌≡◌, ◌+◌, ◌-◌, ◌^◌, ◌<◌, ◌≤◌, ℕ, suc, List, [], length, Some, OnOk, IfOk};
 ghost use Rattle.art_bytes.specs.Keys.{IsBefore};
 ghost use Rattle.art_arena.specs.arena.Arena.{KeepsRoomOf, SameNodes, UsesRoom};

@@ -1,5 +1,9 @@
 //! The part of a tree whose keys begin with a prefix is deleted in one cut. It is found, what the cut needs is
 //! allocated, and then it goes.
+//!
+//! `prepare` makes room, and no copy, so `apply` can't fail and `abandon` has nothing to undo. It reserves one node of
+//! the next smaller kind, where one is needed. That room stays after `abandon`: a slab gives back only what lies past
+//! its last node, so room that was there before would go, too.
 ghost use Rattle.std.specs.Prelude.{◌≡◌, ◌≢◌, ◌+◌, ◌-◌, ◌*◌, ◌≤◌, ℕ, List, length};
 ghost use Rattle.std.specs.Prelude.{IfOk, IfSome, IsOk, MatchOption, OnErr, OnOk};
 ghost use Rattle.art_nodes.specs.Name.{Name};

@@ -4,7 +4,7 @@ use Rattle.art_arena.proofs.Terms.{held_at, node_at, path_to, IsAtDepth, IsGuide
 use Rattle.art_arena.proofs.shapes.Guides.{guide_any}
 use Rattle.art_arena.proofs.shapes.Passing.{leaf-stops}
 use Rattle.art_arena.proofs.shapes.Reads.{part_within, some_weaker}
-use Rattle.art_arena.proofs.shapes.Walking.{IsOnWay, way-starts, way-there, way-subtree, on-way-to, way-steps, way-ends, way-lands, reads-leaf, lent-leaf, lent-inner, node-there}
+use Rattle.art_arena.proofs.shapes.Walking.{IsOnWay, way-starts, way-there, way-subtree, on-way-to, way-steps, way-ends, way-lands, agrees-leaf, reads-leaf, lent-leaf, lent-inner, node-there}
 use Rattle.art_arena.proofs.descent.descend.Goals as goal
 use Rattle.art_arena.specs.declared.descent.Passing.TheVariants.{ByBytes}
 use Rattle.art_arena.proofs.shapes.WayEnds.{leaf_cost, way-begins, way-ended, way-on}
@@ -14,7 +14,7 @@ pub down-init : goal.down-init
 down-init g c = record {
   room = omega arith;
   kept = refl;
-  way = λ s tree. (_, rw c.requires.fresh (way-starts g.K.AsBytes.bytes c.args.key.now s c.args.reader.now.count g.row.PREFIX_LEN (node_at c.args.reader.now.arena.now) c.args.root tree _), λ mode. refl);
+  way = λ s tree. (_, rw c.requires.fresh (way-starts g.K.AsBytes.bytes c.args.key.now s c.args.reader.now.count g.row.PREFIX_LEN (node_at c.args.reader.now.arena.now) c.args.root tree _ _), λ mode. refl);
   left = λ mode s tree. way-begins g.K.AsBytes.bytes g.row.PREFIX_LEN (node_at c.args.reader.now.arena.now) c.args.key.now s c.args.reader.now.count c.args.root tree;
   least = omega arith;
   reads = λ s tree longest short. omega arith;
@@ -34,12 +34,19 @@ returns-in-Ok-clause-lands g c = λ mode s tree.
     way-lands g.K.AsBytes.bytes c.args.key.now s c.args.reader.now.count g.row.PREFIX_LEN (node_at c.args.reader.now.arena.now) c.args.root tree
     c.down.current c.down.search c.down.depth way.0 way.1.0 c.in-Ok.leaf.now.key c.in-Ok.leaf.now.value there c.in-Ok.leaf.now refl refl
 
+pub returns-in-Ok-clause-agrees : goal.returns-in-Ok-clause-agrees
+returns-in-Ok-clause-agrees g c = λ mode.
+    let way = c.down.invariant.way c.requires.tree.0 c.requires.tree.1 in
+    let there = lent-leaf c.args.reader.now.arena.now c.down.reader.arena.now c.down.current (held_of c.visit.result) c.in-Ok.leaf.now c.down.invariant.kept c.visit.ensures.value c.in-Ok.ensures in
+    agrees-leaf g.K.AsBytes.bytes c.args.key.now c.requires.tree.0 c.args.reader.now.count g.row.PREFIX_LEN (node_at c.args.reader.now.arena.now) c.args.root c.requires.tree.1
+    c.down.current c.down.search c.down.depth way.0 way.1.0 c.in-Ok.leaf.now.key c.in-Ok.leaf.now.value there c.down.compared (way.1.3 mode).1
+
 pub returns-in-Ok-clause-counts : goal.returns-in-Ok-clause-counts
 returns-in-Ok-clause-counts g c = λ mode s tree.
     let way = c.down.invariant.way s tree in
     let there = lent-leaf c.args.reader.now.arena.now c.down.reader.arena.now c.down.current (held_of c.visit.result) c.in-Ok.leaf.now c.down.invariant.kept c.visit.ensures.value c.in-Ok.ensures in
     c.visit.ensures.counts ∙ ap (λ m. min (m + 1) (2 ^ 64 - 1)) (way.2 mode) ∙ reads-leaf g.K.AsBytes.bytes c.args.key.now s c.args.reader.now.count g.row.PREFIX_LEN (node_at c.args.reader.now.arena.now) c.args.root tree
-    c.down.current c.down.search c.down.depth way.0 way.1.0 c.in-Ok.leaf.now.key c.in-Ok.leaf.now.value there
+    c.down.current c.down.search c.down.depth way.0 way.1.0 c.in-Ok.leaf.now.key c.in-Ok.leaf.now.value there (way.1.3 mode).0
 
 pub returns-in-Ok-clause-way : goal.returns-in-Ok-clause-way
 returns-in-Ok-clause-way g c = λ mode s tree.
@@ -84,9 +91,9 @@ pub returns-in-None-clause-counts : goal.returns-in-None-clause-counts
 returns-in-None-clause-counts g c = λ mode s tree.
     let way = c.down.invariant.way s tree in
     let there = lent-inner c.args.reader.now.arena.now c.down.reader.arena.now c.down.current (held_of c.visit.result) c.in-Err.inner.node c.down.invariant.kept c.visit.ensures.value c.in-Err.ensures.0 in
-    c.in-None.ensures.by_length mode ∙ c.visit.ensures.counts ∙ ap (λ m. min (m + 1) (2 ^ 64 - 1)) (way.2 mode)
+    c.in-None.ensures.by_stored mode ∙ c.visit.ensures.counts ∙ ap (λ m. min (m + 1) (2 ^ 64 - 1)) (way.2 mode)
     ∙ (way-ends g.K.AsBytes.bytes c.args.key.now s c.args.reader.now.count g.row.PREFIX_LEN (node_at c.args.reader.now.arena.now) c.args.root tree
-    c.down.current c.down.search c.down.depth way.0 way.1.0 c.in-Err.inner.node there (c.in-None.ensures.goes mode)).reads
+    c.down.current c.down.search c.down.depth way.0 way.1.0 c.in-Err.inner.node there (c.in-None.ensures.goes mode)).reads (way.1.3 mode).0
 
 pub returns-in-None-clause-way : goal.returns-in-None-clause-way
 returns-in-None-clause-way g c = λ mode s tree.
@@ -152,7 +159,7 @@ pub down-preserved : goal.down-preserved
 down-preserved g c =
     let d = (goal.at.down-preserved g c).In-Err in
     let there = lent-inner c.args.reader.now.arena.now c.down.reader.arena.now c.down.current (held_of c.visit.result) c.in-Err.inner.node c.down.invariant.kept c.visit.ensures.value c.in-Err.ensures.0 in
-    let goes = c.in-Some.ensures.goes in
+    let goes = c.in-Some.ensures.goes.0 in
     record {
       room = goes.within;
       kept = c.in-Some.ensures.kept ∙ c.visit.ensures.kept ∙ c.down.invariant.kept;
@@ -162,10 +169,11 @@ down-preserved g c =
             _,
             rw c.go_down.ensures
                 (way-steps g.K.AsBytes.bytes c.args.key.now s c.args.reader.now.count g.row.PREFIX_LEN (node_at c.args.reader.now.arena.now) c.args.root tree
-                c.down.current c.down.search c.down.depth way.0 way.1.0 c.in-Err.inner.node there _ _ _ c.in-Some.step.byte c.in-Some.step.child c.in-Some.step.depth goes
+                c.down.current c.down.search c.down.depth way.0 way.1.0 c.in-Err.inner.node there _ _ _ _ c.in-Some.step.byte c.in-Some.step.child c.in-Some.step.depth goes
                 (λ mode. (steps.by_bytes mode).goes (way.1.2 mode) (way.1.1 mode))
-                (λ mode. (steps.by_bytes mode).keeps (way.1.2 mode))),
-            λ mode. c.in-Some.ensures.by_length mode ∙ c.visit.ensures.counts ∙ ap (λ m. min (m + 1) (2 ^ 64 - 1)) (way.2 mode),
+                (λ mode. (steps.by_bytes mode).keeps (way.1.2 mode))
+                c.in-Some.ensures.goes.1 c.down.compared c.compared_after-compared.result c.compared_after-compared.ensures way.1.3),
+            λ mode. c.in-Some.ensures.by_stored mode ∙ c.visit.ensures.counts ∙ ap (λ m. min (m + 1) (2 ^ 64 - 1)) (way.2 mode),
           );
       left = λ mode s tree.
           let left = c.down.invariant.left mode s tree in

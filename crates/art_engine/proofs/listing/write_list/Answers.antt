@@ -4,11 +4,11 @@ use Rattle.std.specs.List.{AllByRecursion}
 use Rattle.std.proofs.lemmas.Result.{on_ok_weaker}
 use Rattle.art_arena.proofs.Common.{begins_with}
 use Rattle.art_walks.proofs.Common.{all-filter}
-use Rattle.art_lines.proofs.Common.{Writes, full_key, tenant_in_place, key_in_place}
+use Rattle.art_lines.proofs.Common.{Writes, bytes, full_key, tenant_in_place, key_in_place}
 use Rattle.art_engine.proofs.Terms.{GrewBy, GrewUpTo, span_pairs, own_pair, IsListed, Pair}
 use Rattle.art_engine.proofs.KeyKinds.{pairs_stand, under_keys}
 use Rattle.art_engine.proofs.ListedLines.{are_listed, list_all}
-use Rattle.art_engine.proofs.RecordCounts.{own_pairs, own_left, left_few, left_grew, left_most, list_opens, list_tests}
+use Rattle.art_engine.proofs.RecordCounts.{own_left, left_few, left_grew, left_most, list_opens, list_tests}
 use Rattle.art_engine.proofs.SpanLemmas.{span_left}
 use Rattle.art_engine.proofs.listing.write_list.Goals as goal
 
@@ -26,7 +26,7 @@ returns-clause-output g c = λ ps r.
     let t = tenant_in_place c.args.fields.now in let k = key_in_place c.args.fields.now in
     let left = span_left _ ps _ _ (c.prefix-span.ensures.value ps r.read) ∙ ap (λ q. filter (λ (p : Pair). begins_with q p.0.items) ps) c.full_key.ensures.value in
     let own = ap (map own_pair) left ∙ own_left under_keys t _ _ (list_tests t k c.full_key.ensures.tenant) ps (pairs_stand ps r.are) in
-    subst (λ (text : List ℕ). Writes c.write_pairs.result (g.W.Sink.taken c.args.sink.now) (g.W.Sink.taken c.write_pairs.new.sink) text (g.W.Sink.has_failed c.write_pairs.new.sink)) (list_all _ _ (own_pairs under_keys _ ∙ own)) c.write_pairs.ensures.written
+    subst (λ (text : List ℕ). Writes c.write_pairs.result (g.W.Sink.taken c.args.sink.now) (g.W.Sink.taken c.write_pairs.new.sink) text (g.W.Sink.has_failed c.write_pairs.new.sink)) (list_all own_pair bytes _ _ own) c.write_pairs.ensures.written
 
 pub returns-clause-visits : goal.returns-clause-visits
 returns-clause-visits g c = λ ps r.

@@ -6,12 +6,12 @@ use Rattle.std.specs.BTreeMap.Range.{IsLeBy, range_contains}
 use Rattle.std.proofs.lemmas.Result.{on_ok_weaker}
 use Rattle.art_bytes.proofs.Common.{bytes_cmp, pair_key}
 use Rattle.art_walks.proofs.Common.{all-filter}
-use Rattle.art_lines.proofs.Common.{Writes, tenant_in_place, number_in_place, bound_in_place}
+use Rattle.art_lines.proofs.Common.{Writes, signed, tenant_in_place, number_in_place, bound_in_place}
 use Rattle.art_engine.proofs.Terms.{GrewBy, GrewUpTo, span_pairs, own_number, IsNumbered, NumberPair}
 use Rattle.art_engine.proofs.NumberKeys.{HaveBytes, numbers_in_order}
 use Rattle.art_engine.proofs.KeyKinds.{number_pairs_stand, under_numbers}
-use Rattle.art_engine.proofs.ListedLines.{are_numbered, numbers_all}
-use Rattle.art_engine.proofs.RecordCounts.{own_pairs, own_left, left_few, left_grew, left_most, number_tests, span_opens}
+use Rattle.art_engine.proofs.ListedLines.{are_numbered, list_all}
+use Rattle.art_engine.proofs.RecordCounts.{own_left, left_few, left_grew, left_most, number_tests, span_opens}
 use Rattle.art_engine.proofs.SpanLemmas.{span_left}
 use Rattle.art_engine.proofs.listing.write_numbers_between.Goals as goal
 
@@ -42,7 +42,7 @@ returns-clause-output g c = λ ns r.
     let left = span_left _ ns _ _ (c.range-span.ensures.value ns r.read)
     ∙ ap₂ (λ a b. filter (λ (p : NumberPair). range_contains bytes_cmp (Included a) (Included b) p.0) ns) c.number_key-low.ensures.value c.bound_key-high.ensures.value in
     let own = ap (map own_number) left ∙ own_left under_numbers t _ _ (number_tests t low high fits_low fits_high) ns (number_pairs_stand ns r.are) in
-    subst (λ (text : List ℕ). Writes c.write_pairs.result (g.W.Sink.taken c.args.sink.now) (g.W.Sink.taken c.write_pairs.new.sink) text (g.W.Sink.has_failed c.write_pairs.new.sink)) (numbers_all _ _ (own_pairs under_numbers _ ∙ own)) c.write_pairs.ensures.written
+    subst (λ (text : List ℕ). Writes c.write_pairs.result (g.W.Sink.taken c.args.sink.now) (g.W.Sink.taken c.write_pairs.new.sink) text (g.W.Sink.has_failed c.write_pairs.new.sink)) (list_all own_number signed _ _ own) c.write_pairs.ensures.written
 
 pub returns-clause-visits : goal.returns-clause-visits
 returns-clause-visits g c = λ ns r.

@@ -26,7 +26,8 @@ lines-preserved g c =
             counted = let lines = ap read_of w.lines-is in let reader = ap (λ (r : PathReader g.row.K.Denot g.row.PREFIX_LEN _). count_of r.reader) w.reader-is in let before = i.counted in let step = e.counted in omega arith;
             texts = ap texts_of w.lines-is ∙ texts_kept c.lines.lines c.lines.at w.step.new.self x.result low e.text ∙ i.texts;
             descended = subst (AllZip (IsDescended a c.args.of_number) c.args.lines.now) (sym w.lines-is) (descended_more a c.args.of_number c.args.lines.now c.lines.lines c.lines.at w.step.new.self x.result low i.descended
-                (descended_by a c.lines.reader.arena.now w.step.new.reader.arena.now c.args.of_number _ w.step.new.self i.same_tree.0 e.same_tree.0 e.same_map (let same = get_same c.lines.lines c.lines.at x.result c.index-lines-at.result low in let is = c.index-lines-at.is in let own = c.goes_on.ensures w.if-goes_on.true in cc) e.way));
+                (descended_by a c.lines.reader.arena.now w.step.new.reader.arena.now c.args.of_number _ w.step.new.self i.same_tree.0 e.same_tree.0 e.same_map
+                (let same = get_same c.lines.lines c.lines.at x.result c.index-lines-at.result low in let is = c.index-lines-at.is in let own = c.goes_on.ensures w.if-goes_on.true in cc) e.way));
             same_tree = (ap (λ (r : PathReader g.row.K.Denot g.row.PREFIX_LEN _). r.arena.now) w.reader-is ∙ e.same_tree.0 ∙ i.same_tree.0, ap (λ (r : PathReader g.row.K.Denot g.row.PREFIX_LEN _). r.root) w.reader-is ∙ e.same_tree.1 ∙ i.same_tree.1);
           }
       | then-goes_on+in_default w ↦
@@ -38,7 +39,8 @@ lines-preserved g c =
             counted = let lines = ap read_of w.lines-is in let reader = ap (λ (r : PathReader g.row.K.Denot g.row.PREFIX_LEN _). count_of r.reader) w.reader-is in let before = i.counted in let step = e.counted in omega arith;
             texts = ap texts_of w.lines-is ∙ texts_kept c.lines.lines c.lines.at w.step.new.self x.result low e.text ∙ i.texts;
             descended = subst (AllZip (IsDescended a c.args.of_number) c.args.lines.now) (sym w.lines-is) (descended_more a c.args.of_number c.args.lines.now c.lines.lines c.lines.at w.step.new.self x.result low i.descended
-                (descended_by a c.lines.reader.arena.now w.step.new.reader.arena.now c.args.of_number _ w.step.new.self i.same_tree.0 e.same_tree.0 e.same_map (let same = get_same c.lines.lines c.lines.at x.result c.index-lines-at.result low in let is = c.index-lines-at.is in let own = c.goes_on.ensures w.if-goes_on.true in cc) e.way));
+                (descended_by a c.lines.reader.arena.now w.step.new.reader.arena.now c.args.of_number _ w.step.new.self i.same_tree.0 e.same_tree.0 e.same_map
+                (let same = get_same c.lines.lines c.lines.at x.result c.index-lines-at.result low in let is = c.index-lines-at.is in let own = c.goes_on.ensures w.if-goes_on.true in cc) e.way));
             same_tree = (ap (λ (r : PathReader g.row.K.Denot g.row.PREFIX_LEN _). r.arena.now) w.reader-is ∙ e.same_tree.0 ∙ i.same_tree.0, ap (λ (r : PathReader g.row.K.Denot g.row.PREFIX_LEN _). r.root) w.reader-is ∙ e.same_tree.1 ∙ i.same_tree.1);
           }
       | else-goes_on w ↦ record {

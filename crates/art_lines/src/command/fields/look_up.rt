@@ -1,10 +1,10 @@
 //! The fields of a look-up that was parsed, set in place.
 ghost use Rattle.std.specs.Prelude.{◌≡◌, ◌+◌, ◌≤◌, length, take, drop, true};
 ghost use Rattle.art_lines.specs.Parsed.{is_look_up, looks_up, meaning};
-ghost use Rattle.art_lines.specs.Parsed.{tenant_in_place, key_in_place, value_in_place};
+ghost use Rattle.art_lines.specs.Parsed.{tenant_in_place, key_in_place, upper_in_place};
 ghost use Rattle.art_lines.specs.Parsed.{number_in_place, bound_in_place};
 
-use super::{FIELD, Fields, TENANT_LEN};
+use super::{FIELD, Fields, TENANT_LEN, room_after};
 use crate::command::Command;
 use crate::command::word::LookUp;
 use arrayvec::ArrayVec;
@@ -38,7 +38,7 @@ impl Fields {
             }
             Command::Span { tenant, low, high } => {
                 self.set_tenant_and_key(*tenant, low);
-                self.set_value(high);
+                self.set_upper(high);
                 LookUp::Span
             }
             Command::NGet { tenant, number } => {
@@ -65,13 +65,19 @@ impl Fields {
         set_bytes(&mut self.full_key, key.as_slice());
     }
 
-    /// Sets the value, or the upper one of two bounds.
-    fn set_value(&mut self, value: &ArrayVec<u8, FIELD>)
-        ensures value { value_in_place self.new ≡ value.now.items }
+    /// Sets the upper one of two keys.
+    fn set_upper(&mut self, upper: &ArrayVec<u8, FIELD>)
+        ensures upper { upper_in_place self.new ≡ upper.now.items }
         ensures tenant { tenant_in_place self.new ≡ tenant_in_place self.old }
         ensures key { key_in_place self.new ≡ key_in_place self.old }
     {
-        set_bytes(&mut self.value, value.as_slice());
+        if let Some(held) = &mut self.upper {
+            set_bytes(held, upper.as_slice());
+            return;
+        }
+        let mut bytes = room_after(self.full_key.as_slice());
+        set_bytes(&mut bytes, upper.as_slice());
+        self.upper = Some(bytes);
     }
 }
 

@@ -1,12 +1,12 @@
 use Rattle.std.proofs.Common.{◌+◌, ◌≤◌, ℕ, List, length, drop, map, ap, ap₂, sym, ◌∙◌, subst, Some}
 use Rattle.std.specs.Prelude.{option_map}
 use Rattle.art_arena.proofs.Common.{begins_with}
-use Rattle.art_engine.proofs.Terms.{exactly, path_nodes, Grew, full_key_of, IsListed, Pair, record_of}
+use Rattle.art_engine.proofs.Terms.{exactly, look_up_nodes, Grew, full_key_of, IsListed, Pair, record_of}
 use Rattle.art_lines.proofs.Common.{line_of, pair_words, tenant_in_place, key_in_place}
 use Rattle.art_engine.proofs.Finding.{all_found, front_found}
 use Rattle.art_engine.proofs.ListedLines.{are_listed}
 use Rattle.art_engine.proofs.KeyKinds.{pairs_stand, under_keys}
-use Rattle.art_engine.proofs.RecordCounts.{record_path}
+use Rattle.art_engine.proofs.RecordCounts.{record_look_up}
 use Rattle.art_engine.proofs.lookup.record.prefix_pair_of.Goals as goal
 
 pub key_of-key-requires : goal.key_of-key-requires
@@ -35,10 +35,10 @@ returns-in-None-clause-found g c = λ ps r.
 
 pub returns-in-Some-clause-visits : goal.returns-in-Some-clause-visits
 returns-in-Some-clause-visits g c = λ ps r.
-    subst (λ q. Grew (exactly (path_nodes full_key_of (map record_of ps) q)) c.args.records.now.count c.prefix_get_key_value.new.self.count) c.full_key.ensures.value
-    (record_path under_keys ps (pairs_stand ps r.are) _ _ c.full_key.result.now c.full_key.ensures.short (c.in-Some.ensures.counts ps r.read))
+    subst (λ q. Grew (exactly (look_up_nodes full_key_of g.row.PREFIX_LEN (map record_of ps) q)) c.args.records.now.count c.prefix_get_key_value.new.self.count) c.full_key.ensures.value
+    (record_look_up under_keys ps (pairs_stand ps r.are) _ _ g.row.PREFIX_LEN c.full_key.result.now c.full_key.ensures.short (c.in-Some.ensures.counts ps r.read))
 
 pub returns-in-None-clause-visits : goal.returns-in-None-clause-visits
 returns-in-None-clause-visits g c = λ ps r.
-    subst (λ q. Grew (exactly (path_nodes full_key_of (map record_of ps) q)) c.args.records.now.count c.prefix_get_key_value.new.self.count) c.full_key.ensures.value
-    (record_path under_keys ps (pairs_stand ps r.are) _ _ c.full_key.result.now c.full_key.ensures.short (c.in-None.ensures.counts ps r.read))
+    subst (λ q. Grew (exactly (look_up_nodes full_key_of g.row.PREFIX_LEN (map record_of ps) q)) c.args.records.now.count c.prefix_get_key_value.new.self.count) c.full_key.ensures.value
+    (record_look_up under_keys ps (pairs_stand ps r.are) _ _ g.row.PREFIX_LEN c.full_key.result.now c.full_key.ensures.short (c.in-None.ensures.counts ps r.read))

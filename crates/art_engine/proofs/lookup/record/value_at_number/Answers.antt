@@ -1,10 +1,10 @@
 use Rattle.std.proofs.Common.{ℕ, List, ap, ◌∙◌, subst, Some}
 use Rattle.std.specs.Prelude.{option_map}
-use Rattle.art_walks.proofs.Common.{ReadsPathOf}
+use Rattle.art_walks.specs.MapReads.{ReadsTree, look_up_reads}
 use Rattle.art_lines.proofs.Common.{tenant_in_place, number_in_place}
 use Rattle.art_engine.proofs.Terms.{NumberPair}
 use Rattle.art_engine.proofs.KeyKinds.{number_pairs_stand, under_numbers}
-use Rattle.art_engine.proofs.RecordCounts.{number_path, value_found}
+use Rattle.art_engine.proofs.RecordCounts.{number_look_up, value_found}
 use Rattle.art_engine.proofs.lookup.record.value_at_number.Goals as goal
 
 pub returns-in-Some-clause-value : goal.returns-in-Some-clause-value
@@ -22,11 +22,11 @@ returns-in-None-clause-value g c = λ ns r.
 pub returns-in-Some-clause-visits : goal.returns-in-Some-clause-visits
 returns-in-Some-clause-visits g c = λ ns r.
     let F = c.args.fields.now in
-    number_path (tenant_in_place F) (number_in_place F) ns r.are _ _
-    (subst (λ q. ReadsPathOf (λ (k : List ℕ). k) q ns c.args.numbers.now.count c.get_key_value.new.self.count) c.number_key.ensures.value (c.in-Some.ensures.counts ns r.read))
+    number_look_up g.row.PREFIX_LEN (tenant_in_place F) (number_in_place F) ns r.are _ _
+    (subst (λ q. ReadsTree (λ (k : List ℕ). k) (look_up_reads g.row.PREFIX_LEN q) ns c.args.numbers.now.count c.get_key_value.new.self.count) c.number_key.ensures.value (c.in-Some.ensures.counts ns r.read))
 
 pub returns-in-None-clause-visits : goal.returns-in-None-clause-visits
 returns-in-None-clause-visits g c = λ ns r.
     let F = c.args.fields.now in
-    number_path (tenant_in_place F) (number_in_place F) ns r.are _ _
-    (subst (λ q. ReadsPathOf (λ (k : List ℕ). k) q ns c.args.numbers.now.count c.get_key_value.new.self.count) c.number_key.ensures.value (c.in-None.ensures.counts ns r.read))
+    number_look_up g.row.PREFIX_LEN (tenant_in_place F) (number_in_place F) ns r.are _ _
+    (subst (λ q. ReadsTree (λ (k : List ℕ). k) (look_up_reads g.row.PREFIX_LEN q) ns c.args.numbers.now.count c.get_key_value.new.self.count) c.number_key.ensures.value (c.in-None.ensures.counts ns r.read))

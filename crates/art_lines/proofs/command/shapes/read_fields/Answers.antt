@@ -1,4 +1,4 @@
-use Rattle.art_lines.proofs.Terms.{Key, KeyAndValue, Number, NumberAndValue, TwoNumbers, Tenant, tenant_in_place}
+use Rattle.art_lines.proofs.Terms.{Key, KeyAndValue, Number, NumberAndValue, TwoKeys, TwoNumbers, Tenant, tenant_in_place}
 use Rattle.art_lines.proofs.Shapes.{by_shape, alone_read, nothing_after, something_lacks, too_much}
 use Rattle.art_lines.proofs.command.shapes.read_fields.Goals as goal
 
@@ -13,6 +13,9 @@ returns-in-Key c = by_shape c.args.shape Key _ _ c.args.rest c.in-Some.text c.in
 
 pub returns-in-KeyAndValue : goal.returns-in-KeyAndValue
 returns-in-KeyAndValue c = by_shape c.args.shape KeyAndValue _ _ c.args.rest c.in-Some.text c.in-KeyAndValue.is c.in-Some.is c.read_key_and_value.ensures
+
+pub returns-in-TwoKeys : goal.returns-in-TwoKeys
+returns-in-TwoKeys c = by_shape c.args.shape TwoKeys _ _ c.args.rest c.in-Some.text c.in-TwoKeys.is c.in-Some.is c.read_two_keys.ensures
 
 pub returns-in-Number : goal.returns-in-Number
 returns-in-Number c = by_shape c.args.shape Number _ _ c.args.rest c.in-Some.text c.in-Number.is c.in-Some.is c.read_number.ensures

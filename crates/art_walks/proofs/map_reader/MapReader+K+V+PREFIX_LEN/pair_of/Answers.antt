@@ -1,7 +1,7 @@
 use Rattle.std.proofs.Common.{Some, [], ◌∷◌, ap₂, arith, subst, ◌∙◌}
 use Rattle.art_operations.proofs.Common.{takes_key}
-use Rattle.art_walks.proofs.Terms.{ReadsPairs}
-use Rattle.art_walks.proofs.MapReads.{pair-found, path-read, the-shape, the-stores}
+use Rattle.art_walks.proofs.Terms.{ReadsPairs, look_up_reads}
+use Rattle.art_walks.proofs.MapReads.{pair-found, the-shape, the-stores, tree-read}
 use Rattle.art_walks.proofs.map_reader.MapReader+K+V+PREFIX_LEN.pair_of.Goals as goal
 
 pub search_leaf_with-requires : goal.search_leaf_with-requires
@@ -26,10 +26,12 @@ returns-in-None-search_leaf_with-clause-value g c = rw (← c.self.view_is) (λ 
 
 pub returns-clause-counts : goal.returns-clause-counts
 returns-clause-counts g c = rw (← c.self.view_is) (λ pairs has.
-    path-read g.K.AsBytes.bytes g.row.PREFIX_LEN c.self.inside.reader.arena.now c.in-Some.root pairs
-    (subst (λ r. ReadsPairs g.K.AsBytes.bytes g.row.PREFIX_LEN c.self.inside.reader.arena.now r pairs) c.in-Some.is has) c.args.query.now c.self.inside.reader.count c.search_leaf_with.new.reader.count c.in-Some-search_leaf_with.ensures.counts)
+    let there = subst (λ r. ReadsPairs g.K.AsBytes.bytes g.row.PREFIX_LEN c.self.inside.reader.arena.now r pairs) c.in-Some.is has in
+    tree-read g.K.AsBytes.bytes g.row.PREFIX_LEN c.self.inside.reader.arena.now c.in-Some.root pairs there (look_up_reads g.row.PREFIX_LEN c.args.query.now) c.self.inside.reader.count c.search_leaf_with.new.reader.count
+    (c.in-Some-search_leaf_with.ensures.counts (the-shape g.K.AsBytes.bytes g.row.PREFIX_LEN c.self.inside.reader.arena.now c.in-Some.root pairs there) (the-stores g.K.AsBytes.bytes g.row.PREFIX_LEN c.self.inside.reader.arena.now c.in-Some.root pairs there)))
 
 pub returns-in-None-search_leaf_with-clause-counts : goal.returns-in-None-search_leaf_with-clause-counts
 returns-in-None-search_leaf_with-clause-counts g c = rw (← c.self.view_is) (λ pairs has.
-    path-read g.K.AsBytes.bytes g.row.PREFIX_LEN c.self.inside.reader.arena.now c.in-Some.root pairs
-    (subst (λ r. ReadsPairs g.K.AsBytes.bytes g.row.PREFIX_LEN c.self.inside.reader.arena.now r pairs) c.in-Some.is has) c.args.query.now c.self.inside.reader.count c.search_leaf_with.new.reader.count c.in-None-search_leaf_with.ensures.counts)
+    let there = subst (λ r. ReadsPairs g.K.AsBytes.bytes g.row.PREFIX_LEN c.self.inside.reader.arena.now r pairs) c.in-Some.is has in
+    tree-read g.K.AsBytes.bytes g.row.PREFIX_LEN c.self.inside.reader.arena.now c.in-Some.root pairs there (look_up_reads g.row.PREFIX_LEN c.args.query.now) c.self.inside.reader.count c.search_leaf_with.new.reader.count
+    (c.in-None-search_leaf_with.ensures.counts (the-shape g.K.AsBytes.bytes g.row.PREFIX_LEN c.self.inside.reader.arena.now c.in-Some.root pairs there) (the-stores g.K.AsBytes.bytes g.row.PREFIX_LEN c.self.inside.reader.arena.now c.in-Some.root pairs there)))

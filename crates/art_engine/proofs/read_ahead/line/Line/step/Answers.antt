@@ -1,8 +1,5 @@
-use Rattle.std.proofs.Common.{◌≡◌, ◌<◌, Some, true, drop, ap, subst, ◌∙◌, arith}
-use Rattle.std.specs.List.{starts_with}
-use Rattle.std.specs.Prelude.{nat_eq}
-use Rattle.art_arena.specs.arena.Descents.{GoesOn}
-use Rattle.art_arena.specs.declared.descent.Passing.TheVariants.{ByBytes}
+use Rattle.std.proofs.Common.{◌≡◌, ◌<◌, Some, ap, subst, ◌∙◌, arith}
+use Rattle.art_arena.specs.arena.Descents.{GoesOn, MeetsStored}
 use Rattle.art_engine.proofs.WaysAhead.{visited_once}
 use Rattle.art_engine.proofs.read_ahead.line.Line.step.Goals as goal
 use Rattle.art_engine.proofs.read_ahead.line.Line.step.Goals.{in-Some-next_of, in-None}
@@ -11,7 +8,7 @@ pub returns-in-Ok-clause-way : goal.returns-in-Ok-clause-way
 returns-in-Ok-clause-way g c = λ root way.
     let s = c.args.self.now in
     let low : 0 < s.left = let other = c.if-self-eq0.false in omega arith in
-    visited_once s.passing c.args.reader.now.arena.now s.key.items c.visit.new.self.arena.now root s.visited.items c.then-self.result.items s.left 0 (s.node, s.depth) (s.node, s.depth) _
+    visited_once c.args.reader.now.arena.now s.key.items c.visit.new.self.arena.now root s.visited.items c.then-self.result.items s.left 0 (s.node, s.depth) (s.node, s.depth) _
     c.in-Some.ensures.kept.0 c.then-self.ensures low c.in-Some.ensures.value (λ none. absurd (omega (arith, none))) way
 
 pub returns-after-next_of-clause-way : goal.returns-after-next_of-clause-way
@@ -22,11 +19,13 @@ returns-after-next_of-clause-way g c =
       | in-Some-next_of w ↦
           let n = w.in-Some-next_of in
           let same : c.as_slice.result.now ≡ s.key.items = (let is = c.as_slice.ensures.value in cc) in
+          let goes = subst (λ k. GoesOn k s.depth c.in-Err.inner.node n.next.byte n.next.child n.next.depth) same n.ensures.goes in
+          let meets = subst (λ k. MeetsStored k s.depth c.in-Err.inner.node) same n.ensures.meets in
           rw (w.self-is) (λ root way.
-          visited_once s.passing c.args.reader.now.arena.now s.key.items c.visit.new.self.arena.now root s.visited.items c.then-self.result.items s.left _ (s.node, s.depth) (n.next.child, n.next.depth) _
-          c.in-Some.ensures.kept.0 c.then-self.ensures low c.in-Some.ensures.value (λ more. (c.in-Err.inner.node, n.next.byte, c.in-Some.ensures.value ∙ ap Some c.in-Err.ensures.0, subst (λ k. GoesOn k s.depth c.in-Err.inner.node n.next.byte n.next.child n.next.depth) same n.ensures.goes, subst (λ k. s.passing ≡ ByBytes → starts_with nat_eq (drop s.depth k) c.in-Err.inner.node.header.stored ≡ true) same n.ensures.meets)) way)
+          visited_once c.args.reader.now.arena.now s.key.items c.visit.new.self.arena.now root s.visited.items c.then-self.result.items s.left _ (s.node, s.depth) (n.next.child, n.next.depth) _
+          c.in-Some.ensures.kept.0 c.then-self.ensures low c.in-Some.ensures.value (λ more. (c.in-Err.inner.node, n.next.byte, c.in-Some.ensures.value ∙ ap Some c.in-Err.ensures.0, goes, meets)) way)
       | in-None w ↦ rw (w.self-is) (λ root way.
-          visited_once s.passing c.args.reader.now.arena.now s.key.items c.visit.new.self.arena.now root s.visited.items c.then-self.result.items s.left 0 (s.node, s.depth) (s.node, s.depth) _
+          visited_once c.args.reader.now.arena.now s.key.items c.visit.new.self.arena.now root s.visited.items c.then-self.result.items s.left 0 (s.node, s.depth) (s.node, s.depth) _
           c.in-Some.ensures.kept.0 c.then-self.ensures low c.in-Some.ensures.value (λ none. absurd (omega (arith, none))) way)
     ]
 

@@ -1,7 +1,7 @@
 use Rattle.std.proofs.Common.{length, sym, ◌∙◌, arith}
 use Rattle.std.proofs.lemmas.List.{drop_all}
-use Rattle.art_arena.proofs.Common.{tail}
-use Rattle.art_operations.proofs.lookup.rest_after.Goals as goal
+use Rattle.art_arena.proofs.shapes.Prefixes.{tail}
+use Rattle.art_arena.proofs.front.rest_after.Goals as goal
 
 pub returns-then-depth-bytes : goal.returns-then-depth-bytes
 returns-then-depth-bytes c = tail c.args.depth c.args.bytes.now
