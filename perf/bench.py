@@ -60,6 +60,10 @@ LINES = {"load": 1, "get": 1, "miss": 1, "dump": 2}
 LINE_PEERS = ("btree", "map", "art")
 LINE_TREES = ("art-vec", "art-list")
 LINE_SETS = "dense,rand8,rand16,url,tenants"
+# Of these docs/PERFORMANCE.md shows the cost of some lines beside some peers, and some as a part of a peer's.
+PAGE_SETS = ("dense", "rand8", "url", "tenants")
+PAGE_PEERS = ("btree", "art", "art-vec", "art-list", "here")
+PAGE_PARTS = {"load": ("btree", "art-list"), "miss": ("btree", "art-vec"), "dump": ("btree", "art-vec")}
 # Of lines that do nothing: the word, whether the digits spell a text, how many there are, and what they end with.
 NOTHING = {
     "`get`, 23 bytes, random digits": ("get", False, 16, ""),
@@ -352,11 +356,28 @@ def here(asked):
     return os.path.abspath("crates/art_index/out/art_index")
 
 
+def program_page(least):
+    """The same as the tables of docs/PERFORMANCE.md: `get` lines and bytes, then parts of what the peers take."""
+    rows = [(key_set, size) for key_set, size, it in least if it == "get" and key_set in PAGE_SETS]
+    rows.sort(key=lambda it: (PAGE_SETS.index(it[0]), it[1]))
+    heads = " | ".join(f"{of}: {' | '.join(PAGE_PEERS)}" for of in ("ns", "bytes"))
+    print(f"\n| Keys | Records | {heads} |\n|---|---:|{'---:|' * 2 * len(PAGE_PEERS)}")
+    for row in rows:
+        numbers = [f"{least[(*row, of)][name]:.0f}" for of in ("get", "bytes") for name in PAGE_PEERS]
+        print(f"| {row[0]} | {row[1]} | {' | '.join(numbers)} |")
+    heads = " | ".join(f"{of}: {' | '.join(names)}" for of, names in PAGE_PARTS.items())
+    print(f"\n| Keys | Records | {heads} |\n|---|---:|{'---:|' * sum(map(len, PAGE_PARTS.values()))}")
+    for row in sorted(rows, key=lambda it: it[1]):
+        costs = [(least[(*row, of)], name) for of, names in PAGE_PARTS.items() for name in names]
+        parts = [f"{cost['here'] / cost[name]:.2f}" for cost, name in costs]
+        print(f"| {row[0]} | {row[1]} | {' | '.join(parts)} |")
+
+
 def program(folder, asked):
     """The program beside its peers: nanoseconds of a line, or of a record dumped, and bytes of peak memory a record."""
     programs = {name: f"{folder}/bin/peer_{name}" for name in LINE_PEERS}
     programs |= {name: f"{folder}/{name}/release/lines" for name in LINE_TREES}
-    programs["here"] = here(asked)
+    programs["here"], least = here(asked), {}
     for size in map(int, asked.program.split(",")):
         print(f"\n{size} records, nanoseconds a line (a record of a dump), bytes a record:\n")
         held_to = ("btree", "art", *LINE_TREES)
@@ -370,6 +391,8 @@ def program(folder, asked):
                 shown = [f"{min(costs):.0f}" for costs in row.values()]
                 shown += [held(row["here"], row[peer]) for peer in held_to]
                 print(f"| {key_set} | {it} | {' | '.join(shown)} |", flush=True)
+                least[key_set, size, it] = {name: min(costs) for name, costs in row.items()}
+    program_page(least)
 
 
 def digits(source, is_text, number):

@@ -2,8 +2,8 @@
 """perf/lines.py --perf PERF [--quick] [--sizes N,N] [--repeats N] [--seed N] [--only REGEX] [--growth N]
 [--before PROGRAM] [PROGRAM]: keys as users have them, and shapes that nothing was made for.
 
-Prints a table: nanoseconds of processor time for each line, or for each record that a listing replies. It has the
-program and two peers of PERF, a folder of yardsticks: Rust's B-tree, and libjudy where it is installed. Programs take
+Prints a table: nanoseconds of processor time for each line, or for each record that a listing replies; and at the end
+the ratios to the best peer alone, as docs/PERFORMANCE.md has them. It has the program and two peers of PERF, a folder of yardsticks: Rust's B-tree, and libjudy where it is installed. Programs take
 turns, and the least of the rounds counts. All must reply the same, byte by byte. It needs cargo and a C compiler.
 
 Keys: routes (of a web server), mail (addresses), paths (of some 110 bytes, with deep shared fronts), zipf (eight random
@@ -43,6 +43,12 @@ NUMBERS = ("nums_dense", "nums_random", "nums_time")
 GROWING = ("hashes", "nums_random")
 # What is asked of keys and of numbers.
 ASKED = ("get", "again", "early", "leaf", "list", "span", "long")
+# And what docs/PERFORMANCE.md calls it, and these keys.
+HEADS = ("get", "again", "early miss", "miss at a leaf", "list", "ten", "thousand")
+SHOWN = {"routes": "routes", "mail": "mail addresses", "paths": "paths of 110 bytes", "zipf": "tenants by Zipf's law",
+         "hosts": "hosts, last part first", "dna": "64 bases of DNA", "hashes": "43 digits of base64",
+         "series": "sparse time series", "shared": "beginnings of 200 bytes", "nums_dense": "numbers, dense",
+         "nums_random": "numbers, random", "nums_time": "numbers by time"}  # fmt: skip
 # Of so many keys in a hundred at least a miss of a kind must be made.
 FEW = 10
 BASES = 64
@@ -234,10 +240,19 @@ def drawn(given, keys, size):
     return records(keys, size, of), of
 
 
+def page(parts):
+    """The table of docs/PERFORMANCE.md: what the program takes as a part of what the best peer takes."""
+    for size in dict.fromkeys(size for _, size, _ in parts):
+        print(f"\nOf {size} records:\n\n| Keys | {' | '.join(HEADS)} |\n|---|{'---:|' * len(HEADS)}")
+        for keys, shown in SHOWN.items():
+            print(f"| {shown} | {' | '.join(parts.get((keys, size, it), '') for it in ASKED)} |")
+
+
 def tables(given, bin_, programs):
     ratios = ["to the best peer"] + [f"to {BEFORE}"] * (BEFORE in programs)
     print(f"| Keys, lines | Records | {' | '.join([*programs, *ratios])} |")
     print("|---|" + "---:|" * (len(programs) + 1 + len(ratios)))
+    parts = {}
     for size in map(int, given.sizes.split(",")):
         for keys in KEYS + NUMBERS:
             works = [it for it in ASKED if re.search(given.only, f"{keys} {it}")]
@@ -249,7 +264,9 @@ def tables(given, bin_, programs):
                         continue
                     with written(lines) as file:
                         cells = row(bin_, programs, load, file, count, given.repeats)
+                    parts[keys, size, work] = cells[len(programs)]
                     print(f"| {keys}, {work} | {size} | {' | '.join(cells)} |", flush=True)
+    page(parts)
 
 
 def growth(given, bin_, programs):

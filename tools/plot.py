@@ -1,9 +1,10 @@
 #!/usr/bin/env python3
-"""Draws docs/performance.svg from the tables of docs/PERFORMANCE.md: time a line and bytes a record, beside the peers.
+"""Draws docs/performance.svg from a table of docs/PERFORMANCE.md: time a line and bytes a record, beside the peers.
 
     tools/plot.py           at the top of the repository
     tools/plot.py --check   status 1 where the picture is not the one that it would draw
-The tables stand below the headings of PANELS: a row for each key set and number of records, a column for each program.
+It stands below the heading TABLE: a row for each key set and number of records, and for each of PANELS a column for
+each program, the first of which begins with its name.
 """
 import math
 import os
@@ -11,23 +12,29 @@ import re
 import sys
 
 PAGE, PICTURE = "docs/PERFORMANCE.md", "docs/performance.svg"
-PANELS = (("A `get` line", "a get line, ns"), ("Memory", "peak memory, bytes a record"))
+TABLE = "A `get` line, and memory"
+PANELS = (("ns", "a get line, ns"), ("bytes", "peak memory, bytes a record"))
 KEY_SETS = ("rand8", "url", "tenants")
 COLOURS = {"btree": "#888888", "art": "#c9a227", "art-vec": "#2a9d8f", "art-list": "#7a5195", "here": "#d62828"}
 NAMES = {"btree": "BTreeMap", "art": "art, raw pointers", "here": "art_index"}
 WIDTH, HEIGHT, LEFT, TOP, GAP_X, GAP_Y = 230, 150, 60, 40, 62, 62
 
 
-def table_of(heading):
-    """The numbers below a heading: by key set and program, a list of (records, number)."""
+def table_of(panel):
+    """The programs of the panel's columns, and their numbers: by key set and program, a list of (records, number)."""
     with open(PAGE, encoding="utf-8") as file:
-        part = file.read().split(f"\n### {heading}\n")[1].split("\n#")[0]
+        part = file.read().split(f"\n### {TABLE}\n")[1].split("\n#")[0]
     rows = [[it.strip() for it in line.strip("|").split("|")] for line in part.split("\n") if line.startswith("|")]
-    heads, found = rows[0], {}
+    columns, found, group = {}, {}, ""
+    for at, head in enumerate(rows[0]):
+        name, _, program = head.rpartition(": ")
+        group = name or group
+        if group == panel:
+            columns[program] = at
     for row in rows[2:]:
-        for program, cell in zip(heads[2:], row[2:]):
-            found.setdefault((row[0], program), []).append((int(row[1]), float(cell)))
-    return heads[2:], found
+        for program, at in columns.items():
+            found.setdefault((row[0], program), []).append((int(row[1]), float(row[at])))
+    return [*columns], found
 
 
 def round_up(number):
@@ -69,8 +76,8 @@ def drawn():
     size = f'viewBox="0 0 {width} {height}"'
     yield f'<svg xmlns="http://www.w3.org/2000/svg" {size} font-family="sans-serif" fill="#222">'
     yield f'<rect width="{width}" height="{height}" fill="#ffffff"/>'
-    for row, (heading, title) in enumerate(PANELS):
-        programs, found = table_of(heading)
+    for row, (columns, title) in enumerate(PANELS):
+        programs, found = table_of(columns)
         most = round_up(max(it for k in KEY_SETS for p in programs for _, it in found[k, p]))
         for column, key_set in enumerate(KEY_SETS):
             numbers = {it: found[key_set, it] for it in programs}
