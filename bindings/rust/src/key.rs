@@ -13,6 +13,14 @@ use sealed::Sealed;
 use crate::error::AllocError;
 use std::ffi::{CStr, CString, OsStr, OsString};
 
+/// Adds bytes to others, and makes room for some more.
+#[inline]
+fn push(bytes: &[u8], more: usize, to: &mut Vec<u8>) -> Result<(), AllocError> {
+    to.try_reserve(bytes.len() + more)?;
+    to.extend_from_slice(bytes);
+    Ok(())
+}
+
 pub(crate) mod sealed {
     /// What no other crate can name.
     #[derive(Clone, Copy)]
@@ -95,6 +103,14 @@ pub trait Key {
         // (where the bytes panic as they go, what was done is dropped)
         drop(bytes);
         Ok(done)
+    }
+
+    /// Adds the bytes to others. What was added stays where the bytes panic as they go. This crate's own.
+    #[doc(hidden)]
+    #[inline]
+    fn push_bytes(&self, _: Sealed, to: &mut Vec<u8>) -> Result<(), AllocError> {
+        let bytes = self.to_bytes()?;
+        push(bytes.as_ref(), 0, to)
     }
 
     /// The bytes but for the last one, where that is a zero, all keys of the map end with a zero and have no other, and the

@@ -1,15 +1,17 @@
 //! The map.
+mod append;
 mod bulk;
 mod change;
 mod entry;
 mod extract;
 mod filling;
+mod order;
 mod prefix_entry;
 mod read;
 mod traits;
 mod tried;
 
-pub use bulk::AppendError;
+pub use append::AppendError;
 pub use entry::{Entry, OccupiedEntry, VacantEntry};
 pub use extract::{ExtractIf, TryExtractIf};
 pub(crate) use extract::{Extraction, Goes};

@@ -3,10 +3,12 @@ use crate::Key;
 use crate::error::or_end;
 use crate::map::ArtMap;
 use crate::parted::{key_of, value_of};
+use crate::slab::Slot;
 use crate::view::{Reader, View};
 use crate::walk::{All, Walk, Way};
 use std::fmt;
 use std::iter::FusedIterator;
+use std::vec;
 
 /// The pairs of a map that is consumed, in ascending order, from both ends. `into_iter` makes it.
 ///
@@ -15,6 +17,8 @@ use std::iter::FusedIterator;
 /// assert!(map.into_iter().eq([(1, "a".to_string()), (2, "b".to_string())]));
 /// ```
 pub struct IntoIter<K, V> {
+    /// Where the slots were in order, those that are left, and an empty map.
+    slots: Option<vec::IntoIter<Slot<K, V>>>,
     map: ArtMap<K, V>,
     walk: Walk<All>,
 }
@@ -36,17 +40,32 @@ pub struct IntoKeys<K, V>(pub(crate) IntoIter<K, V>);
 pub struct IntoValues<K, V>(pub(crate) IntoIter<K, V>);
 
 impl<K, V> IntoIter<K, V> {
-    pub(crate) const fn new(map: ArtMap<K, V>) -> Self {
-        IntoIter { map, walk: Walk::new(All) }
+    pub(crate) fn new(map: ArtMap<K, V>) -> Self {
+        let ArtMap { words, slab } = map;
+        let (slots, map) = match slab.into_order() {
+            Ok(slots) => (Some(slots.into_iter()), ArtMap::new()),
+            Err(slab) => (None, ArtMap { words, slab }),
+        };
+        IntoIter { slots, map, walk: Walk::new(All) }
     }
 
+    #[inline]
     fn left(&self) -> usize {
-        self.map.slab.len()
+        self.slots.as_ref().map_or(self.map.slab.len(), vec::IntoIter::len)
     }
 }
 
 impl<K: Key, V> IntoIter<K, V> {
+    #[inline]
     fn step(&mut self, way: Way) -> Option<(K, V)> {
+        if let Some(slots) = &mut self.slots {
+            let slot = if way == Way::Up { slots.next() } else { slots.next_back() };
+            return slot.and_then(Slot::into_pair);
+        }
+        self.walked(way)
+    }
+
+    fn walked(&mut self, way: Way) -> Option<(K, V)> {
         if self.left() == 0 {
             return None;
         }
@@ -61,10 +80,11 @@ impl<K: Key, V> IntoIter<K, V> {
     pub(crate) fn lent(&self) -> impl Iterator<Item = (&K, &V)> {
         let view = View { words: Reader::One(&self.map.words), slab: &self.map.slab };
         let mut walk = self.walk.clone();
-        (0..self.left()).map_while(move |_| {
+        let slots = self.slots.iter().flat_map(|slots| slots.as_slice().iter().filter_map(Slot::pair));
+        slots.chain((0..self.map.slab.len()).map_while(move |_| {
             let index = or_end(walk.next(&view.words, Way::Up, |index| view.slab.pair(index).0))?;
             Some(view.slab.pair(index))
-        })
+        }))
     }
 }
 
@@ -73,6 +93,7 @@ macro_rules! walks {
         impl<K: Key, V> Iterator for $of<K, V> {
             type Item = $item;
 
+            #[inline]
             fn next(&mut $self) -> Option<$item> {
                 let $way = Way::Up;
                 $step

@@ -136,6 +136,32 @@ impl<K, V> Slab<K, V> {
         }
     }
 
+    /// A pair, and one in a slot after its own.
+    fn both(&mut self, index: usize, after: usize) -> [(&mut K, &mut V); 2] {
+        let (to, from) = self.slots.split_at_mut(after);
+        match (to.get_mut(index), from.first_mut()) {
+            (Some(Slot::Full(key, value)), Some(Slot::Full(other, others))) => [(key, value), (other, others)],
+            _ => no_pair(index),
+        }
+    }
+
+    /// Has a pair and one in a slot after its own change their keys.
+    pub(crate) fn swap_keys(&mut self, index: usize, after: usize) {
+        let [one, other] = self.both(index, after);
+        std::mem::swap(one.0, other.0);
+    }
+
+    /// Has a pair and one in a slot after its own change their values.
+    pub(crate) fn swap_values(&mut self, index: usize, after: usize) {
+        let [one, other] = self.both(index, after);
+        std::mem::swap(one.1, other.1);
+    }
+
+    /// The slots, where their keys ascend and none is free; else the slab as it was.
+    pub(crate) fn into_order(self) -> Result<Vec<Slot<K, V>>, Self> {
+        if self.is_in_order { Ok(self.slots) } else { Err(self) }
+    }
+
     /// The index that `push` gives the next pair.
     pub(crate) fn end(&self) -> usize {
         self.slots.len()
@@ -251,6 +277,15 @@ impl<K, V> Slot<K, V> {
     /// The pair of a slot, if it has one.
     #[inline]
     pub(crate) fn pair(&self) -> Option<(&K, &V)> {
+        match self {
+            Slot::Full(key, value) => Some((key, value)),
+            Slot::Free(_) => None,
+        }
+    }
+
+    /// The pair of a slot that goes, if it has one.
+    #[inline]
+    pub(crate) fn into_pair(self) -> Option<(K, V)> {
         match self {
             Slot::Full(key, value) => Some((key, value)),
             Slot::Free(_) => None,

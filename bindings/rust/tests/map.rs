@@ -322,6 +322,63 @@ fn what_is_not_appended_stays() {
     assert!(other.is_empty() && one.values().eq(&[7, 1, 2]));
 }
 
+/// A key with a name that is none of its bytes.
+#[derive(Clone, Copy, Debug)]
+struct Named(u32, char);
+
+impl Key for Named {
+    type Bytes<'a> = [u8; 4];
+
+    fn to_bytes(&self) -> Result<[u8; 4], AllocError> {
+        self.0.to_bytes()
+    }
+}
+
+impl NoPrefixes for Named {}
+
+#[test]
+fn maps_of_all_shapes_are_appended() {
+    fn made(numbers: &[u32], name: char, is_mixed: bool) -> ArtMap<Named, (u32, char)> {
+        let mut map: ArtMap<_, _> = numbers.iter().map(|it| (Named(*it, name), (*it, name))).collect();
+        if is_mixed {
+            // (its slots are not in the order of the keys, and one is free)
+            for it in [1, 2, 0].map(|at| Named(numbers[at * (numbers.len() - 1) / 2], name)) {
+                map.remove(&it);
+                map.insert(it, (it.0, name));
+            }
+            map.insert(Named(7000, name), (7000, name));
+            map.remove(&Named(7000, name));
+        }
+        map
+    }
+    let parts: [fn(u32, u32) -> u32; 4] =
+        [|at, _| at, |at, many| at + many, |at, _| at * 3 + 1, |at, many| at * 5 % many];
+    for (mine, theirs) in [(3, 300), (300, 3), (100, 150), (150, 100), (60, 60), (1, 1)] {
+        for (one, other) in parts.iter().flat_map(|one| parts.iter().map(move |other| (one, other))) {
+            let numbers = |part: &fn(u32, u32) -> u32, many| (0..many).map(|at| part(at, 200)).collect::<Vec<_>>();
+            let (mine, theirs) = (numbers(one, mine), numbers(other, theirs));
+            let mut model: BTreeMap<u32, (char, char)> = mine.iter().map(|it| (*it, ('a', 'a'))).collect();
+            for it in &theirs {
+                model.entry(*it).and_modify(|it| it.1 = 'b').or_insert(('b', 'b'));
+            }
+            for (is_mixed, is_tried) in [(false, false), (false, true), (true, false), (true, true)] {
+                let (mut map, mut rest) = (made(&mine, 'a', is_mixed), made(&theirs, 'b', is_mixed));
+                if is_tried {
+                    assert_eq!(map.try_append(&mut rest), Ok(()));
+                } else {
+                    map.append(&mut rest);
+                }
+                let names = map.iter().map(|(key, value)| (key.0, (key.1, value.1)));
+                assert!(names.eq(model.iter().map(|it| (*it.0, *it.1))) && map.len() == model.len());
+                assert!(map.iter().all(|(key, value)| key.0 == value.0 && map.get(key).is_some()));
+                assert!(rest.is_empty() && rest.iter().next().is_none());
+                rest.insert(Named(1, 'c'), (1, 'c'));
+                assert_eq!((rest.len(), map.remove(&Named(mine[0], 'c')).map(|it| it.0)), (1, Some(mine[0])));
+            }
+        }
+    }
+}
+
 #[test]
 fn one_map_is_read_by_many_threads() {
     let frozen = squares().freeze();

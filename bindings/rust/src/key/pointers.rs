@@ -23,6 +23,11 @@ macro_rules! pointers {
             }
 
             #[inline]
+            fn push_bytes(&self, by: Sealed, to: &mut Vec<u8>) -> Result<(), AllocError> {
+                T::push_bytes(self, by, to)
+            }
+
+            #[inline]
             fn without_end(&self) -> Option<&[u8]> {
                 T::without_end(self)
             }
@@ -65,6 +70,11 @@ impl<B: Key + ToOwned + ?Sized> Key for Cow<'_, B> {
     #[inline]
     fn with_bytes<R>(&self, by: Sealed, call: impl FnOnce(&[u8]) -> R) -> Result<R, AllocError> {
         B::with_bytes(self, by, call)
+    }
+
+    #[inline]
+    fn push_bytes(&self, by: Sealed, to: &mut Vec<u8>) -> Result<(), AllocError> {
+        B::push_bytes(self, by, to)
     }
 
     #[inline]

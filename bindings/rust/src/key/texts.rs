@@ -1,4 +1,5 @@
 //! Texts, and byte strings with an end: a zero byte ends them, and none is in them.
+use super::push;
 use super::sealed::Sealed;
 use crate::error::AllocError;
 use crate::room::{Room, SMALL};
@@ -63,6 +64,17 @@ fn with_end<R>(bytes: &[u8], call: impl FnOnce(&[u8]) -> R) -> Result<R, AllocEr
     }
 }
 
+/// Adds the bytes with an end mark to others.
+#[inline]
+fn push_end(bytes: &[u8], to: &mut Vec<u8>) -> Result<(), AllocError> {
+    if !is_plain(bytes) {
+        return push(put_together(bytes, true)?.bytes(), 0, to);
+    }
+    push(bytes, 1, to)?;
+    to.push(END);
+    Ok(())
+}
+
 /// Bytes that have no room on the stack, where none is to be escaped.
 #[inline]
 fn without_end(bytes: &[u8]) -> Option<&[u8]> {
@@ -83,6 +95,11 @@ impl Key for str {
     #[inline]
     fn with_bytes<R>(&self, _: Sealed, call: impl FnOnce(&[u8]) -> R) -> Result<R, AllocError> {
         with_end(self.as_bytes(), call)
+    }
+
+    #[inline]
+    fn push_bytes(&self, _: Sealed, to: &mut Vec<u8>) -> Result<(), AllocError> {
+        push_end(self.as_bytes(), to)
     }
 
     #[inline]
@@ -107,6 +124,11 @@ impl Key for String {
     #[inline]
     fn with_bytes<R>(&self, _: Sealed, call: impl FnOnce(&[u8]) -> R) -> Result<R, AllocError> {
         with_end(self.as_bytes(), call)
+    }
+
+    #[inline]
+    fn push_bytes(&self, _: Sealed, to: &mut Vec<u8>) -> Result<(), AllocError> {
+        push_end(self.as_bytes(), to)
     }
 
     #[inline]
@@ -196,6 +218,11 @@ impl<T: AsRef<[u8]>> Key for Ended<T> {
     #[inline]
     fn with_bytes<R>(&self, _: Sealed, call: impl FnOnce(&[u8]) -> R) -> Result<R, AllocError> {
         with_end(self.0.as_ref(), call)
+    }
+
+    #[inline]
+    fn push_bytes(&self, _: Sealed, to: &mut Vec<u8>) -> Result<(), AllocError> {
+        push_end(self.0.as_ref(), to)
     }
 
     #[inline]

@@ -1,55 +1,15 @@
 //! Many pairs at once.
+use crate::Key;
 use crate::error::{AllocError, TryInsertError, or_end};
-use crate::ffi::{Put, Stop};
+use crate::ffi::Stop;
 use crate::map::filling::{Filling, Run};
+use crate::map::order::Order;
 use crate::map::{ArtMap, CHANGED, word_of};
-use crate::parted::Parted;
 use crate::room::Room;
 use crate::slab::Slab;
-use crate::view::index_of;
-use crate::walk::{All, Between, Walk, Way};
-use crate::{Key, NoPrefixes};
+use crate::walk::{Between, Limits};
 use std::borrow::Borrow;
-use std::error::Error;
-use std::fmt;
 use std::ops::Bound;
-
-const ALL: Between = Between(Bound::Unbounded, Bound::Unbounded);
-
-/// Why a map was not appended. Both are as they were.
-///
-/// ```
-/// use artmap::{AppendError, ArtMap};
-///
-/// let (mut one, mut other) = (ArtMap::new(), ArtMap::new());
-/// one.try_insert(vec![1], 'a').unwrap();
-/// other.try_insert(vec![1, 2], 'b').unwrap();
-/// assert_eq!(one.try_append(&mut other), Err(AppendError::Prefix));
-/// ```
-#[derive(Clone, Copy, PartialEq, Eq, Debug)]
-pub enum AppendError {
-    /// A key of one begins a key of the other.
-    Prefix,
-    /// There is no memory.
-    Memory,
-}
-
-impl fmt::Display for AppendError {
-    fn fmt(&self, to: &mut fmt::Formatter<'_>) -> fmt::Result {
-        match self {
-            AppendError::Prefix => to.write_str("a key of one map begins a key of the other"),
-            AppendError::Memory => AllocError.fmt(to),
-        }
-    }
-}
-
-impl Error for AppendError {}
-
-impl From<AllocError> for AppendError {
-    fn from(AllocError: AllocError) -> Self {
-        AppendError::Memory
-    }
-}
 
 /// A map whose tree has keys, of which the pairs still lie in another slab.
 struct Parting<K, V> {
@@ -121,73 +81,6 @@ impl<K: Key, V> ArtMap<K, V> {
         Ok(made)
     }
 
-    /// Moves all pairs of another map into this one. Where both have a key, the other's pair takes the place.
-    ///
-    /// ```
-    /// let mut map = artmap::ArtMap::from([(1, 'a'), (2, 'b')]);
-    /// let mut other = artmap::ArtMap::from([(2, 'c'), (3, 'd')]);
-    /// map.append(&mut other);
-    /// assert!(other.is_empty());
-    /// assert!(map.values().eq(&['a', 'c', 'd']));
-    /// ```
-    ///
-    /// # Panics
-    ///
-    /// As [`insert`](Self::insert).
-    pub fn append(&mut self, other: &mut Self)
-    where
-        K: NoPrefixes,
-    {
-        if self.is_empty() {
-            std::mem::swap(self, other);
-        } else if let Err(why) = self.try_extend(std::mem::take(other)) {
-            why.end::<()>();
-        }
-    }
-
-    /// As [`append`](Self::append), of keys of all types. It makes a copy of this map's tree first.
-    ///
-    /// ```
-    /// let mut map = artmap::ArtMap::from([(1, 'a')]);
-    /// assert_eq!(map.try_append(&mut artmap::ArtMap::from([(2, 'b')])), Ok(()));
-    /// assert_eq!(map.len(), 2);
-    /// ```
-    ///
-    /// # Errors
-    ///
-    /// Where a key of one begins a key of the other, or memory lacks. Both maps are as they were.
-    pub fn try_append(&mut self, other: &mut Self) -> Result<(), AppendError> {
-        if self.is_empty() {
-            std::mem::swap(self, other);
-            return Ok(());
-        }
-        let mut words = self.words.try_clone()?;
-        let (mut gone, mut moved) = (Vec::new(), Vec::new());
-        moved.try_reserve_exact(other.len()).map_err(AllocError::from)?;
-        let (mut walk, theirs) = (Walk::new(All), &other.slab);
-        while let Some(index) = walk.next_sure(&other.words, Way::Up, |index| theirs.pair(index).0)? {
-            let word = word_of(self.slab.end() + moved.len());
-            match words.put(theirs.pair(index).0.to_bytes()?.as_ref(), word)? {
-                Put::New => {}
-                Put::Replaced(old) => {
-                    gone.try_reserve(1).map_err(AllocError::from)?;
-                    gone.push(index_of(old));
-                }
-                Put::Conflict => return Err(AppendError::Prefix),
-            }
-            moved.push(index);
-        }
-        self.slab.reserve_at_end(moved.len())?;
-        self.words = words;
-        let mut other = std::mem::take(other);
-        for index in moved {
-            let (key, value) = other.slab.take(index);
-            self.slab.push(key, value);
-        }
-        Parted { slab: &mut self.slab, indexes: gone.into_iter() }.free();
-        Ok(())
-    }
-
     /// Moves the pairs from a key on into a map of their own.
     ///
     /// ```
@@ -219,7 +112,8 @@ impl<K: Key, V> ArtMap<K, V> {
     {
         // (the same bytes both times)
         let from = Room::of(key.to_bytes()?.as_ref())?;
-        let parting = self.parting(&Between(Bound::Included(from.try_clone()?), Bound::Unbounded))?;
+        let limits = Between(Bound::Included(from.try_clone()?), Bound::Unbounded);
+        let parting = self.parting(Order::within(limits))?;
         self.words.cut_off(from.bytes())?;
         let made = parting.end(&mut self.slab);
         self.settle();
@@ -236,7 +130,7 @@ impl<K: Key, V> ArtMap<K, V> {
     /// assert_eq!(map.len(), 10);
     /// ```
     pub fn shrink_to_fit(&mut self) {
-        if let Ok(parting) = self.parting(&ALL) {
+        if let Ok(parting) = self.parting(Order::of(self)) {
             *self = parting.end(&mut self.slab);
         } else {
             self.words.shrink();
@@ -270,7 +164,7 @@ impl<K: Key, V> ArtMap<K, V> {
         if self.slab.is_tight() {
             return self.words.compact();
         }
-        let mut parting = self.parting(&ALL)?;
+        let mut parting = self.parting(Order::of(self))?;
         parting.made.words.compact()?;
         *self = parting.end(&mut self.slab);
         Ok(())
@@ -281,7 +175,7 @@ impl<K: Key, V> ArtMap<K, V> {
         if self.slab.in_order().is_some() {
             return;
         }
-        if let Ok(parting) = self.parting(&ALL) {
+        if let Ok(parting) = self.parting(Order::of(self)) {
             *self = parting.end(&mut self.slab);
         }
     }
@@ -292,15 +186,14 @@ impl<K: Key, V> ArtMap<K, V> {
         K: Clone,
         V: Clone,
     {
-        Ok(self.parting(&ALL)?.copied(&self.slab))
+        Ok(self.parting(Order::of(self))?.copied(&self.slab))
     }
 
-    /// Makes a tree of the keys between two bounds, and room for their pairs.
-    fn parting(&self, limits: &Between) -> Result<Parting<K, V>, AllocError> {
+    /// Makes a tree of some keys, and room for their pairs.
+    fn parting<L: Limits>(&self, mut order: Order<L>) -> Result<Parting<K, V>, AllocError> {
         let (mut made, mut run, mut indexes) = (Self::new(), Run::new(), Vec::new());
-        let (mut walk, slab) = (Walk::new(limits), &self.slab);
-        while let Some(index) = walk.next_sure(&self.words, Way::Up, |index| slab.pair(index).0)? {
-            run.tell(slab.pair(index).0.to_bytes()?.as_ref())?;
+        while let Some(index) = order.next(self)? {
+            run.tell(self.slab.pair(index).0)?;
             run.push(word_of(indexes.len()));
             indexes.try_reserve(1)?;
             indexes.push(index);

@@ -40,14 +40,18 @@ impl Run {
         self.pairs.len() == PAIRS || self.end >= BYTES
     }
 
-    /// Copies the bytes of the next key, and makes room for its word.
+    /// Has the next key tell its bytes, and makes room for its word.
     #[inline]
-    pub(super) fn tell(&mut self, key: &[u8]) -> Result<(), AllocError> {
-        self.bytes.truncate(self.end);
-        self.bytes.try_reserve(key.len())?;
+    pub(super) fn tell<K: Key>(&mut self, key: &K) -> Result<(), AllocError> {
         self.pairs.try_reserve(1)?;
-        self.bytes.extend_from_slice(key);
-        Ok(())
+        self.bytes.truncate(self.end);
+        key.push_bytes(Sealed, &mut self.bytes)
+    }
+
+    /// The bytes that were told last.
+    #[inline]
+    fn told(&self) -> &[u8] {
+        self.bytes.get(self.end..).unwrap_or_default()
     }
 
     /// Takes the key that was told on, with its word.
@@ -60,7 +64,7 @@ impl Run {
     #[inline]
     fn last(&self) -> Option<&[u8]> {
         let len = self.pairs.last()?.key_len;
-        Some(&self.bytes[self.end - len..self.end])
+        self.bytes.get(self.end.wrapping_sub(len)..self.end)
     }
 
     /// Puts all into a tree, up to the first that is refused. Tells how many went in, and why not all did, if so. All are
@@ -116,6 +120,12 @@ impl Place {
     /// Where a key stands that comes to the greatest one.
     #[inline]
     fn after(greatest: &[u8], key: &[u8]) -> Place {
+        let place = |one, other| if one < other { Place::AtEnd } else { Place::Elsewhere };
+        if let (Some(one), Some(other)) = (greatest.first_chunk(), key.first_chunk()) {
+            if one != other {
+                return place(u64::from_be_bytes(*one), u64::from_be_bytes(*other));
+            }
+        }
         let len = greatest.len().min(key.len());
         let mut at = 0;
         while at < len {
@@ -123,7 +133,7 @@ impl Place {
             let from = at.min(len.saturating_sub(8));
             let (one, other) = (eight(&greatest[from..len]), eight(&key[from..len]));
             if one != other {
-                return if one < other { Place::AtEnd } else { Place::Elsewhere };
+                return place(one, other);
             }
             at += 8;
         }
@@ -151,29 +161,6 @@ impl<'a, K: Key, V> Filling<'a, K, V> {
         Ok(())
     }
 
-    #[inline]
-    fn place(&self, key: &[u8]) -> Place {
-        let greatest = match self.run.last() {
-            Some(last) => last,
-            None if self.map.slab.len() == 0 => return Place::AtEnd,
-            None => &self.greatest,
-        };
-        Place::after(greatest, key)
-    }
-
-    /// Takes a pair on, or stores it. What it would stand in the place of is dropped.
-    #[inline]
-    fn push(&mut self, key: K, value: V) -> Result<(), TryInsertError<K, V>> {
-        match self.wait(&key) {
-            Ok(Place::AtEnd) => {
-                let index = self.map.slab.fill_at_end(key, value);
-                self.run.push(word_of(index));
-                Ok(())
-            }
-            place => self.store(place, key, value),
-        }
-    }
-
     /// Stores a pair that doesn't wait.
     #[inline(never)]
     fn store(&mut self, place: Result<Place, AllocError>, key: K, value: V) -> Result<(), TryInsertError<K, V>> {
@@ -185,20 +172,23 @@ impl<'a, K: Key, V> Filling<'a, K, V> {
         }
     }
 
-    /// Has the bytes of a key wait that stands after all others, with room for its pair.
+    /// Has a key tell its bytes, which may wait where it stands after all others. Then there is room for its pair.
     #[inline]
     fn wait(&mut self, key: &K) -> Result<Place, AllocError> {
-        if self.run.pairs.is_empty() {
-            self.know()?;
+        self.run.tell(key)?;
+        self.map.slab.next_index()?;
+        match self.run.last() {
+            Some(last) => Ok(Place::after(last, self.run.told())),
+            None => self.first_place(),
         }
-        key.with_bytes(Sealed, |bytes| {
-            let place = self.place(bytes);
-            if let Place::AtEnd = place {
-                self.map.slab.next_index()?;
-                self.run.tell(bytes)?;
-            }
-            Ok(place)
-        })?
+    }
+
+    /// Where the key stands that was told, while no pair waits.
+    #[inline(never)]
+    fn first_place(&mut self) -> Result<Place, AllocError> {
+        self.know()?;
+        let is_empty = self.map.slab.len() == 0;
+        Ok(if is_empty { Place::AtEnd } else { Place::after(&self.greatest, self.run.told()) })
     }
 
     /// Puts what waits into the tree. Tells why not all went in, and what was refused.
@@ -239,13 +229,20 @@ impl<'a, K: Key, V> Filling<'a, K, V> {
         }
     }
 
+    /// Takes pairs on, or stores them. What they stand in the place of is dropped.
     pub(super) fn fill(mut self, pairs: impl IntoIterator<Item = (K, V)>) -> Result<(), TryInsertError<K, V>> {
         let pairs = pairs.into_iter();
         self.run.reserve(pairs.size_hint().0);
         for (key, value) in pairs {
-            self.push(key, value)?;
-            if self.run.is_full() {
-                self.flush()?;
+            match self.wait(&key) {
+                Ok(Place::AtEnd) => {
+                    let index = self.map.slab.fill_at_end(key, value);
+                    self.run.push(word_of(index));
+                    if self.run.is_full() {
+                        self.flush()?;
+                    }
+                }
+                place => self.store(place, key, value)?,
             }
         }
         self.flush()
