@@ -66,6 +66,25 @@ impl<'a, K: Key, V, L: Limits> Pairs<'a, K, V, L> {
     }
 }
 
+impl<'a, K: Key, V, L: Limits> Pairs<'a, K, V, L> {
+    /// Has a call take the pairs that are left, so many at most.
+    fn fold<B>(mut self, mut most: usize, mut all: B, mut call: impl FnMut(B, (&'a K, &'a V)) -> B) -> B {
+        if let Some(slots) = self.slots {
+            return slots.filter_map(Slot::pair).take(most).fold(all, call);
+        }
+        while most > 0 {
+            let Some(pair) = self.step(Way::Up) else { break };
+            all = call(all, pair);
+            most -= 1;
+            let words = self.walk.told();
+            let words = &words[..words.len().min(most)];
+            most -= words.len();
+            all = self.view.slab.fold(words, all, &mut call);
+        }
+        all
+    }
+}
+
 /// The pairs of a map in ascending order, from both ends. [`ArtMap::iter`](crate::ArtMap::iter) makes it.
 ///
 /// ```
@@ -185,18 +204,26 @@ impl<'a, K: Key, V> IterBytes<'a, K, V> {
     }
 }
 
-impl<K, V> Iter<'_, K, V> {
+impl<'a, K: Key, V> Iter<'a, K, V> {
     fn left(&self) -> usize {
         self.left
     }
+
+    fn fold_pairs<B>(self, all: B, call: impl FnMut(B, (&'a K, &'a V)) -> B) -> B {
+        self.pairs.fold(self.left, all, call)
+    }
 }
 
-/// How many are left of a walk over a whole map.
+/// How many are left of a walk over a whole map, and a call that takes them.
 macro_rules! left {
     ($($of:ident)*) => {$(
-        impl<K, V> $of<'_, K, V> {
+        impl<'a, K: Key, V> $of<'a, K, V> {
             fn left(&self) -> usize {
                 self.0.left
+            }
+
+            fn fold_pairs<B>(self, all: B, call: impl FnMut(B, (&'a K, &'a V)) -> B) -> B {
+                self.0.fold_pairs(all, call)
             }
         }
     )*};
@@ -205,7 +232,7 @@ macro_rules! left {
 left! { Keys Values IterBytes }
 
 macro_rules! walks {
-    ($($of:ident, $item:ty;)*) => {$(
+    ($($of:ident, $item:ty, $pair:ident, $made:expr;)*) => {$(
         impl<'a, K: Key, V> Iterator for $of<'a, K, V> {
             type Item = $item;
 
@@ -225,6 +252,10 @@ macro_rules! walks {
             fn last(mut self) -> Option<$item> {
                 self.step(Way::Down)
             }
+
+            fn fold<B, F: FnMut(B, $item) -> B>(self, all: B, mut call: F) -> B {
+                self.fold_pairs(all, |all, $pair| call(all, $made))
+            }
         }
 
         impl<K: Key, V> DoubleEndedIterator for $of<'_, K, V> {
@@ -241,10 +272,10 @@ macro_rules! walks {
 }
 
 walks! {
-    Iter, (&'a K, &'a V);
-    Keys, &'a K;
-    Values, &'a V;
-    IterBytes, (K::Bytes<'a>, &'a V);
+    Iter, (&'a K, &'a V), pair, pair;
+    Keys, &'a K, pair, pair.0;
+    Values, &'a V, pair, pair.1;
+    IterBytes, (K::Bytes<'a>, &'a V), pair, (or_end(pair.0.to_bytes()), pair.1);
 }
 
 macro_rules! spans {
@@ -263,6 +294,10 @@ macro_rules! spans {
 
             fn last(mut self) -> Option<(&'a K, &'a V)> {
                 self.step(Way::Down)
+            }
+
+            fn fold<B, F: FnMut(B, (&'a K, &'a V)) -> B>(self, all: B, call: F) -> B {
+                self.0.fold(usize::MAX, all, call)
             }
         }
 

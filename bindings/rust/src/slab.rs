@@ -2,7 +2,7 @@
 use crate::error::AllocError;
 use crate::ffi::ask_for;
 use crate::view::index_of;
-use crate::walk::Way;
+use crate::walk::{AHEAD, Way};
 
 /// No slot is free.
 const NONE: usize = usize::MAX;
@@ -198,6 +198,17 @@ impl<K, V> Slab<K, V> {
         for word in words {
             ask_for(&self.slots, index_of(*word));
         }
+    }
+
+    /// Has a call take the pairs of these words, whose slots come nearer ahead of it.
+    #[inline]
+    pub(crate) fn fold<'a, B>(&'a self, words: &[u64], all: B, mut call: impl FnMut(B, (&'a K, &'a V)) -> B) -> B {
+        let (first, last) = words.split_at(words.len().saturating_sub(AHEAD));
+        let all = first.iter().zip(&words[words.len() - first.len()..]).fold(all, |all, (word, soon)| {
+            ask_for(&self.slots, index_of(*soon));
+            call(all, self.pair(index_of(*word)))
+        });
+        last.iter().fold(all, |all, word| call(all, self.pair(index_of(*word))))
     }
 
     #[inline]

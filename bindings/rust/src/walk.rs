@@ -17,7 +17,7 @@ const TIMES: usize = 2;
 const MOST: usize = 1024;
 
 /// How many words ahead slots are asked for: by then they have come from memory.
-const AHEAD: usize = 8;
+pub(crate) const AHEAD: usize = 8;
 
 /// Which way a walk goes.
 #[derive(Clone, Copy, PartialEq, Eq, Debug)]
@@ -232,6 +232,26 @@ impl<L: Limits> Walk<L> {
     #[inline]
     pub(crate) fn soon(&self, way: Way) -> &[u64] {
         if way == Way::Up { self.front.batch.soon() } else { self.back.batch.soon() }
+    }
+
+    /// The words that were told and that the front has not given yet: it gives them all. None, where others are to be told
+    /// first, or at the end of the walk.
+    pub(crate) fn told(&mut self) -> &[u64] {
+        if self.is_done {
+            return &[];
+        }
+        let End { batch, last, .. } = &mut self.front;
+        let (from, mut until) = (batch.given, batch.count);
+        if let (false, Some(met)) = (L::ARE_COUNTED, self.back.last) {
+            if let Some(at) = batch.places_told()[from..until].iter().position(|word| *word == met) {
+                until = from + at;
+                self.is_done = true;
+            }
+        }
+        batch.given = until;
+        let words = &batch.places_told()[from..until];
+        *last = words.last().copied().or(*last);
+        words
     }
 
     /// As `next`, and it is sure that the walk goes on after the pair that this end gave last: so no pair is met twice.

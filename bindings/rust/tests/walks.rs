@@ -1,5 +1,5 @@
 //! Ranges with all kinds of bounds, so many steps from one end and then from the other, beside those of a `BTreeMap`.
-use artmap::{ArtMap, NoPrefixes};
+use artmap::{ArtMap, ArtSet, NoPrefixes};
 use std::collections::BTreeMap;
 use std::fmt::Debug;
 use std::ops::Bound::{self, Excluded, Included, Unbounded};
@@ -14,6 +14,13 @@ fn is_range<K: Ord>(from: Bound<&K>, to: Bound<&K>) -> bool {
         (Included(from) | Excluded(from), Included(to) | Excluded(to)) => from <= to,
         _ => true,
     }
+}
+
+/// What is left of a walk, by the call that takes it to its end.
+fn at_once<T>(walk: impl Iterator<Item = T>) -> Vec<T> {
+    let mut all = Vec::new();
+    walk.for_each(|it| all.push(it));
+    all
 }
 
 fn ranges_are_as_in_std<K: Ord + Clone + Debug + NoPrefixes>(key_of: impl Fn(usize) -> K) {
@@ -34,12 +41,14 @@ fn ranges_are_as_in_std<K: Ord + Clone + Debug + NoPrefixes>(key_of: impl Fn(usi
                 assert_eq!(one.next(), other.next(), "{from:?} {to:?} {steps}");
             }
             assert_eq!(one.next_back(), other.next_back(), "{from:?} {to:?} {steps}");
+            assert_eq!(at_once(one.clone()), at_once(other.clone()), "{from:?} {to:?} {steps}");
             assert!(one.eq(other), "{from:?} {to:?} {steps}");
             let (mut one, mut other) = (map.range::<K, _>((from, to)), peer.range::<K, _>((from, to)));
             for _ in 0..steps {
                 assert_eq!(one.next_back(), other.next_back(), "{from:?} {to:?} {steps}");
             }
             assert_eq!(one.next(), other.next(), "{from:?} {to:?} {steps}");
+            assert_eq!(at_once(one.clone()), at_once(other.clone()), "{from:?} {to:?} {steps}");
             assert!(one.rev().eq(other.rev()), "{from:?} {to:?} {steps}");
         }
         assert!(map.range_mut::<K, _>((from, to)).eq(peer.range_mut::<K, _>((from, to))), "{from:?} {to:?}");
@@ -111,4 +120,34 @@ fn a_walk_goes_on_where_pairs_went() {
     walks_go_on(|it| it);
     walks_go_on(|it| it.to_string());
     walks_go_on(|it| format!("{}{it}", "long".repeat(50)));
+}
+
+#[test]
+fn walks_over_all_go_to_their_end_at_once() {
+    for size in [0, 1, 9, 10, 11, 50, 3000] {
+        let numbers: Vec<u32> = (0..size).map(|at| at * 7919 % size.max(1)).collect();
+        let mut map = ArtMap::new();
+        assert!(numbers.iter().all(|it| map.insert(*it, it * 2).is_none()));
+        let peer: BTreeMap<u32, u32> = numbers.iter().map(|it| (*it, it * 2)).collect();
+        let set: ArtSet<u32> = numbers.iter().copied().collect();
+        for (front, back) in STEPS.iter().flat_map(|front| STEPS.map(|back| (*front, back))) {
+            let (mut one, mut other) = (map.iter(), peer.iter());
+            for (steps, is_up) in [(front, true), (back, false), (front / 2, true)] {
+                for _ in 0..steps {
+                    let both = if is_up { (one.next(), other.next()) } else { (one.next_back(), other.next_back()) };
+                    assert_eq!(both.0, both.1);
+                }
+            }
+            assert_eq!(at_once(one.clone()), at_once(other.clone()), "{size} {front} {back}");
+            assert!(one.eq(other), "{size} {front} {back}");
+        }
+        assert_eq!(at_once(map.keys()), at_once(peer.keys()));
+        assert_eq!(at_once(map.values()), at_once(peer.values()));
+        assert_eq!(at_once(map.prefix(&[])), at_once(peer.iter()));
+        let bytes = peer.iter().map(|(key, value)| (key.to_be_bytes(), value));
+        assert_eq!(at_once(map.iter_bytes()), at_once(bytes));
+        assert_eq!(at_once(set.iter()), at_once(peer.keys()));
+        assert_eq!(at_once(set.range(3..)), at_once(peer.range(3..).map(|it| it.0)));
+        assert_eq!(at_once(set.into_iter()), at_once(peer.into_keys()));
+    }
 }

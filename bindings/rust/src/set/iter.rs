@@ -84,6 +84,10 @@ macro_rules! walks {
             fn last(self) -> Option<$item> {
                 self.0.last().map(|$it| $key)
             }
+
+            fn fold<B, F: FnMut(B, $item) -> B>(self, all: B, mut call: F) -> B {
+                self.0.fold(all, |all, $it| call(all, $key))
+            }
         }
 
         impl<$($of)* K: Key> DoubleEndedIterator for $walk {
