@@ -186,21 +186,37 @@ int store_first(Art *map, const artmap_span *span, PyObject **key, PyObject **va
     return found;
 }
 
-/* Takes the first or the last pair out: 1, or 0 where there is none, or -1 with the exception set. */
+/* The first key, or the last, in `room`, which grows. Returns as store_first does. */
+static int end_key(Store *store, bool is_last, uint8_t **room, uint8_t *few, size_t *len) {
+    size_t size = FEW;
+    for (;;) {
+        switch ((is_last ? artmap_words_last : artmap_words_first)(&store->tree, *room, size, len, NULL)) {
+        case ARTMAP_DONE: return 1;
+        case ARTMAP_NO_ROOM:
+            size = *len;
+            if (!(*room = larger(*room, few, size))) return *room = few, -1;
+            break;
+        default: return 0;
+        }
+    }
+}
+
+/* Takes the first or the last pair out: 1, or 0 where there is none, or -1 with the exception set. Its key is made before,
+ * which runs no code of Python's: so it is the key of the pair that goes. */
 int store_take_end(Art *map, bool is_last, PyObject **key, PyObject **value) {
     uint8_t few[FEW], *room = few;
-    artmap_words_pair pair;
-    artmap_span span = {is_last, ARTMAP_FROM_END, ARTMAP_TO_END, NULL, 0, NULL, 0};
+    uint64_t word;
+    size_t len;
     int found;
     bool is_refused = false;
     *key = NULL;
     ALONE(map)
-    found = first_key(&map->store, &span, &room, few, &pair);
-    if (found > 0 && !(*key = key_object(map->codec, room, pair.key_len))) found = -1;
+    found = end_key(&map->store, is_last, &room, few, &len);
+    if (found > 0 && !(*key = key_object(map->codec, room, len))) found = -1;
     if (found > 0) {
-        is_refused = artmap_words_remove(&map->store.tree, room, pair.key_len, NULL) != ARTMAP_DONE;
+        is_refused = artmap_words_pop(&map->store.tree, is_last, &word) != ARTMAP_DONE;
         if (!is_refused) {
-            *value = taken_out(&map->store, pair.word);
+            *value = taken_out(&map->store, word);
             map->changes++;
         }
         tidy(&map->store);
