@@ -8,6 +8,7 @@ mod filling;
 mod order;
 mod prefix_entry;
 mod read;
+mod sorted;
 mod traits;
 mod tried;
 

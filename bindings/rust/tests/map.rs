@@ -380,6 +380,31 @@ fn maps_of_all_shapes_are_appended() {
 }
 
 #[test]
+fn pairs_in_no_order_are_collected() {
+    for size in [2u32, 3, 50, 700, 9000] {
+        for many in [1, size / 2 + 1, 3 * size] {
+            let number = |at: u32| at * 7919 % many;
+            let letter = |at: u32| if at % 2 == 0 { 'a' } else { 'b' };
+            let map: ArtMap<_, _> = (0..size).map(|at| (Named(number(at), letter(at)), at)).collect();
+            let mut model = BTreeMap::new();
+            for at in 0..size {
+                model.entry(number(at)).and_modify(|it: &mut (char, u32)| it.1 = at).or_insert((letter(at), at));
+            }
+            let told = map.iter().map(|(key, value)| (key.0, (key.1, *value)));
+            assert!(told.eq(model.iter().map(|it| (*it.0, *it.1))), "{size} {many}");
+            assert!(model.keys().all(|it| map.contains_key(&Named(*it, 'c'))) && map.len() == model.len());
+        }
+    }
+    // (texts of all lengths, of which many begin others)
+    let ends = [0, 1, 2, 3, 4, 6, 9, 13];
+    let texts = || (0..3000).map(|at: usize| "ab\0\x01\u{ff}zzzzzzz"[..ends[at % 8]].repeat(at % 5));
+    let map: ArtMap<String, usize> = texts().zip(0..).collect();
+    assert!(map.iter().eq(&texts().zip(0..).collect::<BTreeMap<_, _>>()));
+    let set: ArtSet<Ended<String>> = texts().map(Ended).collect();
+    assert!(set.iter().map(|it| &it.0).eq(map.keys()));
+}
+
+#[test]
 fn one_map_is_read_by_many_threads() {
     let frozen = squares().freeze();
     let readers: Vec<_> = (0..8)

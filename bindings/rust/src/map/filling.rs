@@ -48,6 +48,16 @@ impl Run {
         key.push_bytes(Sealed, &mut self.bytes)
     }
 
+    /// Takes the bytes of the next key, and makes room for its word.
+    #[inline]
+    pub(super) fn add(&mut self, key: &[u8]) -> Result<(), AllocError> {
+        self.pairs.try_reserve(1)?;
+        self.bytes.truncate(self.end);
+        self.bytes.try_reserve(key.len())?;
+        self.bytes.extend_from_slice(key);
+        Ok(())
+    }
+
     /// The bytes that were told last.
     #[inline]
     fn told(&self) -> &[u8] {
@@ -96,6 +106,9 @@ pub(super) struct Filling<'a, K: Key, V> {
     greatest: Vec<u8>,
     is_known: bool,
 }
+
+/// A pair that doesn't wait, and where its key stands.
+type Other<K, V> = (Result<Place, AllocError>, K, V);
 
 /// Where a key stands.
 #[derive(Clone, Copy)]
@@ -231,8 +244,31 @@ impl<'a, K: Key, V> Filling<'a, K, V> {
 
     /// Takes pairs on, or stores them. What they stand in the place of is dropped.
     pub(super) fn fill(mut self, pairs: impl IntoIterator<Item = (K, V)>) -> Result<(), TryInsertError<K, V>> {
-        let pairs = pairs.into_iter();
+        let mut pairs = pairs.into_iter();
         self.run.reserve(pairs.size_hint().0);
+        while let Some((place, key, value)) = self.take_on(&mut pairs)? {
+            self.store(place, key, value)?;
+        }
+        self.flush()
+    }
+
+    /// Takes pairs on that come after all others, up to one that does not, if there is one. It is told.
+    pub(super) fn fill_in_order(
+        mut self,
+        pairs: &mut impl Iterator<Item = (K, V)>,
+    ) -> Result<Option<(K, V)>, TryInsertError<K, V>> {
+        self.run.reserve(pairs.size_hint().0);
+        let other = self.take_on(pairs)?;
+        self.flush()?;
+        Ok(other.map(|it| (it.1, it.2)))
+    }
+
+    /// Has pairs wait that come after all others, up to one that does not, if there is one. It is told.
+    #[inline]
+    fn take_on(
+        &mut self,
+        pairs: &mut impl Iterator<Item = (K, V)>,
+    ) -> Result<Option<Other<K, V>>, TryInsertError<K, V>> {
         for (key, value) in pairs {
             match self.wait(&key) {
                 Ok(Place::AtEnd) => {
@@ -242,10 +278,10 @@ impl<'a, K: Key, V> Filling<'a, K, V> {
                         self.flush()?;
                     }
                 }
-                place => self.store(place, key, value)?,
+                place => return Ok(Some((place, key, value))),
             }
         }
-        self.flush()
+        Ok(None)
     }
 }
 

@@ -1,14 +1,17 @@
 //! What a map has from the traits of std.
-use crate::error::{TryInsertError, or_end};
+use crate::error::{NO_PREFIXES, or_end};
 use crate::iter::Iter;
 use crate::iter_mut::IterMut;
 use crate::map::ArtMap;
+use crate::map::filling::Filling;
+use crate::map::sorted::Sorted;
 use crate::owned::IntoIter;
 use crate::{Key, NoPrefixes};
 use std::borrow::Borrow;
 use std::cmp::Ordering;
 use std::fmt;
 use std::hash::{Hash, Hasher};
+use std::iter;
 use std::ops::Index;
 
 impl<K, V> Default for ArtMap<K, V> {
@@ -85,9 +88,22 @@ impl<'a, K: NoPrefixes + Copy, V: Copy> Extend<(&'a K, &'a V)> for ArtMap<K, V> 
     }
 }
 
+/// Pairs that don't ascend are sorted first, by the bytes of their keys.
 impl<K: NoPrefixes, V> FromIterator<(K, V)> for ArtMap<K, V> {
     fn from_iter<I: IntoIterator<Item = (K, V)>>(pairs: I) -> Self {
-        Self::try_from_iter(pairs).unwrap_or_else(TryInsertError::end)
+        let (mut made, mut pairs) = (Self::new(), pairs.into_iter());
+        _ = made.slab.reserve_exact(pairs.size_hint().0);
+        match Filling::new(&mut made).fill_in_order(&mut pairs) {
+            Ok(None) => {
+                made.words.shrink();
+                made
+            }
+            Ok(Some(other)) => {
+                let sorted = or_end(Sorted::of(made.slab, iter::once(other).chain(pairs)));
+                or_end(sorted.into_map()).unwrap_or_else(|| panic!("{NO_PREFIXES}"))
+            }
+            Err(why) => why.end(),
+        }
     }
 }
 

@@ -196,6 +196,7 @@ pub const ROWS: &[Row<Map>] = &[
     ("try_extend", |map, w| seen(map.try_extend(pairs([60, 61, 62, 3, 63, 8], w)))),
     ("try_from_iter", |_, w| seen(Map::try_from_iter(pairs([5, 6, 7, 3, 9, 8], w)))),
     ("collect", |_, w| seen(pairs([5, 6, 7, 3, 9, 8], w).collect::<Map>())),
+    ("collect, twice", |_, w| seen(pairs([5, 6, 5, 3, 7, 5, 6], w).collect::<Map>())),
     ("append", |map, w| map.append(&mut of([5, 8, 40, 41], w))),
     ("append, after", |map, w| map.append(&mut of(40..60, w))),
     ("append, before", |map, w| { let mut high = of(40..60, w); high.append(map); *map = high; }),
