@@ -12,8 +12,9 @@ rounds: fewer pairs have more. --kept has the numbers written to FILE, and --pri
 Keys are looked up, missed and taken out in orders of their own. A walk through C is timed twice: many pairs in a call
 (artmap_words_walk), and one (artmap_words_next). Peers lend where they can. A peer without a call for a load gets an
 insertion for each pair. Through Rust a range of the unproved trees ends at a key, and one of the others where so many
-pairs were taken. Bytes are those that malloc has lent, through Rust those of memory in use. Before each map and each
-load malloc joins its free blocks, so that no map pays for how another one left them.
+pairs were taken; `append` and `between` are of a pair that is appended, half of all, to the half before or between.
+Bytes are those that malloc has lent, through Rust those of memory in use. Before each map and each load malloc joins
+its free blocks, so that no map pays for how another one left them.
 """
 import argparse
 import os
@@ -33,7 +34,7 @@ C_PEERS = ("std::map", "judy", "art-vec", "art-list")
 PLAIN = {"walk by next": "walk", "prefix by next": "prefix"}
 IN_RUST = {"get": "get", "miss": "miss", "put": "insert", "remove": "remove", "next": "iter", "range of 10": "10",
            "range of 100": "100", "prefix": "prefix", "load": "sorted", "shuffled": "shuffled", "clone": "clone",
-           "bytes a pair": "bytes"}
+           "append after": "append", "append between": "between", "bytes a pair": "bytes"}
 RUST_PEERS = ("BTreeMap", "HashMap", "art-vec", "art-list")
 
 

@@ -11,6 +11,7 @@
 //! - `rand8`: `Vec<u8>` of eight random bytes; `url`: `Vec<u8>` of some 60 bytes, of hosts and paths;
 //! - `u64`: random numbers; `dense`: the numbers from 0 on; `text`: `String`s as the urls.
 //!
+//! Half of the pairs are appended to the other half: those after it, and each second one.
 //! Some hundred of the urls are with a prefix, 256 of the dense numbers, and of random keys those of the first byte, or
 //! of the first two from 10^6 on.
 #[cfg(peer)]
@@ -267,9 +268,22 @@ fn with_prefix<M, K>(map: &M, keys: &Keys<K>, times: &mut Times, prefix: Prefix<
     times.push(("prefix", nanos / count.max(1) as f64));
 }
 
+/// Times a `collect` of pairs with keys in some order.
+fn collected<K: Clone, M: FromIterator<(K, u64)>>(times: &mut Times, what: &'static str, keys: &[K]) -> M {
+    settle();
+    let (pairs, mut made): (Vec<(K, u64)>, _) = (keys.iter().cloned().zip(0..).collect(), None);
+    timed(times, what, keys.len(), || {
+        made = Some(pairs.into_iter().collect());
+        0
+    });
+    made.expect("a map")
+}
+
 /// The steps of a map, which all maps spell alike.
 macro_rules! steps {
-    ($name:ident, $map:ident, [$($bound:tt)*], $is_ordered:literal, $ranges:expr, $back:expr, $prefix:expr) => {
+    (
+        $name:ident, $map:ident, [$($bound:tt)*], $is_ordered:literal, $ranges:expr, $back:expr, $append:expr, $prefix:expr
+    ) => {
         fn $name<K: Made + $($bound)*>(keys: &Keys<K>) -> Times {
             let size = keys.going_in.len();
             let mut times = Vec::new();
@@ -300,27 +314,29 @@ macro_rules! steps {
                 keys.going_out.iter().filter_map(|key| map.remove(key)).fold(0, u64::wrapping_add)
             });
             drop(map);
-            settle();
-            let pairs: Vec<(K, u64)> = keys.sorted.iter().cloned().zip(0..).collect();
-            let mut made = $map::new();
-            timed(&mut times, "load", size, || {
-                made = pairs.into_iter().collect::<$map<K, u64>>();
-                0
-            });
+            let made: $map<K, u64> = collected(&mut times, "load", &keys.sorted);
             if $is_ordered {
                 timed(&mut times, "next of these", size, || sum(made.iter()));
                 let ranges: Ranges<$map<K, u64>, K> = $ranges;
                 ranges(&made, keys, &mut times, ["1 of these", "10 of these", "100 of these"]);
             }
             drop(made);
-            settle();
-            let pairs: Vec<(K, u64)> = keys.going_in.iter().cloned().zip(0..).collect();
-            let mut made = $map::new();
-            timed(&mut times, "shuffled", size, || {
-                made = pairs.into_iter().collect::<$map<K, u64>>();
-                0
-            });
-            drop(made);
+            drop::<$map<K, u64>>(collected(&mut times, "shuffled", &keys.going_in));
+            if $is_ordered {
+                for (what, parts) in [("append after", 2), ("append between", size)] {
+                    // (each second one of so many parts)
+                    let pairs = keys.sorted.iter().cloned().zip(0u64..).enumerate();
+                    let (other, one): (Vec<_>, Vec<_>) = pairs.partition(|it| it.0 * parts / size % 2 == 1);
+                    let mut one: $map<K, u64> = one.into_iter().map(|it| it.1).collect();
+                    let mut other: $map<K, u64> = other.into_iter().map(|it| it.1).collect();
+                    settle();
+                    timed(&mut times, what, other.len(), || {
+                        $append(&mut one, &mut other);
+                        0
+                    });
+                    assert!(other.is_empty() && one.len() == size);
+                }
+            }
             times
         }
     };
@@ -339,11 +355,14 @@ macro_rules! ranges {
     };
 }
 
-steps!(art, ArtMap, [NoPrefixes], true, ranges!(), back!(), |map, front, all| counted(map.prefix(&front.0[..]), all));
-steps!(tree, BTreeMap, [], true, ranges!(), back!(), |map, front, all| {
+steps!(art, ArtMap, [NoPrefixes], true, ranges!(), back!(), ArtMap::append, |map, front, all| counted(
+    map.prefix(&front.0[..]),
+    all
+));
+steps!(tree, BTreeMap, [], true, ranges!(), back!(), BTreeMap::append, |map, front, all| {
     counted(map.range::<K, _>(&front.1..).take_while(|it| it.0.is_under(&front.0)), all)
 });
-steps!(hash, HashMap, [], false, |_, _, _, _| {}, |_| 0, |_, _, _| 0);
+steps!(hash, HashMap, [], false, |_, _, _, _| {}, |_| 0, |_: &mut _, _: &mut _| {}, |_, _, _| 0);
 
 /// The bytes that the process has in memory.
 fn resident() -> usize {
