@@ -481,11 +481,10 @@ fn sets() {
                 assert!(one.difference(other).eq(left.difference(right)));
                 assert!(one.symmetric_difference(other).eq(left.symmetric_difference(right)));
                 assert!((one ^ other).iter().eq((left ^ right).iter()));
-                assert_eq!(one.is_subset(other), left.is_subset(right));
-                assert_eq!(one.is_disjoint(other), left.is_disjoint(right));
+                let told = (one.is_subset(other), one.is_disjoint(other));
+                assert_eq!(told, (left.is_subset(right), left.is_disjoint(right)));
                 assert!((one & other).is_subset(one) && (one | other).is_superset(other));
-                let (some, these): (ArtSet<u32>, BTreeSet<u32>) = (one - other, left - right);
-                assert!(some.range(..key).eq(these.range(..key)));
+                assert!((one - other).range(..key).eq((left - right).range(..key)));
             }
             _ => {
                 let (mut rest, mut gone) = (set.split_off(&key), model.split_off(&key));
