@@ -11,7 +11,11 @@ use crate::walk::Way;
 use crate::{Key, NoPrefixes};
 use std::error::Error;
 use std::fmt;
+use std::iter;
 use std::mem;
+
+/// So many pairs are inserted before the next look whether all that are left come after the others.
+const AMONG: usize = 64;
 
 /// So many pairs that come after all others go in while one is inserted.
 const AFTER: usize = 2;
@@ -131,7 +135,7 @@ impl<K: Key, V> ArtMap<K, V> {
             mem::swap(self, other);
             self.extend_under(mem::take(other));
         } else {
-            self.extend(mem::take(other));
+            self.extend_among(mem::take(other));
         }
     }
 
@@ -164,11 +168,30 @@ impl<K: Key, V> ArtMap<K, V> {
 
     /// Whether each key of another map is above those of this one, as far as the least one tells.
     fn is_below(&self, other: &Self) -> Result<bool, AllocError> {
-        let Some(least) = other.end(Way::Up) else { return Ok(true) };
-        other.slab.pair(least).0.with_bytes(Sealed, |bytes| {
-            let from = From::Key(bytes);
-            self.words.walk(Way::Up, from, To::End, &mut [0]).0 == 0
-        })
+        other.end(Way::Up).map_or(Ok(true), |least| self.ends_before(other.slab.pair(least).0))
+    }
+
+    /// Whether a key is above those of this map.
+    fn ends_before(&self, key: &K) -> Result<bool, AllocError> {
+        key.with_bytes(Sealed, |bytes| self.words.walk(Way::Up, From::Key(bytes), To::End, &mut [0]).0 == 0)
+    }
+
+    /// Stores the pairs of another map, of which many stand before the last pair that is here.
+    fn extend_among(&mut self, other: Self)
+    where
+        K: NoPrefixes,
+    {
+        let mut pairs = other.into_iter();
+        while let Some((key, value)) = pairs.next() {
+            if or_end(self.ends_before(&key)) {
+                return self.extend(iter::once((key, value)).chain(pairs));
+            }
+            for (key, value) in iter::once((key, value)).chain(pairs.by_ref().take(AMONG)) {
+                if let Err(why) = self.put(key, value) {
+                    why.end::<()>();
+                }
+            }
+        }
     }
 
     /// Stores the pairs of another map. A key that both have gets the value that it has here.
