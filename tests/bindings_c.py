@@ -20,11 +20,11 @@ from bindings_c_model import CONFLICT, CUT_OFF, DONE, NO_MAP, NO_MEMORY, NOT_FOU
 
 TOP = cases.TOP
 WARNINGS = ["-Wall", "-Wextra", "-Werror", "-g"]
-EXAMPLES = ("films", "routes")
+EXAMPLES = ("films", "routes", "paths")
 STEPS, SCRIPTS = 400, 40
-CALLS = 52  # of tests/bindings_refused.c
-TAKE_NO_MEMORY = {2, 14, 19, 24, 25, 26, 27, 28, 29, 30, 34, 37, 38, 39, 40, 41, 44, 45, 46, 48, 49, 50, 51}
-OF_THE_OTHER_KIND = {37, 38, 39, 40, 41}  # a handle has no map of the call's kind: nothing is done
+CALLS = 56  # of tests/bindings_refused.c
+TAKE_NO_MEMORY = {2, 14, 19, 24, 25, 26, 27, 28, 29, 30, 34, 37, 38, 39, 40, 41, 44, 45, 46, 48, 49, 50, 51, 52, 53, 54, 55}
+OF_THE_OTHER_KIND = {37, 38, 39, 40, 41, 55}  # a handle has no map of the call's kind: nothing is done
 
 COPY_A_KEY_IN_CONFLICT = {21, 23}  # where memory for it is refused, the conflict is told all the same
 LAY_OUT = {10, 18, 35, 36}  # a map is frozen out of order, and keeps room, where memory for the rest is refused

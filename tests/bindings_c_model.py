@@ -7,7 +7,9 @@ import random
 FROM_END, FROM_KEY, AFTER_KEY = range(3)
 TO_END, TO_KEY, BEFORE_KEY, WITH_PREFIX = range(4)
 FILL, UNTOLD = 0xEE, 12345
-ENDS = ("first", "last", "first_with_prefix", "last_with_prefix", "next", "previous")
+ENDS = ("first", "last", "first_with_prefix", "last_with_prefix", "next", "previous", "at_or_after", "at_or_before")
+WORDS = {"first_with_prefix": "first_word_with_prefix", "last_with_prefix": "last_word_with_prefix",
+         "at_or_after": "word_at_or_after", "at_or_before": "word_at_or_before"}  # calls that tell a word alone
 
 
 class Handle(ctypes.Structure):
@@ -144,9 +146,9 @@ class Model:
         return code, given, first
 
     def marked(self, query, mark):
-        """The pair with the longest key that is some first bytes of the query and the mark."""
+        """The pairs whose keys are some first bytes of the query and the mark, the longest first."""
         keys = [it for it in self.pairs if it and it[-1] == mark and query.startswith(it[:-1])]
-        return max(((it, self.pairs[it]) for it in keys), key=lambda it: len(it[0]), default=None)
+        return [(it, self.pairs[it]) for it in sorted(keys, key=len, reverse=True)]
 
     def found(self, name, key):
         keys = sorted(self.pairs)
@@ -154,8 +156,10 @@ class Model:
                 "first_with_prefix": lambda: [it for it in keys if it.startswith(key)],
                 "last_with_prefix": lambda: [it for it in keys if it.startswith(key)],
                 "next": lambda: [it for it in keys if it > key],
+                "at_or_after": lambda: [it for it in keys if it >= key],
+                "at_or_before": lambda: [it for it in keys if it <= key],
                 "previous": lambda: [it for it in keys if it < key]}.get(name, lambda: keys)()
-        at = -1 if name in ("last", "last_with_prefix", "previous") else 0
+        at = -1 if name in ("last", "last_with_prefix", "previous", "at_or_before") else 0
         return (keys[at], self.pairs[keys[at]]) if keys else None
 
 
@@ -299,22 +303,35 @@ class Beside:
         if name == "find":
             got = self.call(name, *words, ctypes.byref(key_room.len), ctypes.byref(word)), key_room.len.value, word.value
             return got, (code, len(pair[0]) if pair else UNTOLD, wanted)
-        plain = {"first_with_prefix": "first_word_with_prefix", "last_with_prefix": "last_word_with_prefix"}.get(name, f"{name}_word")
-        told = self.call(plain, *words, ctypes.byref(alone)), alone.value
+        told = self.call(WORDS.get(name, f"{name}_word"), *words, ctypes.byref(alone)), alone.value
         got = self.call(name, *words, *key_room.args(), ctypes.byref(word)), key_room.seen(), word.value
         copied = NO_ROOM if pair and len(pair[0]) > key_room.size else code
         return (told, got), ((code, wanted), (copied, out(key_room.size, pair and pair[0], copied == DONE), wanted))
 
     def marked(self):
-        """The longest key of some first bytes of a query and a mark."""
+        """The longest key of some first bytes of a query and a mark, or all that are."""
         if self.kind != "words":
             return None, None
         query, mark = self.some_key()[:self.rng.randint(0, 7)] + some_bytes(self.rng, 3), self.rng.choice(b"\x00\x01a")
-        pair = self.model.marked(query, mark) if self.model else None
+        if self.rng.random() < 0.5:
+            return self.prefixes(query, mark)
+        pair = next(iter(self.model.marked(query, mark)), None) if self.model else None
         code = self.code() if self.code() is not None else DONE if pair else NOT_FOUND
         key_len, word = ctypes.c_size_t(UNTOLD), ctypes.c_uint64(UNTOLD)
         got = self.call("find_marked", *arg(query), ctypes.c_uint8(mark), ctypes.byref(key_len), ctypes.byref(word))
         return (got, key_len.value, word.value), (code, len(pair[0]) if pair else UNTOLD, pair[1] if pair else UNTOLD)
+
+    def prefixes(self, query, mark):
+        places, count = self.rng.choice([0, 1, 2, 5]), ctypes.c_size_t(UNTOLD)
+        pairs = (Pair * 5)(*[(777, 888)] * 5)
+        code = self.call("prefixes", *arg(query), ctypes.c_uint8(mark), pairs, ctypes.c_size_t(places), ctypes.byref(count))
+        got = code, count.value, [(it.key_len, it.told) for it in pairs]
+        if self.model is None:
+            return got, (NO_MAP, UNTOLD, [(777, 888)] * 5)
+        found = self.model.marked(query, mark)
+        told = [(len(key), word) for key, word in found[:places]]
+        wanted = (MORE if len(found) > places else DONE) if told else NO_ROOM if found else NOT_FOUND
+        return got, (wanted, len(told), told + [(777, 888)] * (5 - len(told)))
 
     def some_span(self):
         rng = self.rng

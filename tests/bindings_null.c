@@ -22,6 +22,9 @@ static int words(void) {
     if (artmap_words_find(&map, "any", 3, &len, NULL) != ARTMAP_DONE || len != 0) return 7;
     if (artmap_words_next_word(&map, NULL, 0, &word) != ARTMAP_NOT_FOUND) return 8;
     if (artmap_words_find_marked(&map, NULL, 0, 0, &len, &word) != ARTMAP_NOT_FOUND || len != 0 || word != 6) return 48;
+    if (artmap_words_prefixes(&map, NULL, 0, 0, NULL, 0, &count) != ARTMAP_NOT_FOUND || count != 0) return 51;
+    if (artmap_words_word_at_or_after(&map, NULL, 0, &word) != ARTMAP_DONE || word != 6) return 52;
+    if (artmap_words_at_or_before(&map, NULL, 0, NULL, 0, &len, NULL) != ARTMAP_DONE || len != 0) return 53;
     if (artmap_words_first(&map, NULL, 0, NULL, NULL) != ARTMAP_DONE) return 9;
     if (artmap_words_walk(&map, &from_none, NULL, 0, pairs, 2, &count) != ARTMAP_DONE || count != 1) return 10;
     if (pairs[0].key_len != 0 || pairs[0].word != 6 || pairs[1].key_len != 7) return 11;
@@ -41,6 +44,9 @@ static int words(void) {
     pairs[0] = pairs[1] = (artmap_words_pair){0, 7};
     if (artmap_words_get_many(&map, NULL, 0, pairs, found, 2, NULL) != ARTMAP_DONE || pairs[1].word != 5 || !found[1]) return 46;
     if (artmap_words_take_prefix(&map, NULL, 0, &word, 1, NULL) != ARTMAP_DONE || word != 5) return 47;
+    if (artmap_words_put(&map, "", 1, 8, NULL) != ARTMAP_DONE) return 54;
+    if (artmap_words_prefixes(&map, NULL, 0, 0, NULL, 0, NULL) != ARTMAP_NO_ROOM) return 55;
+    if (artmap_words_prefixes(&map, NULL, 0, 0, pairs, 1, &count) != ARTMAP_DONE || pairs[0].word != 8) return 56;
     artmap_words_free(&other);
     artmap_words_free(&map);
     return artmap_words_get(&map, NULL, 0, &word) == ARTMAP_NO_MAP ? 0 : 20;
@@ -58,6 +64,8 @@ static int bytes(void) {
     if (artmap_bytes_get(&map, NULL, 0, NULL, 0, &value_len) != ARTMAP_DONE || value_len != 0) return 24;
     if (artmap_bytes_find(&map, "any", 3, NULL, 0, &key_len, NULL, 0, NULL) != ARTMAP_DONE || key_len != 0) return 25;
     if (artmap_bytes_next(&map, NULL, 0, key, 4, &key_len, value, 4, &value_len) != ARTMAP_NOT_FOUND) return 26;
+    if (artmap_bytes_at_or_after(&map, NULL, 0, NULL, 0, &key_len, NULL, 0, NULL) != ARTMAP_DONE || key_len != 0) return 57;
+    if (artmap_bytes_at_or_before(&map, NULL, 0, NULL, 0, NULL, NULL, 0, NULL) != ARTMAP_DONE) return 58;
     if (artmap_bytes_walk(&map, &from_none, NULL, 0, pairs, 2, &count) != ARTMAP_DONE || count != 1) return 27;
     if (pairs[0].key_len != 0 || pairs[0].value_len != 0 || pairs[1].key_len != 7) return 28;
     if (artmap_bytes_walk(&map, &all, NULL, 0, pairs + 1, 0, &count) != ARTMAP_NO_ROOM || count != 0) return 29;

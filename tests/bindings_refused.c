@@ -189,6 +189,10 @@ static artmap_code call(struct maps *maps, int which, size_t *taken) {
     case 49: return artmap_words_put(words, LONG_KEY, strlen(LONG_KEY), 2, NULL);
     case 50: return artmap_words_compact(words);
     case 51: return artmap_words_freeze(words);
+    case 52: return artmap_words_prefixes(words, "aex", 3, 'a', pairs, PLACES, &count);
+    case 53: return artmap_words_at_or_after(words, "abx", 3, room, MOST, &len, many);
+    case 54: return artmap_bytes_at_or_before(bytes, "abx", 3, room, MOST, &len, other, MOST, &count);
+    case 55: return artmap_words_word_at_or_before((artmap_words *)bytes, "ab", 2, many);
     default: exit(3);
     }
 }

@@ -167,6 +167,8 @@ WORDS_BESIDE(first_with_prefix, first_word_with_prefix)
 WORDS_BESIDE(last_with_prefix, last_word_with_prefix)
 WORDS_BESIDE(next, next_word)
 WORDS_BESIDE(previous, previous_word)
+WORDS_BESIDE(at_or_after, word_at_or_after)
+WORDS_BESIDE(at_or_before, word_at_or_before)
 
 code words_walk(words *, SPAN_WORDS, artmap_hint *, out, size_t, artmap_words_pair *, size_t, size_t *);
 artmap_code artmap_words_walk_on(words *map, const artmap_span *span, artmap_hint *hint, void *room, size_t room_len,
@@ -190,6 +192,13 @@ artmap_code artmap_words_walk_words_on(words *map, const artmap_span *span, artm
 }
 artmap_code artmap_words_walk_words(words *map, const artmap_span *span, uint64_t *told, size_t places, size_t *count) {
     return artmap_words_walk_words_on(map, span, NULL, told, places, count);
+}
+
+code words_prefixes(words *, in, size_t, uint8_t, artmap_words_pair *, size_t, size_t *);
+artmap_code artmap_words_prefixes(words *map, const void *query, size_t query_len, uint8_t mark, artmap_words_pair *pairs,
+                                  size_t places, size_t *count) {
+    size_t unwanted;
+    return words_prefixes(map, IN(query), query_len, mark, PLACES(artmap_words_pair, pairs), places, TOLD(count));
 }
 
 code words_load(words *, in, size_t, const artmap_words_pair *, size_t, size_t *);
@@ -256,6 +265,8 @@ BYTES_BESIDE(first_with_prefix)
 BYTES_BESIDE(last_with_prefix)
 BYTES_BESIDE(next)
 BYTES_BESIDE(previous)
+BYTES_BESIDE(at_or_after)
+BYTES_BESIDE(at_or_before)
 
 code bytes_walk(bytes *, SPAN_WORDS, out, size_t, artmap_bytes_pair *, size_t, size_t *);
 artmap_code artmap_bytes_walk(bytes *map, const artmap_span *span, void *room, size_t room_len, artmap_bytes_pair *pairs,

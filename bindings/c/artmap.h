@@ -203,6 +203,13 @@ artmap_code artmap_words_next(artmap_words *map, const void *key, size_t key_len
 artmap_code artmap_words_previous(artmap_words *map, const void *key, size_t key_len, void *room, size_t room_len,
                                   size_t *found_len, uint64_t *word);
 
+/* The pair with a key, or else the one with the least key above it; and that pair, or else the one with the greatest key
+ * below it. */
+artmap_code artmap_words_at_or_after(artmap_words *map, const void *key, size_t key_len, void *room, size_t room_len,
+                                     size_t *found_len, uint64_t *word);
+artmap_code artmap_words_at_or_before(artmap_words *map, const void *key, size_t key_len, void *room, size_t room_len,
+                                      size_t *found_len, uint64_t *word);
+
 /* The same pairs, of which the word alone is told.
  * ARTMAP_DONE; ARTMAP_NOT_FOUND. */
 artmap_code artmap_words_first_word(artmap_words *map, uint64_t *word);
@@ -211,6 +218,8 @@ artmap_code artmap_words_first_word_with_prefix(artmap_words *map, const void *p
 artmap_code artmap_words_last_word_with_prefix(artmap_words *map, const void *prefix, size_t prefix_len, uint64_t *word);
 artmap_code artmap_words_next_word(artmap_words *map, const void *key, size_t key_len, uint64_t *word);
 artmap_code artmap_words_previous_word(artmap_words *map, const void *key, size_t key_len, uint64_t *word);
+artmap_code artmap_words_word_at_or_after(artmap_words *map, const void *key, size_t key_len, uint64_t *word);
+artmap_code artmap_words_word_at_or_before(artmap_words *map, const void *key, size_t key_len, uint64_t *word);
 
 /* A pair whose key stands in a buffer, end to end with those of the pairs before and after it. */
 typedef struct artmap_words_pair {
@@ -243,6 +252,16 @@ artmap_code artmap_words_walk_on(artmap_words *map, const artmap_span *span, art
                                  artmap_words_pair *pairs, size_t places, size_t *count);
 artmap_code artmap_words_walk_words_on(artmap_words *map, const artmap_span *span, artmap_hint *hint, uint64_t *words,
                                        size_t places, size_t *count);
+
+/* Of keys that end with a mark, all pairs that begin a query, where artmap_words_find_marked tells the one with the longest
+ * key: each whose key is some first bytes of the query, or all of them, and then the mark. The longest key comes first. As
+ * many are told as there are places: how long their keys are, with the mark, and their words. What stands after them in
+ * `pairs` is left alone. `count` tells how many they are. Where others are left, a call goes on with a query that is two
+ * bytes shorter than the last key. (Of keys without a mark there is one at most, which artmap_words_find tells.)
+ * ARTMAP_DONE: there is no other; ARTMAP_MORE: others are left; ARTMAP_NOT_FOUND: there is none; ARTMAP_NO_ROOM: there is
+ * one, and no place. `count` is 0 in the last two. */
+artmap_code artmap_words_prefixes(artmap_words *map, const void *query, size_t query_len, uint8_t mark,
+                                  artmap_words_pair *pairs, size_t places, size_t *count);
 
 /* Puts in `count` pairs, whose keys stand in `keys` end to end and ascend: each as a put would, so a stored key gets the
  * new word. It stops at the first that is refused: the pairs before it are in the map, and no other is. `taken` tells how
@@ -377,6 +396,12 @@ artmap_code artmap_bytes_next(artmap_bytes *map, const void *key, size_t key_len
                               size_t *found_len, void *value_room, size_t value_room_len, size_t *value_len);
 artmap_code artmap_bytes_previous(artmap_bytes *map, const void *key, size_t key_len, void *key_room, size_t key_room_len,
                                   size_t *found_len, void *value_room, size_t value_room_len, size_t *value_len);
+artmap_code artmap_bytes_at_or_after(artmap_bytes *map, const void *key, size_t key_len, void *key_room,
+                                     size_t key_room_len, size_t *found_len, void *value_room, size_t value_room_len,
+                                     size_t *value_len);
+artmap_code artmap_bytes_at_or_before(artmap_bytes *map, const void *key, size_t key_len, void *key_room,
+                                      size_t key_room_len, size_t *found_len, void *value_room, size_t value_room_len,
+                                      size_t *value_len);
 
 /* A pair in a buffer: the bytes of its key, then those of its value, then the next key, with nothing between. */
 typedef struct artmap_bytes_pair {

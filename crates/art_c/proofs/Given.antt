@@ -1,5 +1,5 @@
 -- A handle that gets a map, as one of the two kinds.
-use Rattle.std.proofs.Common.{◌≡◌, ℕ, true, List, [], Option, Some, refl, ap, ◌∙◌, inl, inr}
+use Rattle.std.proofs.Common.{◌≡◌, ℕ, true, List, [], Option, refl, ap, ◌∙◌, inl, inr}
 use Rattle.art_c.specs.Calls.{IsNew}
 use Rattle.art_c.specs.Codes.{code_number}
 use Rattle.art_c.specs.Handles.{IsOwn, is_shut, MapState, own, shut, state_of, View, byte_map_in, word_map_in}

@@ -1,4 +1,5 @@
 pub mod Answered
+pub mod Beside
 pub mod Crosses
 pub mod Ends
 pub mod Gets
@@ -8,6 +9,7 @@ pub mod Layouts
 pub mod Loads
 pub mod Lookups
 pub mod Made
+pub mod Marked
 pub mod NodeRoom
 pub mod Placed
 pub mod Prefixes

@@ -1,11 +1,9 @@
 -- What is told of a result, once it is known which it is, and of the room for nodes.
-use Rattle.std.proofs.Common.{◌≡◌, ℕ, ◌+◌, zero, suc, Bool, true, false, Option, Some, None, subst, sym, ◌∙◌, arith}
+use Rattle.std.proofs.Common.{◌≡◌, ℕ, ◌+◌, zero, suc, Bool, true, false, Option, Some, None, subst, arith}
 use Rattle.std.specs.Prelude.{IfNone, OnSome}
 use Rattle.art_arena.specs.arena.Arena.{Arena, HasRoom, KeepsRoomOf, UsesRoom}
 use Rattle.art_nodes.specs.declared.kind.NodeType.TheVariants.{Node4, Node16, Node32, Node48, Node256, Leaf}
-use Rattle.art_c.specs.Prefixes.{TakingLeavesRoom}
 use Rattle.art_c.specs.Walks.{words_code}
-use Rattle.art_c.specs.declared.code.Code.{Code}
 use Rattle.art_c.specs.declared.code.Code.TheVariants.{NoMemory}
 
 pub of-some : {A X : Type 0} (o : Option A) (a : A) → o ≡ Some a → OnSome o X → X

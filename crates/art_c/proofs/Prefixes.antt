@@ -15,7 +15,7 @@ use Rattle.art_c.specs.Handles.{Pairs}
 use Rattle.art_c.specs.Prefixes.{AreFirstTaken, IsNextWith, without_keys}
 use Rattle.art_c.specs.Spans.{while_so}
 use Rattle.art_c.specs.declared.code.Code.TheVariants.{NoMemory}
-use Rattle.art_c.proofs.Walks.{WordsOut, one-word}
+use Rattle.art_c.proofs.Walks.{ToldOut, one-told}
 
 -- a key that begins with another is not below it
 not-below : (k l : List ℕ) → begins_with k l ≡ true → is_le (bytes_cmp k l) ≡ true
@@ -105,21 +105,21 @@ module _ (prefix : List ℕ) where
   -- of the pairs of a map these are left to be taken, and the others of those with the prefix are gone
   module _ (first old : Pairs ℕ) (x : List ℕ) where
     pub record TakenOut (left now : Pairs ℕ) (words : List ℕ) (count : ℕ) : Type 0 where
-      pub out : WordsOut (while_so has-it first) x (while_so has-it left) words count
+      pub out : ToldOut (λ p. p.1) (while_so has-it first) x (while_so has-it left) words count
       pub gone : now ≡ without_keys out.given old
 
     pub none-taken : TakenOut first old x 0
     none-taken = record {
-      out = record { given = []; are = refl; words_are = refl; count_is = refl; fit = omega arith };
+      out = record { given = []; are = refl; items_are = refl; count_is = refl; fit = omega arith };
       gone = refl;
     }
 
     module _ {left now : Pairs ℕ} {words : List ℕ} {count : ℕ} (c : TakenOut left now words count) (b : Bool) (e : IsNextWith prefix left b) where
       pub one-taken : (p : List ℕ × ℕ) (rest new : Pairs ℕ) (told : List ℕ) → b ≡ true → left ≡ p ∷ rest → count < length words
           → new ≡ without_key (key_of whole) p.0 now → told ≡ set words count p.1 → TakenOut rest new told (count + 1)
-      unfolding one-word
+      unfolding one-told
       one-taken p rest new told on is place less put = record {
-        out = one-word (while_so has-it first) x c.out p (while_so has-it rest) told (next-is left b p rest on e is) place put;
+        out = one-told (λ p. p.1) (while_so has-it first) x c.out p (while_so has-it rest) told (next-is left b p rest on e is) place put;
         gone = less ∙ ap (without_key (key_of whole) p.0) c.gone ∙ sym (without-more c.out.given p old);
       }
 
@@ -132,7 +132,7 @@ module _ (prefix : List ℕ) where
         c.out.are ∙ ap (λ ps. c.out.given ++ ps) (next-is left b p rest on e is),
         c.out.fit,
         same ∙ c.gone,
-        c.out.words_are,
+        c.out.items_are,
         c.out.count_is,
         inr (subst (λ ps. Shrinks (key_of whole) ps p.0) (sym same) shrinks, refl),
       )

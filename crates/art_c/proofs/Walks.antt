@@ -1,5 +1,5 @@
 -- A walk that copies pairs out, as far as it has come.
-use Rattle.std.proofs.Common.{◌≡◌, ◌==◌, ℕ, ◌+◌, ◌<◌, ◌≤◌, ◌-◌, zero, suc, Bool, true, false, not, List, [], ◌∷◌, ◌++◌, length, take, drop, Option, refl, sym, ap, ap₂, subst, ◌∙◌, append_assoc, arith, inl, inr}
+use Rattle.std.proofs.Common.{◌≡◌, ◌==◌, ℕ, ◌+◌, ◌<◌, ◌≤◌, ◌-◌, zero, suc, Bool, true, false, not, List, [], ◌∷◌, ◌++◌, length, map, take, drop, Option, refl, sym, ap, ap₂, subst, ◌∙◌, append_assoc, arith, inl, inr}
 use Rattle.std.specs.Prelude.{IsTrue, if◌then◌else◌}
 use Rattle.std.proofs.lemmas.Bool.Decides.{eqb_tells}
 use Rattle.std.proofs.Math.ListN.{set}
@@ -11,7 +11,7 @@ use Rattle.art_c.specs.Copies.{written}
 use Rattle.art_c.specs.Handles.{Pairs}
 use Rattle.art_c.specs.Layouts.{end_to_end, items_of_pairs}
 use Rattle.art_c.specs.Spans.{Reach, goes_on, goes_to, met_of, while_so}
-use Rattle.art_c.specs.Walks.{AreTaken, AreWordsTaken, Fit, NoneElseFits, ManyRooms, many_rooms, words_of_pairs}
+use Rattle.art_c.specs.Walks.{AreTaken, AreTold, Fit, NoneElseFits, ManyRooms, many_rooms}
 use Rattle.art_c.proofs.Layouts.{bytes-more, items-more, set-more, written-more}
 
 length-written : {X : Type 0} (a r : List X) → length a ≤ length r → length (written a r) ≡ length r
@@ -128,60 +128,60 @@ module _ {V : Type 0} where
 pub not-zero : (n : ℕ) → (suc n == 0) ≡ false
 not-zero n = elim (eqb_tells (suc n) 0) [ inl same ↦ absurd (omega (arith, same.1)) | inr other ↦ other.0 ]
 
--- a walk that copies words out
-module _ (all : Pairs ℕ) (x : List ℕ) where
-  -- the words of these were copied out, and these are left
-  pub record WordsOut (left : Pairs ℕ) (words : List ℕ) (count : ℕ) : Type 0 where
+-- a call that tells pairs, each by a word or another item
+module _ {X : Type 0} (tells : List ℕ × ℕ → X) (all : Pairs ℕ) (x : List X) where
+  -- these were told, and these are left
+  pub record ToldOut (left : Pairs ℕ) (items : List X) (count : ℕ) : Type 0 where
     pub given : Pairs ℕ
     pub are : all ≡ given ++ left
-    pub words_are : words ≡ written (words_of_pairs given) x
+    pub items_are : items ≡ written (map tells given) x
     pub count_is : count ≡ length given
     pub fit : length given ≤ length x
 
-  module _ {left : Pairs ℕ} {words : List ℕ} {count : ℕ} (c : WordsOut left words count) where
-    pub same-words : length words ≡ length x
-    same-words =
-        let is : length (words_of_pairs c.given) ≡ length c.given = length-map c.given (λ (p : List ℕ × ℕ). p.1) in
-        ap length c.words_are ∙ length-written (words_of_pairs c.given) x (omega (arith, is, c.fit))
+  module _ {left : Pairs ℕ} {items : List X} {count : ℕ} (c : ToldOut left items count) where
+    pub same-items : length items ≡ length x
+    same-items =
+        let is : length (map tells c.given) ≡ length c.given = length-map c.given tells in
+        ap length c.items_are ∙ length-written (map tells c.given) x (omega (arith, is, c.fit))
 
     -- one more
-    unfoldable pub one-word : (p : List ℕ × ℕ) (rest : Pairs ℕ) (told : List ℕ) → left ≡ p ∷ rest → count < length words
-        → told ≡ set words count p.1 → WordsOut rest told (count + 1)
-    one-word p rest told is place set_is =
-        let same : length (words_of_pairs c.given) ≡ length c.given = length-map c.given (λ (q : List ℕ × ℕ). q.1) in
-        let there : length (words_of_pairs c.given) < length x = omega (arith, same, c.count_is, same-words, place) in
+    unfoldable pub one-told : (p : List ℕ × ℕ) (rest : Pairs ℕ) (told : List X) → left ≡ p ∷ rest → count < length items
+        → told ≡ set items count (tells p) → ToldOut rest told (count + 1)
+    one-told p rest told is place set_is =
+        let same : length (map tells c.given) ≡ length c.given = length-map c.given tells in
+        let there : length (map tells c.given) < length x = omega (arith, same, c.count_is, same-items, place) in
         record {
           given = c.given ++ p ∷ [];
           are = c.are ∙ ap (λ z. c.given ++ z) is ∙ sym (append_assoc c.given (p ∷ []) rest);
-          words_are = set_is ∙ ap₂ (λ n l. set l n p.1) (c.count_is ∙ sym same) c.words_are
-              ∙ set-more (words_of_pairs c.given) x p.1 there ∙ ap (λ a. written a x) (sym (map-append (λ (q : List ℕ × ℕ). q.1) c.given (p ∷ [])));
+          items_are = set_is ∙ ap₂ (λ n l. set l n (tells p)) (c.count_is ∙ sym same) c.items_are
+              ∙ set-more (map tells c.given) x (tells p) there ∙ ap (λ a. written a x) (sym (map-append tells c.given (p ∷ [])));
           count_is = omega (arith, c.count_is, length-append c.given (p ∷ []));
-          fit = omega (arith, c.count_is, same-words, place, length-append c.given (p ∷ []));
+          fit = omega (arith, c.count_is, same-items, place, length-append c.given (p ∷ []));
         }
 
     -- it ends where no place is left for the next
-    pub words_full : (p : List ℕ × ℕ) (rest : Pairs ℕ) → left ≡ p ∷ rest → count ≡ length words
-        → AreWordsTaken all x count true words
-    words_full p rest is full = (
+    pub told_full : (p : List ℕ × ℕ) (rest : Pairs ℕ) → left ≡ p ∷ rest → count ≡ length items
+        → AreTold tells all x count true items
+    told_full p rest is full = (
       c.given,
       p ∷ rest,
       c.are ∙ ap (λ z. c.given ++ z) is,
       c.fit,
-      c.words_are,
+      c.items_are,
       c.count_is,
-      (refl, sym c.count_is ∙ full ∙ same-words),
+      (refl, sym c.count_is ∙ full ∙ same-items),
     )
 
     -- or where none is left
-    pub words_done : left ≡ [] → AreWordsTaken all x count false words
-    words_done is = (c.given, [], c.are ∙ ap (λ z. c.given ++ z) is, c.fit, c.words_are, c.count_is, refl)
+    pub told_done : left ≡ [] → AreTold tells all x count false items
+    told_done is = (c.given, [], c.are ∙ ap (λ z. c.given ++ z) is, c.fit, c.items_are, c.count_is, refl)
 
     -- by whether another is left
-    pub words_ended : (more : Bool) → more ≡ not (length left == 0) → (count < length words → ⊥) → AreWordsTaken all x count more words
-    words_ended more is full = here left refl
+    pub told_ended : (more : Bool) → more ≡ not (length left == 0) → (count < length items → ⊥) → AreTold tells all x count more items
+    told_ended more is full = here left refl
       where
-        here : (l : Pairs ℕ) → left ≡ l → AreWordsTaken all x count more words
-        here [] e = subst (λ b. AreWordsTaken all x count b words) (sym (is ∙ ap (λ (ps : Pairs ℕ). not (length ps == 0)) e)) (words_done e)
+        here : (l : Pairs ℕ) → left ≡ l → AreTold tells all x count more items
+        here [] e = subst (λ b. AreTold tells all x count b items) (sym (is ∙ ap (λ (ps : Pairs ℕ). not (length ps == 0)) e)) (told_done e)
         here (p ∷ rest) e =
-            subst (λ b. AreWordsTaken all x count b words) (sym (is ∙ ap (λ (ps : Pairs ℕ). not (length ps == 0)) e ∙ ap not (not-zero (length rest))))
-            (words_full p rest e (omega (arith, full, c.count_is, c.fit, same-words)))
+            subst (λ b. AreTold tells all x count b items) (sym (is ∙ ap (λ (ps : Pairs ℕ). not (length ps == 0)) e ∙ ap not (not-zero (length rest))))
+            (told_full p rest e (omega (arith, full, c.count_is, c.fit, same-items)))

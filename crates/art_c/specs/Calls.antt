@@ -1,7 +1,8 @@
 -- What the calls answer, in the words of the map. Keys are byte strings, so a key is its own bytes.
-use Rattle.std.specs.Prelude.{◌≡◌, ◌⊎◌, ℕ, Bool, List, [], Option, Some, None, is_some}
+use Rattle.std.specs.Prelude.{◌≡◌, ◌⊎◌, ℕ, Bool, true, false, List, [], Option, Some, is_some}
 use Rattle.std.specs.Map.{lookup, lookup_entry}
-use Rattle.std.specs.declared.ops.Bound.TheVariants.{Excluded, Unbounded}
+use Rattle.std.specs.declared.ops.Bound.{Bound}
+use Rattle.std.specs.declared.ops.Bound.TheVariants.{Included, Excluded, Unbounded}
 use Rattle.art_arena.specs.arena.Shapes.{key_of}
 use Rattle.art_arena.specs.tree.Tenants.{with_front}
 use Rattle.art_operations.specs.KeyedLists.{IsBlocked}
@@ -21,6 +22,7 @@ use Rattle.art_c.specs.declared.handle.store.Store.{Store}
 use Rattle.art_c.specs.declared.calls.reads.Wanted.{Wanted}
 use Rattle.art_c.specs.declared.calls.reads.Wanted.TheVariants.{First, Last, FirstWithPrefix, LastWithPrefix}
 use Rattle.art_c.specs.declared.calls.reads.Wanted.TheVariants.{FrontOf, MarkedFrontOf, Above, Below}
+use Rattle.art_c.specs.declared.calls.reads.Wanted.TheVariants.{AtOrAbove, AtOrBelow}
 
 -- the bytes of a key
 abbrev pub whole : List ℕ → List ℕ
@@ -64,12 +66,24 @@ module _ {V : Type 0} where
   abbrev pub pair_of_marked_front : List ℕ → ℕ → Pairs V → Option (List ℕ × V)
   pair_of_marked_front query mark pairs = marked_pair whole query mark pairs
 
+  -- the first of the pairs inside a bound as a start, and the last of those inside it as an end
+  abbrev pub pair_inside : Bool → Bound (List ℕ) → Pairs V → Option (List ℕ × V)
+  pair_inside true bound pairs = first_item (pairs_between whole bound Unbounded pairs)
+  pair_inside false bound pairs = last_item (pairs_between whole Unbounded bound pairs)
+
   -- the pair with the least key above a key, and the one with the greatest below
   abbrev pub pair_above : List ℕ → Pairs V → Option (List ℕ × V)
-  pair_above key pairs = first_item (pairs_between whole (Excluded key) Unbounded pairs)
+  pair_above key pairs = pair_inside true (Excluded key) pairs
 
   abbrev pub pair_below : List ℕ → Pairs V → Option (List ℕ × V)
-  pair_below key pairs = last_item (pairs_between whole Unbounded (Excluded key) pairs)
+  pair_below key pairs = pair_inside false (Excluded key) pairs
+
+  -- the same, or the pair of the key itself
+  abbrev pub pair_at_or_above : List ℕ → Pairs V → Option (List ℕ × V)
+  pair_at_or_above key pairs = pair_inside true (Included key) pairs
+
+  abbrev pub pair_at_or_below : List ℕ → Pairs V → Option (List ℕ × V)
+  pair_at_or_below key pairs = pair_inside false (Included key) pairs
 
   -- the first pair of those whose keys begin with a prefix, and the last
   abbrev pub first_with_prefix : List ℕ → Pairs V → Option (List ℕ × V)
@@ -88,6 +102,8 @@ module _ {V : Type 0} where
   wanted_of (MarkedFrontOf query mark) pairs = pair_of_marked_front query.now mark pairs
   wanted_of (Above key) pairs = pair_above key.now pairs
   wanted_of (Below key) pairs = pair_below key.now pairs
+  wanted_of (AtOrAbove key) pairs = pair_at_or_above key.now pairs
+  wanted_of (AtOrBelow key) pairs = pair_at_or_below key.now pairs
 
 -- how many nodes of each kind there are, as C has them
 abbrev pub as_node_counts : WellFormedTreeStats → NodeCounts

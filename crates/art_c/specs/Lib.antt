@@ -8,6 +8,7 @@ pub mod Held
 pub mod Joins
 pub mod Layouts
 pub mod Loads
+pub mod Marked
 pub mod NodeRoom
 pub mod Placed
 pub mod Prefixes

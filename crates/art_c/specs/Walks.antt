@@ -70,16 +70,20 @@ module _ {V I : Type 0} (text : V → List ℕ) (item : List ℕ → V → I) wh
 abbrev pub words_of_pairs : Pairs ℕ → List ℕ
 words_of_pairs pairs = map (λ p. p.1) pairs
 
--- whether others are left after the words that were copied out: all places are taken then
-abbrev pub WordsEnd : Pairs ℕ → Pairs ℕ → List ℕ → Bool → Type 0
-WordsEnd [] given x more = more ≡ false
-WordsEnd (p ∷ rest) given x more = (more ≡ true) × (length given ≡ length x)
+-- whether others are left after the pairs that were told: all places are taken then
+abbrev pub TellingEnds : {X : Type 0} → Pairs ℕ → Pairs ℕ → List X → Bool → Type 0
+TellingEnds [] given x more = more ≡ false
+TellingEnds (p ∷ rest) given x more = (more ≡ true) × (length given ≡ length x)
 
--- As many of these words are copied out as there are places, and their number is told, and whether others are left.
-abbrev pub AreWordsTaken : Pairs ℕ → List ℕ → ℕ → Bool → List ℕ → Type 0
-AreWordsTaken pairs x count is_more y =
+-- As many of these pairs are told as there are places, each by an item, and their number, and whether others are left.
+abbrev pub AreTold : {X : Type 0} → (List ℕ × ℕ → X) → Pairs ℕ → List X → ℕ → Bool → List X → Type 0
+AreTold tells pairs x count is_more y =
     (given : Pairs ℕ) × (rest : Pairs ℕ) × (pairs ≡ given ++ rest) × (length given ≤ length x)
-    × (y ≡ written (words_of_pairs given) x) × (count ≡ length given) × WordsEnd rest given x is_more
+    × (y ≡ written (map tells given) x) × (count ≡ length given) × TellingEnds rest given x is_more
+
+-- the same by their words, which are copied out
+abbrev pub AreWordsTaken : Pairs ℕ → List ℕ → ℕ → Bool → List ℕ → Type 0
+AreWordsTaken pairs x count is_more y = AreTold (λ p. p.1) pairs x count is_more y
 
 -- what is answered then
 abbrev pub words_code : ℕ → Bool → Code

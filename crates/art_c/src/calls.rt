@@ -5,6 +5,7 @@ pub(crate) mod counts;
 pub(crate) mod gets;
 pub(crate) mod joins;
 pub(crate) mod loads;
+pub(crate) mod marked;
 pub(crate) mod prefixes;
 pub(crate) mod reads;
 pub(crate) mod walks;

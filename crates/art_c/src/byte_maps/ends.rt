@@ -4,7 +4,7 @@
 ghost use Rattle.art_map.specs.Contents.{first_item, last_item};
 ghost use Rattle.art_c.specs.Answers.{Answers, OnlyReads};
 ghost use Rattle.art_c.specs.Calls.{first_with_prefix, IsPairRead, last_with_prefix, pair_above};
-ghost use Rattle.art_c.specs.Calls.{pair_below, pair_of_front};
+ghost use Rattle.art_c.specs.Calls.{pair_at_or_above, pair_at_or_below, pair_below, pair_of_front};
 ghost use Rattle.art_c.specs.Copies.{rooms};
 ghost use Rattle.art_c.specs.Handles.{byte_map_in, store_of};
 
@@ -149,5 +149,45 @@ pub extern "C" fn bytes_previous(
 {
     reading!(alloc, handle, Bytes not Words, |map| {
         give_pair(pair_of(map, Wanted::Below(key)), key_room, key_len, value_room, value_len)
+    })
+}
+
+/// Copies out the pair with a key, or else the one with the least key above it.
+#[unsafe(no_mangle)]
+pub extern "C" fn bytes_at_or_after(
+    alloc: Global,
+    handle: &mut Handle,
+    key: &[u8],
+    key_room: &mut [u8],
+    key_len: &mut usize,
+    value_room: &mut [u8],
+    value_len: &mut usize,
+) -> u32
+    ensures { Answers byte_map_in (OnlyReads (IsPairRead (pair_at_or_above key.now)))
+        (store_of handle.old) (rooms key_room.old key_len.old value_room.old value_len.old)
+        result (store_of handle.new) (rooms key_room.new key_len.new value_room.new value_len.new) }
+{
+    reading!(alloc, handle, Bytes not Words, |map| {
+        give_pair(pair_of(map, Wanted::AtOrAbove(key)), key_room, key_len, value_room, value_len)
+    })
+}
+
+/// Copies out the pair with a key, or else the one with the greatest key below it.
+#[unsafe(no_mangle)]
+pub extern "C" fn bytes_at_or_before(
+    alloc: Global,
+    handle: &mut Handle,
+    key: &[u8],
+    key_room: &mut [u8],
+    key_len: &mut usize,
+    value_room: &mut [u8],
+    value_len: &mut usize,
+) -> u32
+    ensures { Answers byte_map_in (OnlyReads (IsPairRead (pair_at_or_below key.now)))
+        (store_of handle.old) (rooms key_room.old key_len.old value_room.old value_len.old)
+        result (store_of handle.new) (rooms key_room.new key_len.new value_room.new value_len.new) }
+{
+    reading!(alloc, handle, Bytes not Words, |map| {
+        give_pair(pair_of(map, Wanted::AtOrBelow(key)), key_room, key_len, value_room, value_len)
     })
 }

@@ -1,11 +1,13 @@
 //! The pairs that a caller asks for.
 ghost use Rattle.std.specs.Prelude.{◌≡◌, option_map};
 ghost use Rattle.std.specs.Map.Iter.{deref_pair};
-ghost use Rattle.art_c.specs.Calls.{first_with_prefix, last_with_prefix, pair_above, pair_below, wanted_of};
+ghost use Rattle.std.specs.Range.Bound.{bound_map};
+ghost use Rattle.art_c.specs.Calls.{first_with_prefix, last_with_prefix, pair_inside, wanted_of};
 
 use crate::bytes::Bytes;
 use crate::handle::Map;
 use art_bytes::SliceKey;
+use art_operations::find_leaf_pointer_for_bound;
 use std::ops::Bound;
 
 /// Which pair of a map is wanted.
@@ -27,20 +29,29 @@ pub(crate) enum Wanted<'a> {
     Above(&'a [u8]),
     /// The one with the greatest key below this one.
     Below(&'a [u8]),
+    /// The one with this key, or else with the least key above it.
+    AtOrAbove(&'a [u8]),
+    /// The one with this key, or else with the greatest key below it.
+    AtOrBelow(&'a [u8]),
 }
 
-fn above<'m, V>(map: &'m Map<V>, key: &[u8]) -> Option<(&'m Bytes, &'m V)>
-    ensures { option_map deref_pair result ≡ pair_above key.now map.now.pairs }
+/// The first pair that is inside a bound as a start, or the last that is inside it as an end, by one way down the tree.
+fn pair_inside<'m, V>(
+    map: &'m Map<V>,
+    bound: Bound<&[u8]>,
+    is_start: bool,
+) -> Option<(&'m Bytes, &'m V)>
+    ensures { option_map deref_pair result
+        ≡ pair_inside is_start (bound_map (λ key. key.now) bound.entry) map.now.pairs }
 {
-    map.range(Bound::Excluded(&SliceKey(key)), Bound::Unbounded)
-        .next()
-}
-
-fn below<'m, V>(map: &'m Map<V>, key: &[u8]) -> Option<(&'m Bytes, &'m V)>
-    ensures { option_map deref_pair result ≡ pair_below key.now map.now.pairs }
-{
-    map.range(Bound::Unbounded, Bound::Excluded(&SliceKey(key)))
-        .next_back()
+    let (nodes, root) = map.nodes();
+    let Some(root) = root else {
+        return None;
+    };
+    let Some(leaf) = find_leaf_pointer_for_bound(nodes, root, bound, is_start) else {
+        return None;
+    };
+    Some(nodes.as_key_value_ref(leaf))
 }
 
 fn first_with_prefix<'m, V>(map: &'m Map<V>, prefix: &[u8]) -> Option<(&'m Bytes, &'m V)>
@@ -65,7 +76,9 @@ pub(crate) fn pair_of<'m, V>(map: &'m Map<V>, wanted: Wanted<'_>) -> Option<(&'m
         Wanted::LastWithPrefix(prefix) => last_with_prefix(map, prefix),
         Wanted::FrontOf(query) => map.prefix_get_key_value(&SliceKey(query)),
         Wanted::MarkedFrontOf(query, mark) => map.marked_get_key_value(&SliceKey(query), mark),
-        Wanted::Above(key) => above(map, key),
-        Wanted::Below(key) => below(map, key),
+        Wanted::Above(key) => pair_inside(map, Bound::Excluded(key), true),
+        Wanted::Below(key) => pair_inside(map, Bound::Excluded(key), false),
+        Wanted::AtOrAbove(key) => pair_inside(map, Bound::Included(key), true),
+        Wanted::AtOrBelow(key) => pair_inside(map, Bound::Included(key), false),
     }
 }

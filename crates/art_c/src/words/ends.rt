@@ -4,8 +4,8 @@
 ghost use Rattle.art_map.specs.Contents.{first_item, last_item};
 ghost use Rattle.art_c.specs.Answers.{Answers, OnlyReads};
 ghost use Rattle.art_c.specs.Calls.{first_with_prefix, IsLenWordRead, IsPairsWordRead, IsWordPairRead};
-ghost use Rattle.art_c.specs.Calls.{last_with_prefix, pair_above, pair_below, pair_of_front};
-ghost use Rattle.art_c.specs.Calls.{pair_of_marked_front};
+ghost use Rattle.art_c.specs.Calls.{last_with_prefix, pair_above, pair_at_or_above, pair_at_or_below};
+ghost use Rattle.art_c.specs.Calls.{pair_below, pair_of_front, pair_of_marked_front};
 ghost use Rattle.art_c.specs.Copies.{key_room};
 ghost use Rattle.art_c.specs.Handles.{store_of, word_map_in};
 
@@ -165,6 +165,44 @@ pub extern "C" fn words_previous(
     })
 }
 
+/// Copies out the pair with a key, or else the one with the least key above it.
+#[unsafe(no_mangle)]
+pub extern "C" fn words_at_or_after(
+    alloc: Global,
+    handle: &mut Handle,
+    key: &[u8],
+    room: &mut [u8],
+    key_len: &mut usize,
+    word: &mut u64,
+) -> u32
+    ensures { Answers word_map_in (OnlyReads (IsWordPairRead (pair_at_or_above key.now)))
+        (store_of handle.old) (key_room room.old key_len.old word.old)
+        result (store_of handle.new) (key_room room.new key_len.new word.new) }
+{
+    reading!(alloc, handle, Words not Bytes, |map| {
+        give_word_pair(pair_of(map, Wanted::AtOrAbove(key)), room, key_len, word)
+    })
+}
+
+/// Copies out the pair with a key, or else the one with the greatest key below it.
+#[unsafe(no_mangle)]
+pub extern "C" fn words_at_or_before(
+    alloc: Global,
+    handle: &mut Handle,
+    key: &[u8],
+    room: &mut [u8],
+    key_len: &mut usize,
+    word: &mut u64,
+) -> u32
+    ensures { Answers word_map_in (OnlyReads (IsWordPairRead (pair_at_or_below key.now)))
+        (store_of handle.old) (key_room room.old key_len.old word.old)
+        result (store_of handle.new) (key_room room.new key_len.new word.new) }
+{
+    reading!(alloc, handle, Words not Bytes, |map| {
+        give_word_pair(pair_of(map, Wanted::AtOrBelow(key)), room, key_len, word)
+    })
+}
+
 /// Tells the word of the pair with the least key.
 #[unsafe(no_mangle)]
 pub extern "C" fn words_first_word(alloc: Global, handle: &mut Handle, word: &mut u64) -> u32
@@ -241,4 +279,32 @@ pub extern "C" fn words_previous_word(
         result (store_of handle.new) word.new }
 {
     reading!(alloc, handle, Words not Bytes, |map| give_pairs_word(pair_of(map, Wanted::Below(key)), word))
+}
+
+/// Tells the word of the pair with a key, or else of the one with the least key above it.
+#[unsafe(no_mangle)]
+pub extern "C" fn words_word_at_or_after(
+    alloc: Global,
+    handle: &mut Handle,
+    key: &[u8],
+    word: &mut u64,
+) -> u32
+    ensures { Answers word_map_in (OnlyReads (IsPairsWordRead (pair_at_or_above key.now)))
+        (store_of handle.old) word.old result (store_of handle.new) word.new }
+{
+    reading!(alloc, handle, Words not Bytes, |map| give_pairs_word(pair_of(map, Wanted::AtOrAbove(key)), word))
+}
+
+/// Tells the word of the pair with a key, or else of the one with the greatest key below it.
+#[unsafe(no_mangle)]
+pub extern "C" fn words_word_at_or_before(
+    alloc: Global,
+    handle: &mut Handle,
+    key: &[u8],
+    word: &mut u64,
+) -> u32
+    ensures { Answers word_map_in (OnlyReads (IsPairsWordRead (pair_at_or_below key.now)))
+        (store_of handle.old) word.old result (store_of handle.new) word.new }
+{
+    reading!(alloc, handle, Words not Bytes, |map| give_pairs_word(pair_of(map, Wanted::AtOrBelow(key)), word))
 }

@@ -6,12 +6,13 @@ ghost use Rattle.art_c.specs.Gets.{IsManyGot};
 ghost use Rattle.art_c.specs.Handles.{store_of, word_map_in};
 ghost use Rattle.art_c.specs.Layouts.{no_text, word_key_len, word_text_len, words_pair};
 ghost use Rattle.art_c.specs.Loads.{IsLoadedIn};
+ghost use Rattle.art_c.specs.Marked.{AreMarkedTold};
 ghost use Rattle.art_c.specs.Prefixes.{IsPrefixTaken};
 ghost use Rattle.art_c.specs.Spans.{reach};
 ghost use Rattle.art_c.specs.Walks.{IsWalked, IsWordsWalked, many_rooms};
 
 use crate::calls::walks::{self, Span};
-use crate::calls::{gets, loads, prefixes};
+use crate::calls::{gets, loads, marked, prefixes};
 use crate::code::Code;
 use crate::handle::{Handle, Kept, Store, changing, reading};
 use crate::value::WordsPair;
@@ -110,4 +111,21 @@ pub extern "C" fn words_take_prefix(
         result (store_of handle.new) (words.new, count.new) }
 {
     changing!(alloc, handle, Words not Bytes, |map| prefixes::take_prefix(map, prefix, words, count))
+}
+
+/// Tells the pairs whose keys are some bytes of a query, from its first, and the mark: the longest first, as many as
+/// there are places.
+#[unsafe(no_mangle)]
+pub extern "C" fn words_prefixes(
+    alloc: Global,
+    handle: &mut Handle,
+    query: &[u8],
+    mark: u8,
+    pairs: &mut [WordsPair],
+    count: &mut usize,
+) -> u32
+    ensures { Answers word_map_in (OnlyReads (AreMarkedTold query.now mark))
+        (store_of handle.old) (pairs.old, count.old) result (store_of handle.new) (pairs.new, count.new) }
+{
+    reading!(alloc, handle, Words not Bytes, |map| marked::prefixes(map, query, mark, pairs, count))
 }

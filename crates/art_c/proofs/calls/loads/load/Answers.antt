@@ -1,4 +1,4 @@
-use Rattle.std.proofs.Common.{ℕ, ◌+◌, ◌*◌, suc, subst, sym, arith}
+use Rattle.std.proofs.Common.{◌+◌, ◌*◌, suc, subst, sym, arith}
 use Rattle.art_arena.specs.arena.Arena.{HasRoom}
 use Rattle.art_bytes.specs.Keys.{AreBytes}
 use Rattle.art_map.specs.Builders.{HasGathered}

@@ -1,4 +1,4 @@
-use Rattle.std.proofs.Common.{ℕ, List, ◌==◌, length, not, sym, ap, ◌∙◌}
+use Rattle.std.proofs.Common.{◌==◌, length, not, sym, ap, ◌∙◌}
 use Rattle.art_c.specs.Handles.{Pairs}
 use Rattle.art_c.specs.Spans.{met_of, reach_of}
 use Rattle.art_c.proofs.Walks.{met-all, met-next, not-zero}
