@@ -3,7 +3,6 @@ pub mod Beside
 pub mod Crosses
 pub mod Ends
 pub mod Gets
-pub mod Given
 pub mod Joins
 pub mod Layouts
 pub mod Loads

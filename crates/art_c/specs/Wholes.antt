@@ -13,10 +13,6 @@ use Rattle.art_c.specs.declared.handle.store.Store.{Store}
 use Rattle.art_c.specs.declared.handle.store.Store.TheVariants.{Words, Bytes}
 use Rattle.art_c.specs.declared.code.Code.TheVariants.{Done, NotFound, NoMemory, Shared}
 
--- a handle gets this, in the place of what it had, or there is no memory and it has what it had
-abbrev pub IsGivenStore : Store → Option Store → Code → Option Store → Type 0
-IsGivenStore store x code y = ((code ≡ Done) × (y ≡ Some store)) ⊎ ((code ≡ NoMemory) × (y ≡ x))
-
 -- in a map that is kept, and can be changed, so many more nodes of any kinds take no memory
 abbrev pub HasRoomIn : {V : Type 0} → ℕ → Kept V → Type 0
 HasRoomIn n (Own owned) = HasRoom owned.map.nodes n

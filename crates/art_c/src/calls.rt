@@ -6,6 +6,7 @@ pub(crate) mod gets;
 pub(crate) mod joins;
 pub(crate) mod loads;
 pub(crate) mod marked;
+pub(crate) mod own;
 pub(crate) mod prefixes;
 pub(crate) mod reads;
 pub(crate) mod walks;

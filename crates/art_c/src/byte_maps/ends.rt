@@ -8,10 +8,11 @@ ghost use Rattle.art_c.specs.Calls.{pair_at_or_above, pair_at_or_below, pair_bel
 ghost use Rattle.art_c.specs.Copies.{rooms};
 ghost use Rattle.art_c.specs.Handles.{byte_map_in, store_of};
 
+use crate::bytes::Bytes;
 use crate::calls::reads::{Wanted, pair_of};
 use crate::code::Code;
 use crate::copies::give_pair;
-use crate::handle::{Handle, Store, reading};
+use crate::handle::{Handle, Kind, reading};
 use std::alloc::Global;
 
 /// Copies out the pair whose key is a front of a query, or equals it.
@@ -29,7 +30,7 @@ pub extern "C" fn bytes_find(
         (store_of handle.old) (rooms key_room.old key_len.old value_room.old value_len.old)
         result (store_of handle.new) (rooms key_room.new key_len.new value_room.new value_len.new) }
 {
-    reading!(alloc, handle, Bytes not Words, |map| {
+    reading!(alloc, handle: Bytes, |map| {
         give_pair(pair_of(map, Wanted::FrontOf(query)), key_room, key_len, value_room, value_len)
     })
 }
@@ -48,7 +49,7 @@ pub extern "C" fn bytes_first(
         (store_of handle.old) (rooms key_room.old key_len.old value_room.old value_len.old)
         result (store_of handle.new) (rooms key_room.new key_len.new value_room.new value_len.new) }
 {
-    reading!(alloc, handle, Bytes not Words, |map| {
+    reading!(alloc, handle: Bytes, |map| {
         give_pair(pair_of(map, Wanted::First), key_room, key_len, value_room, value_len)
     })
 }
@@ -67,7 +68,7 @@ pub extern "C" fn bytes_last(
         (store_of handle.old) (rooms key_room.old key_len.old value_room.old value_len.old)
         result (store_of handle.new) (rooms key_room.new key_len.new value_room.new value_len.new) }
 {
-    reading!(alloc, handle, Bytes not Words, |map| {
+    reading!(alloc, handle: Bytes, |map| {
         give_pair(pair_of(map, Wanted::Last), key_room, key_len, value_room, value_len)
     })
 }
@@ -87,7 +88,7 @@ pub extern "C" fn bytes_first_with_prefix(
         (store_of handle.old) (rooms key_room.old key_len.old value_room.old value_len.old)
         result (store_of handle.new) (rooms key_room.new key_len.new value_room.new value_len.new) }
 {
-    reading!(alloc, handle, Bytes not Words, |map| {
+    reading!(alloc, handle: Bytes, |map| {
         give_pair(pair_of(map, Wanted::FirstWithPrefix(prefix)), key_room, key_len, value_room, value_len)
     })
 }
@@ -107,7 +108,7 @@ pub extern "C" fn bytes_last_with_prefix(
         (store_of handle.old) (rooms key_room.old key_len.old value_room.old value_len.old)
         result (store_of handle.new) (rooms key_room.new key_len.new value_room.new value_len.new) }
 {
-    reading!(alloc, handle, Bytes not Words, |map| {
+    reading!(alloc, handle: Bytes, |map| {
         give_pair(pair_of(map, Wanted::LastWithPrefix(prefix)), key_room, key_len, value_room, value_len)
     })
 }
@@ -127,7 +128,7 @@ pub extern "C" fn bytes_next(
         (store_of handle.old) (rooms key_room.old key_len.old value_room.old value_len.old)
         result (store_of handle.new) (rooms key_room.new key_len.new value_room.new value_len.new) }
 {
-    reading!(alloc, handle, Bytes not Words, |map| {
+    reading!(alloc, handle: Bytes, |map| {
         give_pair(pair_of(map, Wanted::Above(key)), key_room, key_len, value_room, value_len)
     })
 }
@@ -147,7 +148,7 @@ pub extern "C" fn bytes_previous(
         (store_of handle.old) (rooms key_room.old key_len.old value_room.old value_len.old)
         result (store_of handle.new) (rooms key_room.new key_len.new value_room.new value_len.new) }
 {
-    reading!(alloc, handle, Bytes not Words, |map| {
+    reading!(alloc, handle: Bytes, |map| {
         give_pair(pair_of(map, Wanted::Below(key)), key_room, key_len, value_room, value_len)
     })
 }
@@ -167,7 +168,7 @@ pub extern "C" fn bytes_at_or_after(
         (store_of handle.old) (rooms key_room.old key_len.old value_room.old value_len.old)
         result (store_of handle.new) (rooms key_room.new key_len.new value_room.new value_len.new) }
 {
-    reading!(alloc, handle, Bytes not Words, |map| {
+    reading!(alloc, handle: Bytes, |map| {
         give_pair(pair_of(map, Wanted::AtOrAbove(key)), key_room, key_len, value_room, value_len)
     })
 }
@@ -187,7 +188,7 @@ pub extern "C" fn bytes_at_or_before(
         (store_of handle.old) (rooms key_room.old key_len.old value_room.old value_len.old)
         result (store_of handle.new) (rooms key_room.new key_len.new value_room.new value_len.new) }
 {
-    reading!(alloc, handle, Bytes not Words, |map| {
+    reading!(alloc, handle: Bytes, |map| {
         give_pair(pair_of(map, Wanted::AtOrBelow(key)), key_room, key_len, value_room, value_len)
     })
 }

@@ -9,10 +9,11 @@ ghost use Rattle.art_c.specs.Loads.{IsLoadedIn};
 ghost use Rattle.art_c.specs.Spans.{reach};
 ghost use Rattle.art_c.specs.Walks.{IsWalked, many_rooms};
 
-use crate::calls::loads;
+use crate::bytes::Bytes;
+use crate::calls::own;
 use crate::calls::walks::{self, Span};
 use crate::code::Code;
-use crate::handle::{Handle, Kept, Store, changing, reading};
+use crate::handle::{Handle, Kind, keeping, reading};
 use crate::value::BytesPair;
 use art_map::RunHint;
 use std::alloc::Global;
@@ -37,7 +38,7 @@ pub extern "C" fn bytes_walk(
 {
     let span = Span::new(back, from, from_key, to, to_key);
     let mut hint = RunHint::default();
-    reading!(alloc, handle, Bytes not Words, |map| walks::walk(map, span, &mut hint, room, pairs, count))
+    reading!(alloc, handle: Bytes, |map| walks::walk(map, span, &mut hint, room, pairs, count))
 }
 
 /// Puts in the pairs of a buffer, whose keys ascend, up to the first that is refused.
@@ -53,5 +54,5 @@ pub extern "C" fn bytes_load(
         (Changes (IsLoadedIn whole bytes_pair bytes_key_len bytes_text_len bytes.now pairs.now))
         (store_of handle.old) taken.old result (store_of handle.new) taken.new }
 {
-    changing!(alloc, handle, Bytes not Words, |map| loads::load(map, alloc, bytes, pairs, taken))
+    keeping!(alloc, handle: Bytes, |kept| own::load(kept, alloc, bytes, pairs, taken))
 }

@@ -7,10 +7,11 @@ ghost use Rattle.art_c.specs.Calls.{is_stored, IsValueRead};
 ghost use Rattle.art_c.specs.Handles.{byte_map_in, byte_map_of, pairs_or_none, store_of};
 ghost use Rattle.art_c.specs.Puts.{IsBytesPut, IsRemoved};
 
-use crate::calls::changes;
+use crate::bytes::Bytes;
+use crate::calls::{own, reads};
 use crate::code::Code;
 use crate::copies::give_value;
-use crate::handle::{Handle, Kept, Store, changing, reading};
+use crate::handle::{Handle, Kind, keeping, reading};
 use art_bytes::SliceKey;
 use std::alloc::Global;
 
@@ -20,7 +21,7 @@ pub extern "C" fn bytes_put(alloc: Global, handle: &mut Handle, key: &[u8], valu
     ensures { Answers byte_map_in (Changes (IsBytesPut key.now value.now)) (store_of handle.old) tt
         result (store_of handle.new) tt }
 {
-    changing!(alloc, handle, Bytes not Words, |map| changes::put_bytes(map, alloc, key, value))
+    keeping!(alloc, handle: Bytes, |kept| own::put_bytes(kept, alloc, key, value))
 }
 
 /// Copies out the value of a key.
@@ -35,7 +36,7 @@ pub extern "C" fn bytes_get(
     ensures { Answers byte_map_in (OnlyReads (IsValueRead key.now)) (store_of handle.old) (room.old, value_len.old)
         result (store_of handle.new) (room.new, value_len.new) }
 {
-    reading!(alloc, handle, Bytes not Words, |map| give_value(map.get(&SliceKey(key)), room, value_len))
+    reading!(alloc, handle: Bytes, |map| give_value(map.get(&SliceKey(key)), room, value_len))
 }
 
 /// Whether a pair has the key.
@@ -44,20 +45,7 @@ pub extern "C" fn bytes_contains(alloc: Global, handle: &mut Handle, key: &[u8])
     ensures is { result ≡ is_stored key.now (pairs_or_none (byte_map_of handle.old)) }
     ensures kept { store_of handle.new ≡ store_of handle.old }
 {
-    match handle.take(alloc) {
-        Some(store) => match &*store {
-            Store::Bytes(kept) => {
-                let is = kept.map().get(&SliceKey(key)).is_some();
-                handle.set(store);
-                is
-            }
-            Store::Words(_) => {
-                handle.set(store);
-                false
-            }
-        },
-        None => false,
-    }
+    reads::contains::<Bytes>(alloc, handle, key)
 }
 
 /// Takes out the pair with a key.
@@ -66,5 +54,5 @@ pub extern "C" fn bytes_remove(alloc: Global, handle: &mut Handle, key: &[u8]) -
     ensures { Answers byte_map_in (Changes (IsRemoved key.now)) (store_of handle.old) tt
         result (store_of handle.new) tt }
 {
-    changing!(alloc, handle, Bytes not Words, |map| changes::remove_bytes(map, key))
+    keeping!(alloc, handle: Bytes, |kept| own::remove_bytes(kept, key))
 }

@@ -1,12 +1,12 @@
 //! All pairs of a map move into another.
 ghost use Rattle.std.specs.Prelude.{◌≡◌, MatchOption};
 ghost use Rattle.art_arena.specs.arena.Arena.{KeepsRoom, UsesRoom};
-ghost use Rattle.art_c.specs.Handles.{byte_map_in, store_of, word_map_in};
+ghost use Rattle.art_c.specs.Answers.{Changes};
+ghost use Rattle.art_c.specs.Handles.{state_of, store_of};
 ghost use Rattle.art_c.specs.Joins.{IsJoined, IsAppended, MoveEnds, MovesFirst};
 
-use crate::bytes::Bytes;
 use crate::code::Code;
-use crate::handle::{Handle, Kept, Map, Store};
+use crate::handle::{Handle, Kept, Kind, Map};
 use std::alloc::Global;
 use std::mem;
 
@@ -40,7 +40,7 @@ fn move_first<V: Drop>(map: &mut Map<V>, other: &mut Map<V>) -> Option<Code>
 }
 
 /// Moves the pairs of another map while they can be put in. An empty map takes them all at once, with their room.
-fn append<V: Drop>(map: &mut Map<V>, other: &mut Map<V>) -> Code
+fn join<V: Drop>(map: &mut Map<V>, other: &mut Map<V>) -> Code
     ensures { IsJoined other.old map.old result other.new map.new }
 {
     // Tells that they ascend.
@@ -59,22 +59,28 @@ fn append<V: Drop>(map: &mut Map<V>, other: &mut Map<V>) -> Code
     }
 }
 
-#[tactic(auto, using(crate::proofs::Answered::none_of_words))]
-pub(crate) fn append_words(alloc: Global, map: &mut Map<u64>, other: &mut Handle) -> Code
-    ensures { IsAppended word_map_in map.old (store_of other.old) result map.new (store_of other.new) }
+/// The same of what another handle keeps, where it is not frozen.
+fn join_kept<V: Drop>(map: &mut Map<V>, other: &mut Kept<V>) -> Code
+    ensures { Changes IsJoined (state_of other.old) map.old result (state_of other.new) map.new }
+{
+    match other {
+        Kept::Own(owned) => join(map, &mut owned.map),
+        Kept::Frozen(_) => Code::Frozen,
+    }
+}
+
+/// The same of another handle, where it has a map of this kind.
+fn join_handle<V: Kind>(alloc: Global, map: &mut Map<V>, other: &mut Handle) -> Code
+    ensures { IsAppended V.view map.old (store_of other.old) result map.new (store_of other.new) }
 {
     match other.take(alloc) {
-        Some(mut store) => match &mut *store {
-            Store::Words(Kept::Own(owned)) => {
-                let code = append(map, &mut owned.map);
+        Some(mut store) => match V::kept_mut(&mut store) {
+            Some(kept) => {
+                let code = join_kept(map, kept);
                 other.set(store);
                 code
             }
-            Store::Words(Kept::Frozen(_)) => {
-                other.set(store);
-                Code::Frozen
-            }
-            Store::Bytes(_) => {
+            None => {
                 other.set(store);
                 Code::NoMap
             }
@@ -83,26 +89,12 @@ pub(crate) fn append_words(alloc: Global, map: &mut Map<u64>, other: &mut Handle
     }
 }
 
-#[tactic(auto, using(crate::proofs::Answered::none_of_bytes))]
-pub(crate) fn append_bytes(alloc: Global, map: &mut Map<Bytes>, other: &mut Handle) -> Code
-    ensures { IsAppended byte_map_in map.old (store_of other.old) result map.new (store_of other.new) }
+pub(crate) fn append<V: Kind>(alloc: Global, kept: &mut Kept<V>, other: &mut Handle) -> Code
+    ensures { Changes (IsAppended V.view) (state_of kept.old) (store_of other.old)
+        result (state_of kept.new) (store_of other.new) }
 {
-    match other.take(alloc) {
-        Some(mut store) => match &mut *store {
-            Store::Bytes(Kept::Own(owned)) => {
-                let code = append(map, &mut owned.map);
-                other.set(store);
-                code
-            }
-            Store::Bytes(Kept::Frozen(_)) => {
-                other.set(store);
-                Code::Frozen
-            }
-            Store::Words(_) => {
-                other.set(store);
-                Code::NoMap
-            }
-        },
-        None => Code::NoMap,
+    match kept {
+        Kept::Own(owned) => join_handle(alloc, &mut owned.map, other),
+        Kept::Frozen(_) => Code::Frozen,
     }
 }

@@ -2,12 +2,14 @@
 ghost use Rattle.std.specs.Prelude.{◌≡◌, option_map};
 ghost use Rattle.std.specs.Map.Iter.{deref_pair};
 ghost use Rattle.std.specs.Range.Bound.{bound_map};
-ghost use Rattle.art_c.specs.Calls.{first_with_prefix, last_with_prefix, pair_inside, wanted_of};
+ghost use Rattle.art_c.specs.Calls.{first_with_prefix, is_stored, last_with_prefix, pair_inside, wanted_of};
+ghost use Rattle.art_c.specs.Handles.{pairs_or_none, store_of};
 
 use crate::bytes::Bytes;
-use crate::handle::Map;
+use crate::handle::{Handle, Kind, Map};
 use art_bytes::SliceKey;
 use art_operations::find_leaf_pointer_for_bound;
+use std::alloc::Global;
 use std::ops::Bound;
 
 /// Which pair of a map is wanted.
@@ -81,4 +83,20 @@ pub(crate) fn pair_of<'m, V>(map: &'m Map<V>, wanted: Wanted<'_>) -> Option<(&'m
         Wanted::AtOrAbove(key) => pair_inside(map, Bound::Included(key), true),
         Wanted::AtOrBelow(key) => pair_inside(map, Bound::Included(key), false),
     }
+}
+
+/// Whether a pair has the key.
+pub(crate) fn contains<V: Kind>(alloc: Global, handle: &mut Handle, key: &[u8]) -> bool
+    ensures is { result ≡ is_stored key.now (pairs_or_none (V.view (store_of handle.old))) }
+    ensures kept { store_of handle.new ≡ store_of handle.old }
+{
+    let Some(store) = handle.take(alloc) else {
+        return false;
+    };
+    let is = match V::kept(&store) {
+        Some(kept) => kept.map().get(&SliceKey(key)).is_some(),
+        None => false,
+    };
+    handle.set(store);
+    is
 }

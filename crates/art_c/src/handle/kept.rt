@@ -1,6 +1,6 @@
 //! The map of a handle, which is its own, or frozen and shared.
 ghost use Rattle.std.specs.Prelude.{◌≡◌};
-ghost use Rattle.art_c.specs.Handles.{state_pairs, state_of};
+ghost use Rattle.art_c.specs.Handles.{is_shut, state_pairs, state_of};
 
 use crate::bytes::Bytes;
 use art_map::TreeMap;
@@ -37,6 +37,16 @@ impl<V: Drop> Kept<V> {
         match self {
             Kept::Own(owned) => &owned.map,
             Kept::Frozen(shared) => &shared.map,
+        }
+    }
+
+    /// Whether the map is frozen.
+    pub(crate) fn is_frozen(&self) -> bool
+        ensures { result ≡ is_shut (state_of self.now) }
+    {
+        match self {
+            Kept::Own(_) => false,
+            Kept::Frozen(_) => true,
         }
     }
 }

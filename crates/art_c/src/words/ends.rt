@@ -12,7 +12,7 @@ ghost use Rattle.art_c.specs.Handles.{store_of, word_map_in};
 use crate::calls::reads::{Wanted, pair_of};
 use crate::code::Code;
 use crate::copies::{give_len_word, give_pairs_word, give_word_pair};
-use crate::handle::{Handle, Store, reading};
+use crate::handle::{Handle, Kind, reading};
 use std::alloc::Global;
 
 /// Tells how long the key is that begins a query, or equals it, and its word.
@@ -28,7 +28,7 @@ pub extern "C" fn words_find(
         (store_of handle.old) (key_len.old, word.old)
         result (store_of handle.new) (key_len.new, word.new) }
 {
-    reading!(alloc, handle, Words not Bytes, |map| {
+    reading!(alloc, handle: u64, |map| {
         give_len_word(pair_of(map, Wanted::FrontOf(query)), key_len, word)
     })
 }
@@ -48,7 +48,7 @@ pub extern "C" fn words_find_marked(
         (store_of handle.old) (key_len.old, word.old)
         result (store_of handle.new) (key_len.new, word.new) }
 {
-    reading!(alloc, handle, Words not Bytes, |map| {
+    reading!(alloc, handle: u64, |map| {
         give_len_word(pair_of(map, Wanted::MarkedFrontOf(query, mark)), key_len, word)
     })
 }
@@ -66,7 +66,7 @@ pub extern "C" fn words_first(
         (store_of handle.old) (key_room room.old key_len.old word.old)
         result (store_of handle.new) (key_room room.new key_len.new word.new) }
 {
-    reading!(alloc, handle, Words not Bytes, |map| {
+    reading!(alloc, handle: u64, |map| {
         give_word_pair(pair_of(map, Wanted::First), room, key_len, word)
     })
 }
@@ -84,7 +84,7 @@ pub extern "C" fn words_last(
         (store_of handle.old) (key_room room.old key_len.old word.old)
         result (store_of handle.new) (key_room room.new key_len.new word.new) }
 {
-    reading!(alloc, handle, Words not Bytes, |map| {
+    reading!(alloc, handle: u64, |map| {
         give_word_pair(pair_of(map, Wanted::Last), room, key_len, word)
     })
 }
@@ -103,7 +103,7 @@ pub extern "C" fn words_first_with_prefix(
         (store_of handle.old) (key_room room.old key_len.old word.old)
         result (store_of handle.new) (key_room room.new key_len.new word.new) }
 {
-    reading!(alloc, handle, Words not Bytes, |map| {
+    reading!(alloc, handle: u64, |map| {
         give_word_pair(pair_of(map, Wanted::FirstWithPrefix(prefix)), room, key_len, word)
     })
 }
@@ -122,7 +122,7 @@ pub extern "C" fn words_last_with_prefix(
         (store_of handle.old) (key_room room.old key_len.old word.old)
         result (store_of handle.new) (key_room room.new key_len.new word.new) }
 {
-    reading!(alloc, handle, Words not Bytes, |map| {
+    reading!(alloc, handle: u64, |map| {
         give_word_pair(pair_of(map, Wanted::LastWithPrefix(prefix)), room, key_len, word)
     })
 }
@@ -141,7 +141,7 @@ pub extern "C" fn words_next(
         (store_of handle.old) (key_room room.old key_len.old word.old)
         result (store_of handle.new) (key_room room.new key_len.new word.new) }
 {
-    reading!(alloc, handle, Words not Bytes, |map| {
+    reading!(alloc, handle: u64, |map| {
         give_word_pair(pair_of(map, Wanted::Above(key)), room, key_len, word)
     })
 }
@@ -160,7 +160,7 @@ pub extern "C" fn words_previous(
         (store_of handle.old) (key_room room.old key_len.old word.old)
         result (store_of handle.new) (key_room room.new key_len.new word.new) }
 {
-    reading!(alloc, handle, Words not Bytes, |map| {
+    reading!(alloc, handle: u64, |map| {
         give_word_pair(pair_of(map, Wanted::Below(key)), room, key_len, word)
     })
 }
@@ -179,7 +179,7 @@ pub extern "C" fn words_at_or_after(
         (store_of handle.old) (key_room room.old key_len.old word.old)
         result (store_of handle.new) (key_room room.new key_len.new word.new) }
 {
-    reading!(alloc, handle, Words not Bytes, |map| {
+    reading!(alloc, handle: u64, |map| {
         give_word_pair(pair_of(map, Wanted::AtOrAbove(key)), room, key_len, word)
     })
 }
@@ -198,7 +198,7 @@ pub extern "C" fn words_at_or_before(
         (store_of handle.old) (key_room room.old key_len.old word.old)
         result (store_of handle.new) (key_room room.new key_len.new word.new) }
 {
-    reading!(alloc, handle, Words not Bytes, |map| {
+    reading!(alloc, handle: u64, |map| {
         give_word_pair(pair_of(map, Wanted::AtOrBelow(key)), room, key_len, word)
     })
 }
@@ -209,7 +209,7 @@ pub extern "C" fn words_first_word(alloc: Global, handle: &mut Handle, word: &mu
     ensures { Answers word_map_in (OnlyReads (IsPairsWordRead first_item)) (store_of handle.old) word.old
         result (store_of handle.new) word.new }
 {
-    reading!(alloc, handle, Words not Bytes, |map| give_pairs_word(pair_of(map, Wanted::First), word))
+    reading!(alloc, handle: u64, |map| give_pairs_word(pair_of(map, Wanted::First), word))
 }
 
 /// Tells the word of the pair with the greatest key.
@@ -218,7 +218,7 @@ pub extern "C" fn words_last_word(alloc: Global, handle: &mut Handle, word: &mut
     ensures { Answers word_map_in (OnlyReads (IsPairsWordRead last_item)) (store_of handle.old) word.old
         result (store_of handle.new) word.new }
 {
-    reading!(alloc, handle, Words not Bytes, |map| give_pairs_word(pair_of(map, Wanted::Last), word))
+    reading!(alloc, handle: u64, |map| give_pairs_word(pair_of(map, Wanted::Last), word))
 }
 
 /// Tells the word of the pair with the least key that begins with a prefix.
@@ -232,7 +232,7 @@ pub extern "C" fn words_first_word_with_prefix(
     ensures { Answers word_map_in (OnlyReads (IsPairsWordRead (first_with_prefix prefix.now)))
         (store_of handle.old) word.old result (store_of handle.new) word.new }
 {
-    reading!(alloc, handle, Words not Bytes, |map| {
+    reading!(alloc, handle: u64, |map| {
         give_pairs_word(pair_of(map, Wanted::FirstWithPrefix(prefix)), word)
     })
 }
@@ -248,7 +248,7 @@ pub extern "C" fn words_last_word_with_prefix(
     ensures { Answers word_map_in (OnlyReads (IsPairsWordRead (last_with_prefix prefix.now)))
         (store_of handle.old) word.old result (store_of handle.new) word.new }
 {
-    reading!(alloc, handle, Words not Bytes, |map| {
+    reading!(alloc, handle: u64, |map| {
         give_pairs_word(pair_of(map, Wanted::LastWithPrefix(prefix)), word)
     })
 }
@@ -264,7 +264,7 @@ pub extern "C" fn words_next_word(
     ensures { Answers word_map_in (OnlyReads (IsPairsWordRead (pair_above key.now))) (store_of handle.old) word.old
         result (store_of handle.new) word.new }
 {
-    reading!(alloc, handle, Words not Bytes, |map| give_pairs_word(pair_of(map, Wanted::Above(key)), word))
+    reading!(alloc, handle: u64, |map| give_pairs_word(pair_of(map, Wanted::Above(key)), word))
 }
 
 /// Tells the word of the pair with the greatest key below a key.
@@ -278,7 +278,7 @@ pub extern "C" fn words_previous_word(
     ensures { Answers word_map_in (OnlyReads (IsPairsWordRead (pair_below key.now))) (store_of handle.old) word.old
         result (store_of handle.new) word.new }
 {
-    reading!(alloc, handle, Words not Bytes, |map| give_pairs_word(pair_of(map, Wanted::Below(key)), word))
+    reading!(alloc, handle: u64, |map| give_pairs_word(pair_of(map, Wanted::Below(key)), word))
 }
 
 /// Tells the word of the pair with a key, or else of the one with the least key above it.
@@ -292,7 +292,7 @@ pub extern "C" fn words_word_at_or_after(
     ensures { Answers word_map_in (OnlyReads (IsPairsWordRead (pair_at_or_above key.now)))
         (store_of handle.old) word.old result (store_of handle.new) word.new }
 {
-    reading!(alloc, handle, Words not Bytes, |map| give_pairs_word(pair_of(map, Wanted::AtOrAbove(key)), word))
+    reading!(alloc, handle: u64, |map| give_pairs_word(pair_of(map, Wanted::AtOrAbove(key)), word))
 }
 
 /// Tells the word of the pair with a key, or else of the one with the greatest key below it.
@@ -306,5 +306,5 @@ pub extern "C" fn words_word_at_or_before(
     ensures { Answers word_map_in (OnlyReads (IsPairsWordRead (pair_at_or_below key.now)))
         (store_of handle.old) word.old result (store_of handle.new) word.new }
 {
-    reading!(alloc, handle, Words not Bytes, |map| give_pairs_word(pair_of(map, Wanted::AtOrBelow(key)), word))
+    reading!(alloc, handle: u64, |map| give_pairs_word(pair_of(map, Wanted::AtOrBelow(key)), word))
 }

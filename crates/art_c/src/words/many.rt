@@ -12,9 +12,9 @@ ghost use Rattle.art_c.specs.Spans.{reach};
 ghost use Rattle.art_c.specs.Walks.{IsWalked, IsWordsWalked, many_rooms};
 
 use crate::calls::walks::{self, Span};
-use crate::calls::{gets, loads, marked, prefixes};
+use crate::calls::{gets, marked, own};
 use crate::code::Code;
-use crate::handle::{Handle, Kept, Store, changing, reading};
+use crate::handle::{Handle, Kind, keeping, reading};
 use crate::value::WordsPair;
 use art_map::RunHint;
 use std::alloc::Global;
@@ -39,7 +39,7 @@ pub extern "C" fn words_walk(
         result (store_of handle.new) (many_rooms room.new pairs.new count.new) }
 {
     let span = Span::new(back, from, from_key, to, to_key);
-    reading!(alloc, handle, Words not Bytes, |map| walks::walk(map, span, hint, room, pairs, count))
+    reading!(alloc, handle: u64, |map| walks::walk(map, span, hint, room, pairs, count))
 }
 
 /// Copies out as many words of a span as there are places. A hint of where they begin and end changes nothing but the
@@ -62,7 +62,7 @@ pub extern "C" fn words_walk_words(
         result (store_of handle.new) (words.new, count.new) }
 {
     let span = Span::new(back, from, from_key, to, to_key);
-    reading!(alloc, handle, Words not Bytes, |map| walks::walk_words(map, span, hint, words, count))
+    reading!(alloc, handle: u64, |map| walks::walk_words(map, span, hint, words, count))
 }
 
 /// Puts in the pairs of a buffer, whose keys ascend, up to the first that is refused.
@@ -78,7 +78,7 @@ pub extern "C" fn words_load(
         (Changes (IsLoadedIn no_text words_pair word_key_len word_text_len keys.now pairs.now))
         (store_of handle.old) taken.old result (store_of handle.new) taken.new }
 {
-    changing!(alloc, handle, Words not Bytes, |map| loads::load(map, alloc, keys, pairs, taken))
+    keeping!(alloc, handle: u64, |kept| own::load(kept, alloc, keys, pairs, taken))
 }
 
 /// Looks many keys up, and tells the words of those that are stored.
@@ -95,7 +95,7 @@ pub extern "C" fn words_get_many(
         (store_of handle.old) ((pairs.old, found.old), looked_up.old)
         result (store_of handle.new) ((pairs.new, found.new), looked_up.new) }
 {
-    reading!(alloc, handle, Words not Bytes, |map| gets::get_many(map, keys, pairs, found, looked_up))
+    reading!(alloc, handle: u64, |map| gets::get_many(map, keys, pairs, found, looked_up))
 }
 
 /// Takes out the first pairs whose keys begin with a prefix, and tells their words.
@@ -110,7 +110,7 @@ pub extern "C" fn words_take_prefix(
     ensures { Answers word_map_in (Changes (IsPrefixTaken prefix.now)) (store_of handle.old) (words.old, count.old)
         result (store_of handle.new) (words.new, count.new) }
 {
-    changing!(alloc, handle, Words not Bytes, |map| prefixes::take_prefix(map, prefix, words, count))
+    keeping!(alloc, handle: u64, |kept| own::take_prefix(kept, prefix, words, count))
 }
 
 /// Tells the pairs whose keys are some bytes of a query, from its first, and the mark: the longest first, as many as
@@ -127,5 +127,5 @@ pub extern "C" fn words_prefixes(
     ensures { Answers word_map_in (OnlyReads (AreMarkedTold query.now mark))
         (store_of handle.old) (pairs.old, count.old) result (store_of handle.new) (pairs.new, count.new) }
 {
-    reading!(alloc, handle, Words not Bytes, |map| marked::prefixes(map, query, mark, pairs, count))
+    reading!(alloc, handle: u64, |map| marked::prefixes(map, query, mark, pairs, count))
 }

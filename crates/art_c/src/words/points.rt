@@ -8,10 +8,10 @@ ghost use Rattle.art_c.specs.Handles.{pairs_or_none, store_of, word_map_in, word
 ghost use Rattle.art_c.specs.Puts.{IsWordPopped, IsWordPut, IsWordRemoved};
 ghost use Rattle.art_c.specs.Spans.{walk_end};
 
-use crate::calls::changes;
+use crate::calls::{own, reads};
 use crate::code::Code;
 use crate::copies::give_word;
-use crate::handle::{Handle, Kept, Store, changing, reading};
+use crate::handle::{Handle, Kind, keeping, reading};
 use art_bytes::SliceKey;
 use std::alloc::Global;
 
@@ -27,7 +27,7 @@ pub extern "C" fn words_put(
     ensures { Answers word_map_in (Changes (IsWordPut key.now word)) (store_of handle.old) old.old
         result (store_of handle.new) old.new }
 {
-    changing!(alloc, handle, Words not Bytes, |map| changes::put_word(map, alloc, key, word, old))
+    keeping!(alloc, handle: u64, |kept| own::put_word(kept, alloc, key, word, old))
 }
 
 /// Tells the word of a key.
@@ -36,7 +36,7 @@ pub extern "C" fn words_get(alloc: Global, handle: &mut Handle, key: &[u8], word
     ensures { Answers word_map_in (OnlyReads (IsWordRead key.now)) (store_of handle.old) word.old
         result (store_of handle.new) word.new }
 {
-    reading!(alloc, handle, Words not Bytes, |map| give_word(map.get(&SliceKey(key)), word))
+    reading!(alloc, handle: u64, |map| give_word(map.get(&SliceKey(key)), word))
 }
 
 /// Whether a pair has the key.
@@ -45,20 +45,7 @@ pub extern "C" fn words_contains(alloc: Global, handle: &mut Handle, key: &[u8])
     ensures is { result ≡ is_stored key.now (pairs_or_none (word_map_of handle.old)) }
     ensures kept { store_of handle.new ≡ store_of handle.old }
 {
-    match handle.take(alloc) {
-        Some(store) => match &*store {
-            Store::Words(kept) => {
-                let is = kept.map().get(&SliceKey(key)).is_some();
-                handle.set(store);
-                is
-            }
-            Store::Bytes(_) => {
-                handle.set(store);
-                false
-            }
-        },
-        None => false,
-    }
+    reads::contains::<u64>(alloc, handle, key)
 }
 
 /// Takes out the pair with a key, and tells its word.
@@ -72,7 +59,7 @@ pub extern "C" fn words_remove(
     ensures { Answers word_map_in (Changes (IsWordRemoved key.now)) (store_of handle.old) word.old
         result (store_of handle.new) word.new }
 {
-    changing!(alloc, handle, Words not Bytes, |map| changes::remove_word(map, key, word))
+    keeping!(alloc, handle: u64, |kept| own::remove_word(kept, key, word))
 }
 
 /// Takes out the pair with the least key, or the greatest, and tells its word.
@@ -81,5 +68,5 @@ pub extern "C" fn words_pop(alloc: Global, handle: &mut Handle, back: bool, word
     ensures { Answers word_map_in (Changes (IsWordPopped (walk_end back))) (store_of handle.old) word.old
         result (store_of handle.new) word.new }
 {
-    changing!(alloc, handle, Words not Bytes, |map| changes::pop_word(map, back, word))
+    keeping!(alloc, handle: u64, |kept| own::pop_word(kept, back, word))
 }

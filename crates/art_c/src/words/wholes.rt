@@ -1,5 +1,5 @@
 //! The exports of maps of words: a map as a whole.
-#![tactic(auto, using(crate::proofs::Answered::no_words, crate::proofs::Given::new_words))]
+#![tactic(auto, using(crate::proofs::Answered::no_words))]
 
 ghost use Rattle.std.specs.Prelude.{◌≡◌, ◌*◌, length, None};
 ghost use Rattle.art_c.specs.Answers.{Answers, Changes, OnlyReads};
@@ -12,9 +12,9 @@ ghost use Rattle.art_c.specs.Wholes.{IsCleared, IsCompacted, GetsCopy, IsFrozen,
 ghost use Rattle.art_c.specs.Wholes.{HasRoomInStore, IsSplitOff, IsThawed, IsTrimmedStore};
 ghost use Rattle.art_c.specs.declared.code.Code.TheVariants.{Done, NoMemory};
 
-use crate::calls::{changes, counts, joins, wholes};
+use crate::calls::{counts, joins, own, wholes};
 use crate::code::Code;
-use crate::handle::{Handle, Kept, Store, changing, keeping, reading};
+use crate::handle::{Handle, Kind, keeping, reading};
 use crate::nodes::NodeCounts;
 use std::alloc::Global;
 
@@ -23,7 +23,7 @@ use std::alloc::Global;
 pub extern "C" fn words_new(alloc: Global, handle: &mut Handle) -> u32
     ensures { IsNew word_map_in (store_of handle.old) result (store_of handle.new) }
 {
-    wholes::give(alloc, handle, Store::Words(wholes::empty(alloc))).number()
+    wholes::new::<u64>(alloc, handle)
 }
 
 /// Frees the map of a handle, if one is made.
@@ -40,20 +40,7 @@ pub extern "C" fn words_len(alloc: Global, handle: &mut Handle) -> usize
     ensures len { result ≡ length (pairs_or_none (word_map_of handle.old)) }
     ensures kept { store_of handle.new ≡ store_of handle.old }
 {
-    match handle.take(alloc) {
-        Some(store) => match &*store {
-            Store::Words(kept) => {
-                let len = kept.map().len();
-                handle.set(store);
-                len
-            }
-            Store::Bytes(_) => {
-                handle.set(store);
-                0
-            }
-        },
-        None => 0,
-    }
+    wholes::len::<u64>(alloc, handle)
 }
 
 /// Whether the map is frozen.
@@ -62,23 +49,7 @@ pub extern "C" fn words_is_frozen(alloc: Global, handle: &mut Handle) -> bool
     ensures is { result ≡ is_frozen_map (word_map_of handle.old) }
     ensures kept { store_of handle.new ≡ store_of handle.old }
 {
-    match handle.take(alloc) {
-        Some(store) => match &*store {
-            Store::Words(Kept::Frozen(_)) => {
-                handle.set(store);
-                true
-            }
-            Store::Words(Kept::Own(_)) => {
-                handle.set(store);
-                false
-            }
-            Store::Bytes(_) => {
-                handle.set(store);
-                false
-            }
-        },
-        None => false,
-    }
+    wholes::is_frozen::<u64>(alloc, handle)
 }
 
 /// Takes out all pairs whose keys begin with a prefix.
@@ -92,7 +63,7 @@ pub extern "C" fn words_remove_prefix(
     ensures { Answers word_map_in (Changes (IsPrefixRemoved prefix.now)) (store_of handle.old) count.old
         result (store_of handle.new) count.new }
 {
-    changing!(alloc, handle, Words not Bytes, |map| changes::remove_prefix(map, prefix, count))
+    keeping!(alloc, handle: u64, |kept| own::remove_prefix(kept, prefix, count))
 }
 
 /// Puts a copy of the map into another handle.
@@ -101,7 +72,7 @@ pub extern "C" fn words_clone(alloc: Global, handle: &mut Handle, to: &mut Handl
     ensures { Answers word_map_in (OnlyReads (GetsCopy word_map_in)) (store_of handle.old) (store_of to.old)
         result (store_of handle.new) (store_of to.new) }
 {
-    reading!(alloc, handle, Words not Bytes, |map| wholes::clone_words(alloc, map, to))
+    reading!(alloc, handle: u64, |map| wholes::clone(alloc, map, to))
 }
 
 /// Moves the pairs from a key on into a map of their own in another handle.
@@ -115,7 +86,7 @@ pub extern "C" fn words_split_off(
     ensures { Answers word_map_in (Changes (IsSplitOff word_map_in key.now)) (store_of handle.old) (store_of to.old)
         result (store_of handle.new) (store_of to.new) }
 {
-    changing!(alloc, handle, Words not Bytes, |map| wholes::split_words(alloc, map, key, to))
+    keeping!(alloc, handle: u64, |kept| wholes::split_off(alloc, kept, key, to))
 }
 
 /// Moves all pairs of another handle's map into this one, up to the first that is refused.
@@ -124,7 +95,7 @@ pub extern "C" fn words_append(alloc: Global, handle: &mut Handle, other: &mut H
     ensures { Answers word_map_in (Changes (IsAppended word_map_in)) (store_of handle.old) (store_of other.old)
         result (store_of handle.new) (store_of other.new) }
 {
-    changing!(alloc, handle, Words not Bytes, |map| joins::append_words(alloc, map, other))
+    keeping!(alloc, handle: u64, |kept| joins::append(alloc, kept, other))
 }
 
 /// Allocates the nodes of so many more insertions.
@@ -135,7 +106,7 @@ pub extern "C" fn words_reserve(alloc: Global, handle: &mut Handle, additional: 
     ensures succeeds { result ≡ code_number NoMemory
         → HasRoomInStore (2 * additional) (store_of handle.old) → ⊥ }
 {
-    changing!(alloc, handle, Words not Bytes, |map| wholes::reserve(map, additional))
+    keeping!(alloc, handle: u64, |kept| wholes::reserve(kept, additional))
 }
 
 /// Gives memory back that the nodes don't need.
@@ -144,7 +115,7 @@ pub extern "C" fn words_shrink(alloc: Global, handle: &mut Handle) -> u32
     ensures pairs { Answers word_map_in (Changes IsShrunk) (store_of handle.old) tt result (store_of handle.new) tt }
     ensures trimmed { result ≡ code_number Done → IsTrimmedStore (store_of handle.new) }
 {
-    changing!(alloc, handle, Words not Bytes, |map| wholes::shrink(map))
+    keeping!(alloc, handle: u64, |kept| wholes::shrink(kept))
 }
 
 /// Makes all nodes anew in the order of the keys, and gives memory back that they don't need.
@@ -153,7 +124,7 @@ pub extern "C" fn words_compact(alloc: Global, handle: &mut Handle) -> u32
     ensures pairs { Answers word_map_in (Changes IsCompacted) (store_of handle.old) tt result (store_of handle.new) tt }
     ensures trimmed { result ≡ code_number Done → IsTrimmedStore (store_of handle.new) }
 {
-    changing!(alloc, handle, Words not Bytes, |map| wholes::compact(map))
+    keeping!(alloc, handle: u64, |kept| wholes::compact(kept))
 }
 
 /// Takes all pairs out, and frees their memory.
@@ -161,7 +132,7 @@ pub extern "C" fn words_compact(alloc: Global, handle: &mut Handle) -> u32
 pub extern "C" fn words_clear(alloc: Global, handle: &mut Handle) -> u32
     ensures { Answers word_map_in (Changes IsCleared) (store_of handle.old) tt result (store_of handle.new) tt }
 {
-    changing!(alloc, handle, Words not Bytes, |map| wholes::clear(alloc, map))
+    keeping!(alloc, handle: u64, |kept| wholes::clear(alloc, kept))
 }
 
 /// Freezes the map: no call changes it from then on.
@@ -169,7 +140,7 @@ pub extern "C" fn words_clear(alloc: Global, handle: &mut Handle) -> u32
 pub extern "C" fn words_freeze(alloc: Global, handle: &mut Handle) -> u32
     ensures { Answers word_map_in (IsFrozen) (store_of handle.old) tt result (store_of handle.new) tt }
 {
-    keeping!(alloc, handle, Words not Bytes, |kept| wholes::freeze(alloc, kept))
+    keeping!(alloc, handle: u64, |kept| wholes::freeze(alloc, kept))
 }
 
 /// Makes a frozen map one that can be changed, where no other handle has it.
@@ -177,7 +148,7 @@ pub extern "C" fn words_freeze(alloc: Global, handle: &mut Handle) -> u32
 pub extern "C" fn words_thaw(alloc: Global, handle: &mut Handle) -> u32
     ensures { Answers word_map_in (IsThawed) (store_of handle.old) tt result (store_of handle.new) tt }
 {
-    keeping!(alloc, handle, Words not Bytes, |kept| wholes::thaw(alloc, kept))
+    keeping!(alloc, handle: u64, |kept| wholes::thaw(alloc, kept))
 }
 
 /// Makes another handle on a frozen map.
@@ -186,7 +157,7 @@ pub extern "C" fn words_share(alloc: Global, handle: &mut Handle, to: &mut Handl
     ensures { Answers word_map_in (IsShared word_map_in) (store_of handle.old) (store_of to.old)
         result (store_of handle.new) (store_of to.new) }
 {
-    keeping!(alloc, handle, Words not Bytes, |kept| wholes::share_words(alloc, kept, to))
+    keeping!(alloc, handle: u64, |kept| wholes::share(alloc, kept, to))
 }
 
 /// Counts the nodes of the tree.
@@ -199,5 +170,5 @@ pub extern "C" fn words_audit(
     ensures { Answers word_map_in (OnlyReads IsAudited) (store_of handle.old) node_counts.old
         result (store_of handle.new) node_counts.new }
 {
-    reading!(alloc, handle, Words not Bytes, |map| counts::audit(map, node_counts))
+    reading!(alloc, handle: u64, |map| counts::audit(map, node_counts))
 }

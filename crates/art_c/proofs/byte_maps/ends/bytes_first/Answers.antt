@@ -1,6 +1,7 @@
-use Rattle.art_c.proofs.Answered.{words_there}
+use Rattle.art_c.specs.Handles.{byte_map_in}
+use Rattle.art_c.proofs.Answered.{none_read}
 use Rattle.art_c.proofs.byte_maps.ends.bytes_first.Goals as goal
 
-pub returns-in-Words : goal.returns-in-Words
-returns-in-Words c =
-    words_there _ _ _ _ _ c.number-in-Words.ensures _ _ _ c.in-Some.ensures.map c.set-in-Words.ensures c.in-Words.is c.deref.ensures
+pub returns-in-None-kept : goal.returns-in-None-kept
+returns-in-None-kept c =
+    none_read byte_map_in _ _ _ _ _ _ _ c.number-in-None-kept.ensures c.in-Some.ensures.map c.deref.ensures c.in-None-kept.ensures c.set-in-None-kept.ensures

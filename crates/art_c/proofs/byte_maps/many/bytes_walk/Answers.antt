@@ -1,19 +1,22 @@
-use Rattle.std.proofs.Common.{subst}
+use Rattle.std.proofs.Common.{Some, ap, subst, sym, ◌∙◌}
 use Rattle.art_c.specs.Calls.{whole}
+use Rattle.art_c.specs.Handles.{byte_map_in, state_of}
 use Rattle.art_c.specs.Layouts.{bytes_pair}
 use Rattle.art_c.specs.Spans.{reach}
 use Rattle.art_c.specs.Walks.{IsWalked, many_rooms}
-use Rattle.art_c.proofs.Answered.{bytes_read, words_there}
+use Rattle.art_c.proofs.Answered.{answers_read, none_read}
 use Rattle.art_c.proofs.byte_maps.many.bytes_walk.Goals as goal
 
-pub returns-in-Words : goal.returns-in-Words
-returns-in-Words c =
-    words_there _ _ _ _ _ c.number-in-Words.ensures _ _ _ c.in-Some.ensures.map c.set-in-Words.ensures c.in-Words.is c.deref.ensures
-
-pub returns-in-Bytes : goal.returns-in-Bytes
-returns-in-Bytes c =
+pub returns-in-Some-kept : goal.returns-in-Some-kept
+returns-in-Some-kept c =
     let old = many_rooms c.args.room.now c.args.pairs.now c.args.count.now in
     let new = many_rooms c.walk-code.new.room c.walk-code.new.items c.walk-code.new.count in
-    bytes_read _ _ old new _ _ c.number.ensures _ _ (IsWalked whole bytes_pair (reach c.args.back c.args.from c.args.from_key.now c.args.to c.args.to_key.now)) _ _
-    c.in-Some.ensures.map c.set.ensures c.in-Bytes.is c.deref.ensures c.map-map.ensures
-    (subst (λ r. IsWalked whole bytes_pair r c.map-map.result.now.pairs old c.walk-code.result new) c.new-span.ensures c.walk-code.ensures)
+    let r = reach c.args.back c.args.from c.args.from_key.now c.args.to c.args.to_key.now in
+    answers_read byte_map_in _ _ old new _ (IsWalked whole bytes_pair r) (state_of c.in-Some-kept.kept.now) c.walk-code.result c.number.ensures
+    (ap byte_map_in (c.in-Some.ensures.map ∙ ap Some (sym c.deref.ensures ∙ c.in-Some-kept.ensures))) (c.set.ensures ∙ sym c.in-Some.ensures.map)
+    (subst (λ ps. IsWalked whole bytes_pair r ps old c.walk-code.result new) c.map-map.ensures
+    (subst (λ s. IsWalked whole bytes_pair s c.map-map.result.now.pairs old c.walk-code.result new) c.new-span.ensures c.walk-code.ensures))
+
+pub returns-in-None-kept : goal.returns-in-None-kept
+returns-in-None-kept c =
+    none_read byte_map_in _ _ _ _ _ _ _ c.number-in-None-kept.ensures c.in-Some.ensures.map c.deref.ensures c.in-None-kept.ensures c.set-in-None-kept.ensures

@@ -1,17 +1,7 @@
-use Rattle.art_c.proofs.Answered.{bytes_changed, bytes_shut, words_back}
+use Rattle.art_c.specs.Handles.{byte_map_in}
+use Rattle.art_c.proofs.Answered.{none_lent}
 use Rattle.art_c.proofs.byte_maps.points.bytes_remove.Goals as goal
 
-pub returns-in-Bytes-Frozen : goal.returns-in-Bytes-Frozen
-returns-in-Bytes-Frozen c =
-    bytes_shut _ _ _ _ _ _ _ _ _ c.number-in-Bytes-Frozen.ensures c.in-Bytes-Frozen.field-0-is c.in-Some.ensures.map
-    c.set-in-Bytes-Frozen.ensures c.in-Bytes-Frozen.is c.deref_mut.ensures.value
-
-pub returns-in-Words : goal.returns-in-Words
-returns-in-Words c =
-    words_back _ _ _ _ _ c.number-in-Words.ensures _ _ _ c.in-Some.ensures.map c.set-in-Words.ensures c.in-Words.is
-    c.deref_mut.ensures.value
-
-pub returns-in-Bytes-Own : goal.returns-in-Bytes-Own
-returns-in-Bytes-Own c =
-    bytes_changed _ _ _ _ _ _ c.number.ensures _ _ _ _ c.in-Bytes-Own.owned _ c.in-Bytes-Own.field-0-is c.in-Some.ensures.map
-    c.set.ensures c.in-Bytes-Own.is c.deref_mut.ensures.value c.remove_bytes-code.ensures
+pub returns-in-None-kept_mut : goal.returns-in-None-kept_mut
+returns-in-None-kept_mut c =
+    none_lent byte_map_in _ _ _ _ _ _ _ c.number-in-None-kept_mut.ensures c.in-Some.ensures.map c.deref_mut.ensures.value c.in-None-kept_mut.ensures.value c.set-in-None-kept_mut.ensures

@@ -1,7 +1,7 @@
-use Rattle.art_c.proofs.Answered.{words_back}
+use Rattle.art_c.specs.Handles.{byte_map_in}
+use Rattle.art_c.proofs.Answered.{none_lent}
 use Rattle.art_c.proofs.byte_maps.wholes.bytes_freeze.Goals as goal
 
-pub returns-in-Words : goal.returns-in-Words
-returns-in-Words c =
-    words_back _ _ _ _ _ c.number-in-Words.ensures _ _ _ c.in-Some.ensures.map c.set-in-Words.ensures c.in-Words.is
-    c.deref_mut.ensures.value
+pub returns-in-None-kept_mut : goal.returns-in-None-kept_mut
+returns-in-None-kept_mut c =
+    none_lent byte_map_in _ _ _ _ _ _ _ c.number-in-None-kept_mut.ensures c.in-Some.ensures.map c.deref_mut.ensures.value c.in-None-kept_mut.ensures.value c.set-in-None-kept_mut.ensures

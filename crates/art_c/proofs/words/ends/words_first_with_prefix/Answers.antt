@@ -1,6 +1,7 @@
-use Rattle.art_c.proofs.Answered.{bytes_there}
+use Rattle.art_c.specs.Handles.{word_map_in}
+use Rattle.art_c.proofs.Answered.{none_read}
 use Rattle.art_c.proofs.words.ends.words_first_with_prefix.Goals as goal
 
-pub returns-in-Bytes : goal.returns-in-Bytes
-returns-in-Bytes c =
-    bytes_there _ _ _ _ _ c.number-in-Bytes.ensures _ _ _ c.in-Some.ensures.map c.set-in-Bytes.ensures c.in-Bytes.is c.deref.ensures
+pub returns-in-None-kept : goal.returns-in-None-kept
+returns-in-None-kept c =
+    none_read word_map_in _ _ _ _ _ _ _ c.number-in-None-kept.ensures c.in-Some.ensures.map c.deref.ensures c.in-None-kept.ensures c.set-in-None-kept.ensures

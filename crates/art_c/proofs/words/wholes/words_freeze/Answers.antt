@@ -1,7 +1,7 @@
-use Rattle.art_c.proofs.Answered.{bytes_back}
+use Rattle.art_c.specs.Handles.{word_map_in}
+use Rattle.art_c.proofs.Answered.{none_lent}
 use Rattle.art_c.proofs.words.wholes.words_freeze.Goals as goal
 
-pub returns-in-Bytes : goal.returns-in-Bytes
-returns-in-Bytes c =
-    bytes_back _ _ _ _ _ c.number-in-Bytes.ensures _ _ _ c.in-Some.ensures.map c.set-in-Bytes.ensures c.in-Bytes.is
-    c.deref_mut.ensures.value
+pub returns-in-None-kept_mut : goal.returns-in-None-kept_mut
+returns-in-None-kept_mut c =
+    none_lent word_map_in _ _ _ _ _ _ _ c.number-in-None-kept_mut.ensures c.in-Some.ensures.map c.deref_mut.ensures.value c.in-None-kept_mut.ensures.value c.set-in-None-kept_mut.ensures

@@ -1,17 +1,7 @@
-use Rattle.art_c.proofs.Answered.{bytes_back, words_changed, words_shut}
+use Rattle.art_c.specs.Handles.{word_map_in}
+use Rattle.art_c.proofs.Answered.{none_lent}
 use Rattle.art_c.proofs.words.wholes.words_shrink.Goals as goal
 
-pub returns-in-Words-Frozen-clause-pairs : goal.returns-in-Words-Frozen-clause-pairs
-returns-in-Words-Frozen-clause-pairs c =
-    words_shut _ _ _ _ _ _ _ _ _ c.number-in-Words-Frozen.ensures c.in-Words-Frozen.field-0-is c.in-Some.ensures.map
-    c.set-in-Words-Frozen.ensures c.in-Words-Frozen.is c.deref_mut.ensures.value
-
-pub returns-in-Bytes-clause-pairs : goal.returns-in-Bytes-clause-pairs
-returns-in-Bytes-clause-pairs c =
-    bytes_back _ _ _ _ _ c.number-in-Bytes.ensures _ _ _ c.in-Some.ensures.map c.set-in-Bytes.ensures c.in-Bytes.is
-    c.deref_mut.ensures.value
-
-pub returns-in-Words-Own-clause-pairs : goal.returns-in-Words-Own-clause-pairs
-returns-in-Words-Own-clause-pairs c =
-    words_changed _ _ _ _ _ _ c.number.ensures _ _ _ _ c.in-Words-Own.owned _ c.in-Words-Own.field-0-is c.in-Some.ensures.map
-    c.set.ensures c.in-Words-Own.is c.deref_mut.ensures.value c.shrink-code.ensures.pairs
+pub returns-in-None-kept_mut-clause-pairs : goal.returns-in-None-kept_mut-clause-pairs
+returns-in-None-kept_mut-clause-pairs c =
+    none_lent word_map_in _ _ _ _ _ _ _ c.number-in-None-kept_mut.ensures c.in-Some.ensures.map c.deref_mut.ensures.value c.in-None-kept_mut.ensures.value c.set-in-None-kept_mut.ensures

@@ -2,7 +2,7 @@ use Rattle.std.proofs.Common.{[], refl, ap, subst, sym}
 use Rattle.art_c.specs.Joins.{ArePairsMoved}
 use Rattle.art_c.specs.declared.code.Code.TheVariants.{Done}
 use Rattle.art_c.proofs.Joins.{all-moved, moved-ends, no-pair, no-room, none-joined, one-moved, room-at-end, room-of-one, some-pair}
-use Rattle.art_c.proofs.calls.joins.append.Goals as goal
+use Rattle.art_c.proofs.calls.joins.join.Goals as goal
 
 pub returns-then-is_empty : goal.returns-then-is_empty
 returns-then-is_empty g c =

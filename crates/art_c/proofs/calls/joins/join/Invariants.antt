@@ -1,7 +1,7 @@
 -- The invariant is what has moved so far, and what room that used.
 use Rattle.std.proofs.Common.{length}
 use Rattle.art_c.proofs.Joins.{MovedSoFar, RoomSoFar}
-use Rattle.art_c.proofs.calls.joins.append.Given as goal
+use Rattle.art_c.proofs.calls.joins.join.Given as goal
 
 abbrev pub invariant-loop-code : goal.invariant-loop-code
 invariant-loop-code g l =

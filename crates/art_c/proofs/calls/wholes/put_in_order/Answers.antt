@@ -1,6 +1,6 @@
 use Rattle.std.proofs.Common.{refl, inr}
 use Rattle.art_c.proofs.NodeRoom.{not-ok}
-use Rattle.art_c.proofs.calls.wholes.compact.Goals as goal
+use Rattle.art_c.proofs.calls.wholes.put_in_order.Goals as goal
 
 pub returns-in-Err-clause-pairs : goal.returns-in-Err-clause-pairs
 returns-in-Err-clause-pairs g c =

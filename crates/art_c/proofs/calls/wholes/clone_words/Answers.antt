@@ -1,7 +1,0 @@
-use Rattle.art_c.specs.Handles.{IsOwn}
-use Rattle.art_c.proofs.Given.{given_words}
-use Rattle.art_c.proofs.calls.wholes.clone_words.Goals as goal
-
-pub returns-in-Ok : goal.returns-in-Ok
-returns-in-Ok c =
-    given_words _ _ c.give.result _ (IsOwn c.args.map.now.pairs) c.give.ensures (c.in-Ok.ensures.pairs (λ k d h. h) (λ v d h. h))

@@ -1,7 +1,0 @@
-use Rattle.std.proofs.Common.{ap}
-use Rattle.art_c.specs.Handles.{own, word_map_in}
-use Rattle.art_c.proofs.calls.wholes.split_words.Goals as goal
-
-pub returns-in-Ok-split_off : goal.returns-in-Ok-split_off
-returns-in-Ok-split_off c =
-    let e = c.in-Ok-split_off.ensures in (e.pairs, own c.in-Ok-split_off.map, ap word_map_in c.replace.ensures, e.off, (λ some. (e.leaf_room some, e.room some), e.nothing, e.swapped))
