@@ -61,6 +61,25 @@ pub(crate) fn begins_with(bytes: &[u8], front: &[u8]) -> bool
     len == 0 || bytes[0] == front[0]
 }
 
+/// Whether a list of bytes begins with another, which is compared in line if it has 4 to 16 bytes: a call costs more
+/// than that.
+#[inline(always)]
+pub(crate) fn begins_with_short(bytes: &[u8], front: &[u8]) -> bool
+    ensures { IsTrue result ↔ BeginsWith front.now bytes.now }
+{
+    let len = front.len();
+    if len < 4 || len > 16 {
+        return begins_with(bytes, front);
+    }
+    if len > bytes.len() {
+        return false;
+    }
+    if len <= 8 {
+        return begins_with_two::<4>(bytes, front);
+    }
+    begins_with_two::<8>(bytes, front)
+}
+
 /// Returns what lies after so many of these bytes: nothing where there are no more.
 #[inline(always)]
 pub fn rest_after(bytes: &[u8], depth: usize) -> &[u8]

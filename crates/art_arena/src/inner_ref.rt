@@ -8,7 +8,7 @@ ghost use Rattle.art_arena.specs.arena.Descents.{GoesNoFurther, GoesOn, MeetsSto
 ghost use Rattle.art_arena.specs.arena.EndLeaves.{end_child};
 
 use crate::ends::End;
-use crate::front::begins_with;
+use crate::front::begins_with_short;
 use art_nodes::{
     ChildIter, Header, InnerNode4, InnerNode16, InnerNode32, InnerNode48, InnerNode256,
     InnerNodeCommon, OpaqueNodePtr,
@@ -195,7 +195,7 @@ impl<'a, K, V, const PREFIX_LEN: usize> InnerRef<'a, K, V, PREFIX_LEN> {
         ensures { IsTrue result ↔ MeetsStored key.now depth self.now.node }
     {
         let stored = self.read_prefix();
-        stored.is_empty() || begins_with(&key[depth..], stored)
+        stored.is_empty() || begins_with_short(&key[depth..], stored)
     }
 
     /// Returns the child to which a key goes on from here, after so many of its bytes. It passes the prefix by its

@@ -9,4 +9,4 @@ returns-then-is_empty g c =
     (λ _. begins_empty c.args.self.now.node.header.stored (sym (ap length c.read_prefix-stored.ensures) ∙ none) (drop c.args.depth c.args.key.now), λ _. c.if-is_empty.true)
 
 pub returns-else-is_empty : goal.returns-else-is_empty
-returns-else-is_empty g c = rw (← c.read_prefix-stored.ensures, ← tail c.args.depth c.args.key.now) c.begins_with.ensures
+returns-else-is_empty g c = rw (← c.read_prefix-stored.ensures, ← tail c.args.depth c.args.key.now) c.begins_with_short.ensures
