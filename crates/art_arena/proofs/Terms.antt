@@ -30,5 +30,5 @@ pub use Rattle.art_arena.specs.tree.Paths.{last_leaf, look_up_in, look_up_path, 
 pub use Rattle.art_arena.specs.tree.Shrinks.{IsCrossing, IsMeeting, Shrinks, one_fewer, one_if}
 pub use Rattle.art_arena.specs.tree.Tenants.{begins_with, crossings, with_front, without_front}
 pub use Rattle.art_arena.specs.tree.TreeOf.{Group, add_to, children_of, grouped, tree_below, tree_of}
-pub use Rattle.art_arena.specs.tree.Ways.{descent_reads, end_path, end_path_in, guide_reads, is_cut, last_or, last_path_in, led_on, path_to_guide, prefix_reads, way_end, way_in, way_of}
+pub use Rattle.art_arena.specs.tree.Ways.{compared_on, descent_reads, end_path, end_path_in, guide_reads, is_cut, last_or, last_path_in, led_on, path_to_guide, prefix_reads, way_end, way_in, way_of}
 pub use Rattle.art_arena.specs.tree.Trees.{AreCanonical, Forest, IsBelow, IsCanonical, Tree, child, count, inner, items, items_in, leaf, no_child, nodes_in, nodes_with}

@@ -9,7 +9,8 @@ ghost use Rattle.art_arena.specs.arena.Descents.{ReadsLookUp, Stops};
 ghost use Rattle.art_arena.specs.arena.Prefixes.{prefix_of};
 ghost use Rattle.art_arena.specs.arena.Reads.{DescentReads, IsReadAt, KeysWithin, ReadsAtLeast, ReadsExactly};
 ghost use Rattle.art_arena.specs.arena.Reads.{guide_cost, unguided};
-ghost use Rattle.art_arena.specs.tree.Ways.{descent_reads, is_cut};
+ghost use Rattle.art_arena.specs.tree.Paths.{look_up_path};
+ghost use Rattle.art_arena.specs.tree.Ways.{compared_on, descent_reads, is_cut};
 ghost use Rattle.art_arena.specs.arena.Shapes.{Shape, erase, leaves};
 ghost use Rattle.art_arena.specs.arena.Stores.{Stores, StoresAt};
 ghost use Rattle.art_arena.specs.inner.Stepping.{IsComparedAfter, IsGuided, StepsFrom, TakesStep};
@@ -214,6 +215,10 @@ pub fn descend<'a, K: AsBytes, V, const PREFIX_LEN: usize>(
     ensures counts { passing ≡ Passing.ByStored → (s : Shape K V)
         → Stores K.bytes PREFIX_LEN (arena_of reader.old) root s
         → ReadsLookUp PREFIX_LEN key.now s (count_of reader.old) (count_of reader.new) }
+    ensures compared { passing ≡ Passing.ByStored → (s : Shape K V)
+        → Stores K.bytes PREFIX_LEN (arena_of reader.old) root s
+        → IfSome result.leaf (λ _. result.compared
+        ≡ compared_on PREFIX_LEN (look_up_path PREFIX_LEN (erase s) key.now)) }
     ensures way { passing ≡ Passing.ByBytes → (s : Shape K V)
         → Stores K.bytes PREFIX_LEN (arena_of reader.old) root s
         → OnWayTo K.bytes PREFIX_LEN (node_at (arena_of reader.old)) key.now s result.node search.new result.depth }
@@ -283,6 +288,9 @@ pub fn land<'a, K: AsBytes, V, const PREFIX_LEN: usize>(
     ensures kept { arena_of reader.new ≡ arena_of reader.old }
     ensures counts { (s : Shape K V) → Stores K.bytes PREFIX_LEN (arena_of reader.old) root s
         → ReadsLookUp PREFIX_LEN key.now s (count_of reader.old) (count_of reader.new) }
+    ensures compared { (s : Shape K V) → Stores K.bytes PREFIX_LEN (arena_of reader.old) root s
+        → IfSome result (λ landed. landed.compared
+        ≡ compared_on PREFIX_LEN (look_up_path PREFIX_LEN (erase s) key.now)) }
 {
     let mut search = TreePathSearch::default();
     let stop = descend(reader, &mut search, root, key, Passing::ByStored);

@@ -1,13 +1,13 @@
 -- The walk of a descent from the root to a leaf.
-use Rattle.std.proofs.Common.{◌≡◌, ℕ, suc, ◌+◌, ◌-◌, ◌^◌, ◌<◌, ◌≤◌, min, Bool, List, [], ◌∷◌, ◌++◌, length, get_or, take, drop, Option, Some, None, IsSome, IfSome, refl, sym, ap, ap₂, subst, ◌∙◌, inl, inr, arith, append_assoc, length-append}
+use Rattle.std.proofs.Common.{◌≡◌, ℕ, suc, ◌+◌, ◌-◌, ◌^◌, ◌<◌, ◌≤◌, min, Bool, List, [], ◌∷◌, ◌++◌, length, get_or, take, drop, Option, Some, None, IsSome, IfSome, refl, sym, ap, ap₂, subst, ◌∙◌, inl, inr, arith, append_assoc, length-append, le-ltb, lt-ltb}
 use Rattle.std.proofs.Math.ListN.{drop_of_length-le}
 use Rattle.std.proofs.lemmas.Bool.{cond-true, cond-false, cond_both}
 use Rattle.std.proofs.lemmas.Bool.Decides.{leb_tells}
-use Rattle.std.specs.Prelude.{if◌then◌else◌, ◌⊎◌}
+use Rattle.std.specs.Prelude.{if◌then◌else◌, ◌⊎◌, nat_lt}
 use Rattle.std.proofs.lemmas.List.{drop-drop, take-append-drop, take-append-le, take_all}
 use Rattle.art_nodes.proofs.Common.{Name, InnerNode, child_at}
 use Rattle.art_nodes.specs.declared.leaf.LeafNode.{LeafNode}
-use Rattle.art_arena.proofs.Terms.{look_up_path, look_up_in, begins_with, Cell, pair, branches, copies, AreHeld, Shape, Branches, leaf_at, inner_at, name_of, children_at, cells, erase, erase_in, leaves_in, Frame, path_to, cells_before, cells_after, IsSubtree, Step, steps_to, IsPlace, prefix_of, located}
+use Rattle.art_arena.proofs.Terms.{look_up_path, look_up_in, compared_on, inner, begins_with, Cell, pair, branches, copies, AreHeld, Shape, Branches, leaf_at, inner_at, name_of, children_at, cells, erase, erase_in, leaves_in, Frame, path_to, cells_before, cells_after, IsSubtree, Step, steps_to, IsPlace, prefix_of, located}
 use Rattle.art_arena.proofs.Terms.{located_in, GoesOn, GoesNoFurther, GuidesBelow, IsGuide, TakesFronts, located_where, LandsAt, HasNoFront, AgreesUpTo, MeetsStored, OnWayTo, ReadsLookUp, Arena, Held, leaf_held, inner_held, held_at, cell_of, node_at}
 use Rattle.art_bytes.proofs.Common.{BeginsWith}
 use Rattle.art_arena.proofs.shapes.Guides.{guide_down}
@@ -59,11 +59,17 @@ module _ {K V : Type 0} (bytes : K → List ℕ) (key : List ℕ) (whole : Shape
   abbrev pub IsAgreed : ℕ → List ℕ → Type 0
   IsAgreed compared path = (compared ≤ length path) × AgreesUpTo compared path key
 
+  -- so many of them a look-up has compared before this part, after `depth` of them: all, or those before a prefix that isn't wholly stored
+  abbrev pub IsComparedTo : ℕ → Shape K V → ℕ → ℕ → Type 0
+  IsComparedTo P part depth compared =
+      ((compared ≡ depth) × (compared_on P (look_up_path P (erase whole) key) ≡ depth + compared_on P (look_up_path P (erase part) (drop depth key))))
+      ⊎ ((compared < depth) × (compared_on P (look_up_path P (erase whole) key) ≡ compared))
+
   -- and where so, the way is a front of the key, and what was found stands for the prefixes that the key meets from there on; a look-up has come this far, and so many bytes are compared
   abbrev pub IsOnWayIf : {X : Type 0} → ℕ → Type 0 → Type 0 → Option X → (X → List ℕ) → Name → List Step → ℕ → ℕ → ℕ → Type 0
   IsOnWayIf P so looks found bytes_of current last depth compared count =
       (on : IsOnWay current last depth count) × (so → BeginsWith (path_to on.ctx) key) × (so → IfSome found (λ x. IsGuide key (bytes_of x) (path_to on.ctx) on.part))
-      × (looks → IsLookedUp P on.ctx on.part depth × IsAgreed compared (path_to on.ctx))
+      × (looks → IsLookedUp P on.ctx on.part depth × IsAgreed compared (path_to on.ctx) × IsComparedTo P on.part depth compared)
 
   module _ (P : ℕ) (at : Name → Option (Cell K V)) (root : Name) (tree : IsSubtree bytes P at root [] whole) where
     pub way-start : IsOnWay root [] 0 start
@@ -78,9 +84,9 @@ module _ {K V : Type 0} (bytes : K → List ℕ) (key : List ℕ) (whole : Shape
       reads = omega arith;
     }
 
-    pub way-starts : (so looks : Type 0) → (on : IsOnWay root [] 0 start) × (so → BeginsWith (path_to on.ctx) key) × (so → Unit {0}) × (looks → IsLookedUp P on.ctx on.part 0 × IsAgreed 0 (path_to on.ctx))
+    pub way-starts : (so looks : Type 0) → (on : IsOnWay root [] 0 start) × (so → BeginsWith (path_to on.ctx) key) × (so → Unit {0}) × (looks → IsLookedUp P on.ctx on.part 0 × IsAgreed 0 (path_to on.ctx) × IsComparedTo P on.part 0 0)
     unfolding way-start
-    way-starts so looks = (way-start, λ h. (key, refl), λ h. tt, λ h. (omega arith, (omega arith, refl)))
+    way-starts so looks = (way-start, λ h. (key, refl), λ h. tt, λ h. (omega arith, (omega arith, refl), inl (refl, omega arith)))
 
     module _ (current : Name) (last : List Step) (depth count : ℕ) (way : IsOnWay current last depth count) where
       pub part-held : AreHeld at (cells P way.part)
@@ -128,6 +134,10 @@ module _ {K V : Type 0} (bytes : K → List ℕ) (key : List ℕ) (whole : Shape
             let below : BeginsWith (path_to way.ctx) (bytes k) = leaf-place.under in
             ap (take compared) below.1 ∙ take-append-le compared (path_to way.ctx) below.0 agreed.0 ∙ agreed.1
 
+        pub compared-leaf : (compared : ℕ) → IsComparedTo P way.part depth compared → compared ≡ compared_on P (look_up_path P (erase whole) key)
+        compared-leaf compared (inl (all, total)) = omega (arith, all, total, ap (λ s. compared_on P (look_up_path P (erase s) (drop depth key))) the_leaf)
+        compared-leaf compared (inr (some, total)) = sym total
+
         pub reads-leaf : IsLookedUp P way.ctx way.part depth → ReadsLookUp P key whole start (min (count + 1) (2 ^ 64 - 1))
         reads-leaf long = way.reads ∙ ap (counted start) (omega (arith, long, ap (λ s. length (look_up_path P (erase s) (drop depth key))) the_leaf))
 
@@ -163,12 +173,12 @@ module _ {K V : Type 0} (bytes : K → List ℕ) (key : List ℕ) (whole : Shape
             ≡ suc (length (if begins_with (take P here.prefix) (drop depth key) then look_up_in P (erase_in here.kids) (drop (length here.prefix) (drop depth key)) else []))
         part-path = ap (λ s. length (look_up_path P (erase s) (drop depth key))) here.is
 
-        goes-on : MeetsStored key depth node → length (look_up_path P (erase way.part) (drop depth key)) ≡ suc (length (look_up_in P (erase_in here.kids) (drop (depth + node.header.prefix_len) key)))
+        goes-on : MeetsStored key depth node → look_up_path P (erase way.part) (drop depth key) ≡ inner here.prefix (erase_in here.kids) ∷ look_up_in P (erase_in here.kids) (drop (depth + node.header.prefix_len) key)
         goes-on meets =
-            part-path
-            ∙ ap (λ nodes. suc (length nodes)) (cond-true (begins_with (take P here.prefix) (drop depth key)) (look_up_in P (erase_in here.kids) (drop (length here.prefix) (drop depth key))) []
-            (begins_same (take P here.prefix) (drop depth key) (subst (λ p. BeginsWith p (drop depth key)) stored-is meets)))
-            ∙ ap (λ k. suc (length (look_up_in P (erase_in here.kids) k))) following
+            ap (λ s. look_up_path P (erase s) (drop depth key)) here.is
+            ∙ ap (λ nodes. inner here.prefix (erase_in here.kids) ∷ nodes) (cond-true (begins_with (take P here.prefix) (drop depth key)) (look_up_in P (erase_in here.kids) (drop (length here.prefix) (drop depth key))) []
+            (begins_same (take P here.prefix) (drop depth key) (subst (λ p. BeginsWith p (drop depth key)) stored-is meets))
+            ∙ ap (look_up_in P (erase_in here.kids)) following)
 
         stays : (MeetsStored key depth node → ⊥) ⊎ (look_up_in P (erase_in here.kids) (drop (depth + node.header.prefix_len) key) ≡ []) → length (look_up_path P (erase way.part) (drop depth key)) ≡ 1
         stays (inl differs) =
@@ -206,11 +216,11 @@ module _ {K V : Type 0} (bytes : K → List ℕ) (key : List ℕ) (whole : Shape
               reads = ap (λ c. min (c + 1) (2 ^ 64 - 1)) way.reads ∙ counted_more start (suc (length way.ctx)) (2 ^ 64 - 1);
             }
 
-        -- and so does a look-up
-        way-looks : (b : ℕ) (child : Name) (next : ℕ) (goes : GoesOn key depth node b child next) → MeetsStored key depth node → IsLookedUp P way.ctx way.part depth
-            → IsLookedUp P (way-step b child next goes).ctx (way-step b child next goes).part next
+        -- what a look-up reads from here is this node, and what it reads from the child
+        looks-on : (b : ℕ) (child : Name) (next : ℕ) (goes : GoesOn key depth node b child next) → MeetsStored key depth node
+            → look_up_path P (erase way.part) (drop depth key) ≡ inner here.prefix (erase_in here.kids) ∷ look_up_path P (erase (way-step b child next goes).part) (drop next key)
         unfolding way-step
-        way-looks b child next goes meets long =
+        looks-on b child next goes meets =
             let h = here in
             let sd = way-down b child next goes in
             let place = place_below bytes whole way.ctx current h.prefix h.kids sd.before b sd.here sd.after h.place sd.kids_are in
@@ -218,20 +228,54 @@ module _ {K V : Type 0} (bytes : K → List ℕ) (key : List ℕ) (whole : Shape
             dropped (depth + node.header.prefix_len) key (omega (arith, goes.within, goes.next_is)) ∙ ap₂ (λ c n. c ∷ drop n key) goes.byte_is (sym goes.next_is) in
             let below : look_up_in P (erase_in h.kids) (drop (depth + node.header.prefix_len) key) ≡ look_up_path P (erase sd.here) (drop next key) =
             ap₂ (λ f k. look_up_in P (erase_in f) k) sd.kids_are rest ∙ look_up-step bytes key P sd.before b sd.here sd.after (drop next key) place.around.2 in
-            omega (arith, long, goes-on meets, ap length below)
+            goes-on meets ∙ ap (λ nodes. inner here.prefix (erase_in here.kids) ∷ nodes) below
 
-        -- and so many bytes are compared
+        -- and so does a look-up
+        way-looks : (b : ℕ) (child : Name) (next : ℕ) (goes : GoesOn key depth node b child next) → MeetsStored key depth node → IsLookedUp P way.ctx way.part depth
+            → IsLookedUp P (way-step b child next goes).ctx (way-step b child next goes).part next
+        unfolding way-step
+        way-looks b child next goes meets long = omega (arith, long, ap length (looks-on b child next goes meets))
+
+        -- which compares so many bytes in all
+        way-compares : (b : ℕ) (child : Name) (next : ℕ) (goes : GoesOn key depth node b child next) → MeetsStored key depth node → (compared more : ℕ) → IsComparedAfter P node compared depth next more
+            → IsComparedTo P way.part depth compared → IsComparedTo P (way-step b child next goes).part next more
+        way-compares b child next goes meets compared more after before =
+            let on = ap (compared_on P) (looks-on b child next goes meets) in
+            let below = compared_on P (look_up_path P (erase (way-step b child next goes).part) (drop next key)) in
+            let len = ap (λ n. n.header.prefix_len) here.node_is in
+            elim after [
+              | inl (all, stored, is) ↦
+                  elim before [
+                    | inl (same, total) ↦
+                        let whole_on = cond-false (nat_lt P (length here.prefix)) 0 (length here.prefix + 1 + below) (le-ltb P (length here.prefix) (omega (arith, stored, len))) in
+                        inl (is, omega (arith, total, on, whole_on, goes.next_is, len))
+                    | inr (fewer, total) ↦ absurd (omega (arith, all, fewer))
+                  ]
+              | inr (cut, same) ↦
+                  elim before [
+                    | inl (all, total) ↦
+                        elim cut [
+                          | inl apart ↦ absurd (apart all)
+                          | inr longer ↦
+                              let none = cond-true (nat_lt P (length here.prefix)) 0 (length here.prefix + 1 + below) (lt-ltb P (length here.prefix) (omega (arith, longer, len))) in
+                              inr (omega (arith, same, all, goes.next_is), omega (arith, total, on, none, all, same))
+                        ]
+                    | inr (fewer, total) ↦ inr (omega (arith, same, fewer, goes.next_is), omega (arith, total, same))
+                  ]
+            ]
+
+        -- and they are the same
         way-agrees : (b : ℕ) (child : Name) (next : ℕ) (goes : GoesOn key depth node b child next) → MeetsStored key depth node → (compared more : ℕ) → IsComparedAfter P node compared depth next more
             → IsAgreed compared (path_to way.ctx) → IsAgreed more (path_to (way-step b child next goes).ctx)
         unfolding way-step
-        way-agrees b child next goes meets compared more (inl same) agreed =
+        way-agrees b child next goes meets compared more (inr (cut, same)) agreed =
             let longer = length-append path (b ∷ []) in
             let long = length-append (path_to way.ctx) here.prefix in
             subst (λ n. IsAgreed n (path ++ b ∷ [])) (sym same) (
               omega (arith, agreed.0, longer, long),
               take-append-le compared path (b ∷ []) (omega (arith, agreed.0, long)) ∙ take-append-le compared (path_to way.ctx) here.prefix agreed.0 ∙ agreed.1,
             )
-        way-agrees b child next goes meets compared more (inr (all, whole, is)) agreed =
+        way-agrees b child next goes meets compared more (inl (all, whole, is)) agreed =
             let before : path_to way.ctx ≡ take depth key = sym (take_all compared (path_to way.ctx) (omega (arith, all, way.depth_is))) ∙ agreed.1 ∙ ap (λ n. take n key) all in
             let stored : node.header.stored ≡ here.prefix = stored-is ∙ take_all P here.prefix (omega (arith, whole, ap (λ n. n.header.prefix_len) here.node_is)) in
             let passed : drop depth key ≡ here.prefix ++ meets.0 = meets.1 ∙ ap (λ p. p ++ meets.0) stored in
@@ -267,13 +311,13 @@ module _ {K V : Type 0} (bytes : K → List ℕ) (key : List ℕ) (whole : Shape
         pub way-steps : {X : Type 0} (so looks : Type 0) (found : Option X) (bytes_of : X → List ℕ) (b : ℕ) (child : Name) (next : ℕ) → GoesOn key depth node b child next
             → (so → BeginsWith ((path_to way.ctx ++ prefix_of way.part) ++ b ∷ []) key) → (so → IfSome found (λ x. IsGuide key (bytes_of x) (path_to way.ctx) way.part))
             → (looks → MeetsStored key depth node) → (compared more : ℕ) → IsComparedAfter P node compared depth next more
-            → (looks → IsLookedUp P way.ctx way.part depth × IsAgreed compared (path_to way.ctx))
+            → (looks → IsLookedUp P way.ctx way.part depth × IsAgreed compared (path_to way.ctx) × IsComparedTo P way.part depth compared)
             → IsOnWayIf P so looks found bytes_of child (take 2 (record { node = current; byte = b } ∷ last)) next more (min (count + 1) (2 ^ 64 - 1))
         way-steps so looks found bytes_of b child next goes begins guided meets compared more after come = (
           way-step b child next goes,
           λ h. way-front b child next goes (passes b (begins h)),
           λ h. some_weaker found _ _ (λ x. way-guides b child next goes (passes b (begins h)) (bytes_of x)) (guided h),
-          λ h. (way-looks b child next goes (meets h) (come h).0, way-agrees b child next goes (meets h) compared more after (come h).1),
+          λ h. (way-looks b child next goes (meets h) (come h).0, way-agrees b child next goes (meets h) compared more after (come h).1, way-compares b child next goes (meets h) compared more after (come h).2),
         )
 
         -- where no leaf below can be meant, and a look-up reads no further node, it ends

@@ -1,5 +1,5 @@
 -- A step of a descent, from an inner node that was read to one of its children.
-use Rattle.std.specs.Prelude.{◌≡◌, ℕ, ◌+◌, ◌-◌, ◌^◌, ◌≤◌, ◌⊎◌, ◌||◌, List, [], ◌∷◌, ◌++◌, drop}
+use Rattle.std.specs.Prelude.{◌≡◌, ◌≢◌, ℕ, ◌+◌, ◌-◌, ◌^◌, ◌<◌, ◌≤◌, ◌⊎◌, ◌||◌, List, [], ◌∷◌, ◌++◌, drop}
 use Rattle.std.specs.Prelude.{Option, Some, None, is_some, IfSome, MatchOption}
 use Rattle.std.specs.Borrow.{Bor}
 use Rattle.art_bytes.specs.Keys.{BeginsWith}
@@ -26,10 +26,11 @@ TakesStep passing key depth node (Some step) =
     GoesOn key depth node step.byte step.child step.depth × (passing ≡ ByStored → MeetsStored key depth node)
 
 -- After a step from `depth` bytes of the key to `next` so many are compared, of which `compared` were before it. It is
--- all where all were, and the node's prefix is wholly stored.
+-- all where all were, and the node's prefix is wholly stored. Else it is no more than before.
 abbrev pub IsComparedAfter : ℕ → InnerNode → ℕ → ℕ → ℕ → ℕ → Type 0
 IsComparedAfter P node compared depth next more =
-    (more ≡ compared) ⊎ ((compared ≡ depth) × (node.header.prefix_len ≤ P) × (more ≡ next))
+    ((compared ≡ depth) × (node.header.prefix_len ≤ P) × (more ≡ next))
+    ⊎ (((compared ≢ depth) ⊎ (P < node.header.prefix_len)) × (more ≡ compared))
 
 -- a guide, if there is one, stands for this part and what is below it
 abbrev pub IsGuided : {K V : Type 0} → (K → List ℕ) → List ℕ → List ℕ → Shape K V → Option (Bor (LeafNode K V)) → Type 0

@@ -67,6 +67,14 @@ module _ {X : Type 0} where
   guide_reads P [] = 0
   guide_reads P ((t, k) ∷ way) = if is_cut P t then length (path_to_guide t k) - 1 else guide_reads P way
 
+  -- How many bytes of a key a look-up compares as it goes over these nodes to a leaf: each prefix and the byte after
+  -- it, up to the first prefix that isn't wholly stored.
+  abbrev pub compared_on : ℕ → List (Tree X) → ℕ
+  compared_on P [] = 0
+  compared_on P (leaf x ∷ nodes) = 0
+  compared_on P (inner prefix children ∷ nodes) =
+      if nat_lt P (length prefix) then 0 else length prefix + 1 + compared_on P nodes
+
   -- what a descent by all bytes reads: each node of the key's way, and once a guide, if a prefix isn't wholly stored
   abbrev pub descent_reads : ℕ → Tree X → List ℕ → ℕ
   descent_reads P t k = length (way_of t k) + guide_reads P (way_of t k)

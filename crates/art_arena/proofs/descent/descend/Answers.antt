@@ -4,7 +4,7 @@ use Rattle.art_arena.proofs.Terms.{held_at, node_at, path_to, IsAtDepth, IsGuide
 use Rattle.art_arena.proofs.shapes.Guides.{guide_any}
 use Rattle.art_arena.proofs.shapes.Passing.{leaf-stops}
 use Rattle.art_arena.proofs.shapes.Reads.{part_within, some_weaker}
-use Rattle.art_arena.proofs.shapes.Walking.{IsOnWay, way-starts, way-there, way-subtree, on-way-to, way-steps, way-ends, way-lands, agrees-leaf, reads-leaf, lent-leaf, lent-inner, node-there}
+use Rattle.art_arena.proofs.shapes.Walking.{IsOnWay, way-starts, way-there, way-subtree, on-way-to, way-steps, way-ends, way-lands, agrees-leaf, compared-leaf, reads-leaf, lent-leaf, lent-inner, node-there}
 use Rattle.art_arena.proofs.descent.descend.Goals as goal
 use Rattle.art_arena.specs.declared.descent.Passing.TheVariants.{ByBytes}
 use Rattle.art_arena.proofs.shapes.WayEnds.{leaf_cost, way-begins, way-ended, way-on}
@@ -40,6 +40,13 @@ returns-in-Ok-clause-agrees g c = λ mode.
     let there = lent-leaf c.args.reader.now.arena.now c.down.reader.arena.now c.down.current (held_of c.visit.result) c.in-Ok.leaf.now c.down.invariant.kept c.visit.ensures.value c.in-Ok.ensures in
     agrees-leaf g.K.AsBytes.bytes c.args.key.now c.requires.tree.0 c.args.reader.now.count g.row.PREFIX_LEN (node_at c.args.reader.now.arena.now) c.args.root c.requires.tree.1
     c.down.current c.down.search c.down.depth way.0 way.1.0 c.in-Ok.leaf.now.key c.in-Ok.leaf.now.value there c.down.compared (way.1.3 mode).1
+
+pub returns-in-Ok-clause-compared : goal.returns-in-Ok-clause-compared
+returns-in-Ok-clause-compared g c = λ mode s tree.
+    let way = c.down.invariant.way s tree in
+    let there = lent-leaf c.args.reader.now.arena.now c.down.reader.arena.now c.down.current (held_of c.visit.result) c.in-Ok.leaf.now c.down.invariant.kept c.visit.ensures.value c.in-Ok.ensures in
+    compared-leaf g.K.AsBytes.bytes c.args.key.now s c.args.reader.now.count g.row.PREFIX_LEN (node_at c.args.reader.now.arena.now) c.args.root tree
+    c.down.current c.down.search c.down.depth way.0 way.1.0 c.in-Ok.leaf.now.key c.in-Ok.leaf.now.value there c.down.compared (way.1.3 mode).2
 
 pub returns-in-Ok-clause-counts : goal.returns-in-Ok-clause-counts
 returns-in-Ok-clause-counts g c = λ mode s tree.
