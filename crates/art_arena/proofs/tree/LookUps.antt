@@ -1,5 +1,5 @@
 -- What a look-up reads of a key's path.
-use Rattle.std.proofs.Common.{◌≡◌, ◌≢◌, ℕ, zero, suc, ◌+◌, ◌≤◌, List, [], ◌∷◌, ◌++◌, length, take, drop, drop_at, refl, sym, ap, ap₂, subst, ◌∙◌, inl, inr, append_assoc, arith, eqb, eq-eqb, ne_eqb}
+use Rattle.std.proofs.Common.{◌≡◌, ℕ, zero, suc, ◌≤◌, List, [], ◌∷◌, ◌++◌, length, take, drop, drop_at, refl, sym, ap, ap₂, subst, ◌∙◌, inl, inr, append_assoc, arith, eqb, eq-eqb, ne_eqb}
 use Rattle.std.proofs.lemmas.List.{take-append-drop}
 use Rattle.std.proofs.lemmas.Bool.{cond-true, cond-false, cond_both, cases_eq}
 use Rattle.art_bytes.proofs.Common.{BeginsWith, begins_from_step}
