@@ -44,9 +44,12 @@ pub trait Value: Drop + Sized {
 
     ghost text_len_of: { Self.Item → ℕ };
 
+    /// Returns the bytes that stand after those of the key: none for a word, and all of a byte string.
     fn text(&self) -> &[u8]
         ensures { result.now ≡ text_of self.now };
 
+    /// Returns the item of the pair of this key: the length of the key in bytes, and the word, or the length of the
+    /// value in bytes.
     fn item(&self, key: &[u8]) -> Self::Item
         ensures { result ≡ item_of key.now self.now };
 

@@ -17,6 +17,7 @@ pub trait Kind<K: AsBytes> {
     /// Which of the two lists have these keys.
     ghost of_lists: { Wanted };
 
+    /// Returns whether it gives the keys that the first set has alone, those of both, and those of the second alone.
     fn wanted() -> Wanted
         ensures { result ≡ of_lists };
 
