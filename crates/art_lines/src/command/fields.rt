@@ -58,6 +58,7 @@ impl Fields {
         }
     }
 
+    /// Returns the tenant that was read last, or 0 where none was yet.
     #[inline]
     pub fn tenant(&self) -> u32
         ensures { result ≡ tenant_in_place self.now }
@@ -66,6 +67,7 @@ impl Fields {
         u32::from_be_bytes([full[0], full[1], full[2], full[3]])
     }
 
+    /// Returns the key that was read last, without its tenant: 2,045 bytes at most, or none where none was read yet.
     #[inline]
     pub fn key(&self) -> &[u8]
         ensures value { result.now ≡ key_in_place self.now }
@@ -84,6 +86,7 @@ impl Fields {
         split_of(self.full_key.as_slice())
     }
 
+    /// Returns the value that was read last: 2,045 bytes at most, or none where none was read yet.
     #[inline]
     pub fn value(&self) -> &[u8]
         ensures value { result.now ≡ value_in_place self.now }
@@ -129,6 +132,7 @@ impl Fields {
         }
     }
 
+    /// Returns the number that was read last, or the lower one of two, or 0 where none was read yet.
     #[inline]
     pub fn number(&self) -> i64
         ensures { result ≡ number_in_place self.now }
