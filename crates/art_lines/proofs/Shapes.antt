@@ -2,11 +2,21 @@
 use Rattle.std.proofs.Common.{◌≡◌, ℕ, List, [], ◌∷◌, refl, ap, sym, subst, ◌∙◌, true, false, Bool, Some, None, Option, inl, inr}
 use Rattle.std.specs.Prelude.{option_copied, option_map}
 use Rattle.std.specs.Borrow.{Bor}
-use Rattle.art_lines.proofs.Terms.{Fields, Shape, Nothing, fields_of, one_in, two_in, tenant_alone_in, fields_in, command_by, ◌>>=◌, fields_after, HasNoFirst, IsRead, FieldsFor, Row, row, shape_in, made_in, row_of_word, shape_of, fields_in_place, command_of_row, command_with}
+use Rattle.art_lines.proofs.Terms.{AllInPlace, Fields, Shape, Nothing, fields_of, one_in, two_in, tenant_alone_in, fields_in, command_by, ◌>>=◌, fields_after, HasNoFirst, IsRead, FieldsFor, Row, row, shape_in, made_in, row_of_word, shape_of, fields_in_place, command_of_row, command_with}
 use Rattle.art_lines.specs.declared.command.word.Word.{Word}
 use Rattle.art_lines.specs.Reading.{tenant_in}
 use Rattle.art_lines.proofs.LastField.{ReadsOneField, one_or_more, no_tenant}
 use Rattle.art_lines.proofs.Parsing.{fields_some}
+
+-- what is in place, field by field
+pub tenant_kept : {a b : AllInPlace} → a ≡ b → a.tenant ≡ b.tenant
+tenant_kept = ap (λ (f : AllInPlace). f.tenant)
+
+pub key_kept : {a b : AllInPlace} → a ≡ b → a.key ≡ b.key
+key_kept = ap (λ (f : AllInPlace). f.key)
+
+pub number_kept : {a b : AllInPlace} → a ≡ b → a.number ≡ b.number
+number_kept = ap (λ (f : AllInPlace). f.number)
 
 -- the parts of each shape, from those of its fields
 abbrev pub one_from : {A : Type 0} → Option ℕ → Option A → Option (ℕ × A)

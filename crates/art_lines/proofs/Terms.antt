@@ -5,7 +5,7 @@ pub use Rattle.art_lines.specs.Gathered.{IsHead, IsPartTaken, Puts, head_of}
 pub use Rattle.art_lines.specs.InPlace.{HasNoFirst, IsFirst, IsRead, fields_after}
 pub use Rattle.art_lines.specs.Keys.{full_key}
 pub use Rattle.art_lines.specs.Lines.{lines_of, lines_so_far, pieces_of}
-pub use Rattle.art_lines.specs.Parsed.{asks_all, fields_in_place, bound_in_place, changes, command_of_row, command_with, drops, key_in_place, looks_up, meaning, number_in_place, tenant_in_place, upper_in_place, value_in_place}
+pub use Rattle.art_lines.specs.Parsed.{AllInPlace, all_in_place, asks_all, fields_in_place, bound_in_place, changes, command_of_row, command_with, drops, key_in_place, looks_up, meaning, number_in_place, tenant_in_place, upper_in_place, value_in_place}
 pub use Rattle.art_lines.specs.Reading.{fields_in, command_by, command_in, negated, nothing_in, one_in, some_bytes, tenant_alone_in, two_in, ◌>>=◌}
 pub use Rattle.art_lines.specs.ReplyWords.{end_words, found_or, listed, number_words, numbers_listed, pair_words, put_reply}
 pub use Rattle.art_lines.specs.Table.{FieldsFor, Row, all_words, called, found_among, made_by, made_in, row, row_of_word, shape_in, shape_of, with_shape, word_in}

@@ -52,6 +52,25 @@ number_in_place f = f.number
 abbrev pub bound_in_place : Fields → ℤ
 bound_in_place f = f.bound
 
+-- all that was read in place
+pub record AllInPlace : Type 0 where
+  pub tenant : ℕ
+  pub key : List ℕ
+  pub upper : List ℕ
+  pub value : List ℕ
+  pub number : ℤ
+  pub bound : ℤ
+
+abbrev pub all_in_place : Fields → AllInPlace
+all_in_place f = record {
+  tenant = tenant_in_place f;
+  key = key_in_place f;
+  upper = upper_in_place f;
+  value = value_in_place f;
+  number = number_in_place f;
+  bound = bound_in_place f;
+}
+
 -- what was read in place of a shape
 abbrev pub fields_in_place : (shape : Shape) → Fields → FieldsFor shape
 fields_in_place Key f = (tenant_in_place f, key_in_place f)

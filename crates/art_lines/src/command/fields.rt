@@ -26,7 +26,7 @@ const FULL_KEY: usize = 2049;
 pub const NUMBER_KEY: usize = 12;
 
 /// What stands after a word. Fields are decoded where they stay, and each keeps what it had until the next of its kind
-/// is read.
+/// is read. A field that is refused may hold anything after it, and all others stay.
 ///
 /// A key stands after the four bytes of its tenant, the highest first, so the full key is there without a copy. So does
 /// the upper one of two keys, whose buffer is made when the first one is read: no other line has to clear it.
@@ -43,7 +43,7 @@ pub struct Fields {
 
 impl Fields {
     ghost use Rattle.art_lines.specs.Parsed.{tenant_in_place, key_in_place, upper_in_place, value_in_place};
-    ghost use Rattle.art_lines.specs.Parsed.{number_in_place, bound_in_place};
+    ghost use Rattle.art_lines.specs.Parsed.{number_in_place, bound_in_place, all_in_place};
 
     /// Room for fields. What stands in it does not matter.
     pub fn new() -> Fields {
@@ -170,6 +170,7 @@ impl Fields {
     #[inline(always)]
     pub fn read_tenant(&mut self, field: &[u8]) -> bool
         ensures read { IsRead result (tenant_in_place self.new) (tenant_in field.now) }
+        ensures kept { all_in_place self.new ≡ record (all_in_place self.old) { tenant = tenant_in_place self.new } }
         ensures some { result ≡ true → 0 < length field.now }
     {
         let Some(tenant) = parse_tenant(field) else {
@@ -182,7 +183,7 @@ impl Fields {
     /// Sets the tenant.
     #[inline(always)]
     pub(crate) fn set_tenant(&mut self, tenant: u32)
-        ensures { tenant_in_place self.new ≡ tenant }
+        ensures { all_in_place self.new ≡ record (all_in_place self.old) { tenant = tenant } }
     {
         set_front(&mut self.full_key, tenant);
         if let Some(upper) = &mut self.upper {
@@ -193,8 +194,7 @@ impl Fields {
     /// Sets the number.
     #[inline(always)]
     pub(crate) fn set_number(&mut self, number: i64)
-        ensures number { number_in_place self.new ≡ number }
-        ensures tenant { tenant_in_place self.new ≡ tenant_in_place self.old }
+        ensures { all_in_place self.new ≡ record (all_in_place self.old) { number = number } }
     {
         self.number = number;
     }
@@ -204,7 +204,7 @@ impl Fields {
     pub fn read_key(&mut self, field: &[u8]) -> bool
         requires { length field.now ≤ 4090 }
         ensures read { IsRead result (key_in_place self.new) (bytes_in field.now) }
-        ensures tenant { tenant_in_place self.new ≡ tenant_in_place self.old }
+        ensures kept { all_in_place self.new ≡ record (all_in_place self.old) { key = key_in_place self.new } }
     {
         decode_bytes(field, &mut self.full_key, TENANT_LEN)
     }
@@ -213,9 +213,7 @@ impl Fields {
     pub fn read_value(&mut self, field: &[u8]) -> bool
         requires { length field.now ≤ 4090 }
         ensures read { IsRead result (value_in_place self.new) (bytes_in field.now) }
-        ensures tenant { tenant_in_place self.new ≡ tenant_in_place self.old }
-        ensures key { key_in_place self.new ≡ key_in_place self.old }
-        ensures number { number_in_place self.new ≡ number_in_place self.old }
+        ensures kept { all_in_place self.new ≡ record (all_in_place self.old) { value = value_in_place self.new } }
     {
         decode_bytes(field, &mut self.value, 0)
     }
@@ -233,8 +231,7 @@ impl Fields {
     pub fn read_upper(&mut self, field: &[u8]) -> bool
         requires { length field.now ≤ 4090 }
         ensures read { IsRead result (upper_in_place self.new) (bytes_in field.now) }
-        ensures tenant { tenant_in_place self.new ≡ tenant_in_place self.old }
-        ensures key { key_in_place self.new ≡ key_in_place self.old }
+        ensures kept { all_in_place self.new ≡ record (all_in_place self.old) { upper = upper_in_place self.new } }
     {
         if let Some(upper) = &mut self.upper {
             return decode_bytes(field, upper, TENANT_LEN);
@@ -248,7 +245,7 @@ impl Fields {
     /// Reads the number. It returns false if the field is read as none.
     pub fn read_number(&mut self, field: &[u8]) -> bool
         ensures read { IsRead result (number_in_place self.new) (number_in field.now) }
-        ensures tenant { tenant_in_place self.new ≡ tenant_in_place self.old }
+        ensures kept { all_in_place self.new ≡ record (all_in_place self.old) { number = number_in_place self.new } }
     {
         let Some(number) = parse_number(field) else {
             return false;
@@ -260,8 +257,7 @@ impl Fields {
     /// Reads the upper one of two numbers. It returns false if the field is read as none.
     pub fn read_bound(&mut self, field: &[u8]) -> bool
         ensures read { IsRead result (bound_in_place self.new) (number_in field.now) }
-        ensures tenant { tenant_in_place self.new ≡ tenant_in_place self.old }
-        ensures number { number_in_place self.new ≡ number_in_place self.old }
+        ensures kept { all_in_place self.new ≡ record (all_in_place self.old) { bound = bound_in_place self.new } }
     {
         let Some(bound) = parse_number(field) else {
             return false;

@@ -2,7 +2,7 @@
 ghost use Rattle.std.specs.Prelude.{◌≡◌, ◌+◌, ◌≤◌, length, take, drop, true};
 ghost use Rattle.art_lines.specs.Parsed.{is_look_up, looks_up, meaning};
 ghost use Rattle.art_lines.specs.Parsed.{tenant_in_place, key_in_place, upper_in_place};
-ghost use Rattle.art_lines.specs.Parsed.{number_in_place, bound_in_place};
+ghost use Rattle.art_lines.specs.Parsed.{number_in_place, bound_in_place, all_in_place};
 
 use super::{FIELD, Fields, TENANT_LEN, room_after};
 use crate::command::Command;
@@ -58,8 +58,7 @@ impl Fields {
 
     /// Sets the tenant, and the key after it.
     fn set_tenant_and_key(&mut self, tenant: u32, key: &ArrayVec<u8, FIELD>)
-        ensures tenant { tenant_in_place self.new ≡ tenant }
-        ensures key { key_in_place self.new ≡ key.now.items }
+        ensures { all_in_place self.new ≡ record (all_in_place self.old) { tenant = tenant; key = key.now.items } }
     {
         self.set_tenant(tenant);
         set_bytes(&mut self.full_key, key.as_slice());
@@ -67,9 +66,7 @@ impl Fields {
 
     /// Sets the upper one of two keys.
     fn set_upper(&mut self, upper: &ArrayVec<u8, FIELD>)
-        ensures upper { upper_in_place self.new ≡ upper.now.items }
-        ensures tenant { tenant_in_place self.new ≡ tenant_in_place self.old }
-        ensures key { key_in_place self.new ≡ key_in_place self.old }
+        ensures { all_in_place self.new ≡ record (all_in_place self.old) { upper = upper.now.items } }
     {
         if let Some(held) = &mut self.upper {
             set_bytes(held, upper.as_slice());

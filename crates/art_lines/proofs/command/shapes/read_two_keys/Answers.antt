@@ -2,7 +2,7 @@ use Rattle.std.proofs.Common.{◌∷◌, refl, ap, ◌∙◌}
 use Rattle.art_lines.proofs.Terms.{tenant_in_place, key_in_place, upper_in_place}
 use Rattle.art_lines.specs.Reading.{bytes_in}
 use Rattle.art_lines.proofs.LastField.{no_bytes}
-use Rattle.art_lines.proofs.Shapes.{none_first_of_two, one_second, middle_not_read, two_read}
+use Rattle.art_lines.proofs.Shapes.{tenant_kept, key_kept, none_first_of_two, one_second, middle_not_read, two_read}
 use Rattle.art_lines.proofs.command.shapes.read_two_keys.Goals as goal
 
 pub returns-in_default : goal.returns-in_default
@@ -25,4 +25,4 @@ returns c =
     two_read c.args.text.now first.field c.in-Some-split_once.low.now c.in-Some-split_once.high.now (first.parts ∙ ap (λ l. first.field ∷ l) second) bytes_in bytes_in no_bytes
     _ c.read_key.result c.read_upper.result c.in-Some.tenant (tenant_in_place c.read_upper.new.self) (key_in_place c.read_upper.new.self) (key_in_place c.read_key.new.self) (upper_in_place c.read_upper.new.self)
     first.meant refl c.read_key.ensures.read c.if-not-read_key.false
-    (c.read_upper.ensures.tenant ∙ c.read_key.ensures.tenant ∙ c.set_tenant.ensures) c.read_upper.ensures.key c.read_upper.ensures.read
+    (tenant_kept c.read_upper.ensures.kept ∙ tenant_kept c.read_key.ensures.kept ∙ tenant_kept c.set_tenant.ensures) (key_kept c.read_upper.ensures.kept) c.read_upper.ensures.read
