@@ -3,9 +3,14 @@ use Rattle.std.proofs.Common.{◌≡◌, ℕ, Bool, true, false, List, [], ◌�
 use Rattle.art_arena.proofs.Common.{Links, first_slot, last_slot, IsBeside, LeafAt, ends_with-first, last_slot-append, AreLinked-same}
 use Rattle.art_operations.specs.declared.insert.into_existing.Neighbours.{Neighbours}
 use Rattle.art_operations.specs.declared.insert.into_existing.Neighbours.TheVariants.{One, Both}
-use Rattle.art_operations.proofs.Terms.{IsBetween, AreNeighbours}
+use Rattle.art_operations.proofs.Terms.{IsBetween, IsEnd, AreNeighbours}
 
 module _ {K V : Type 0} where
+  -- a leaf alone is the first and the last
+  pub end_of_one : (is_first : Bool) (l : LeafAt K V) → IsEnd is_first l.slot (l ∷ [])
+  end_of_one true l = refl
+  end_of_one false l = refl
+
   -- the list after the place begins with the leaf before which the new one goes
   pub record GoesBefore (slot : ℕ) (ys : List (LeafAt K V)) : Type 0 where
     pub first : LeafAt K V

@@ -125,6 +125,7 @@ fn point_at<K, V, const PREFIX_LEN: usize>(
 ///
 /// Fails if the node above it becomes one of the next smaller kind and there is no memory for that one. Nothing changes
 /// then.
+#[inline(always)]
 pub(crate) fn detach<K: AsBytes, V, const PREFIX_LEN: usize>(
     arena: &mut NodeArena<K, V, PREFIX_LEN>,
     root: OpaqueNodePtr,

@@ -24,10 +24,10 @@ ghost use Rattle.art_operations.specs.Whichever.{HasSome, HasTreeWhere, OfEach, 
 use crate::insert::leaf::{store_leaf, take_back};
 use crate::insert::point::InsertPoint;
 use crate::insert::result::{InsertParentNodeChange, InsertRefused, InsertResult};
-use crate::insert::split::link_between;
+use crate::insert::split::{leaf_at_end, link_between};
 use crate::parent::{last_step, put_below};
 use art_arena::links::insert_between;
-use art_arena::{LeafPtr, NodeArena, NodeEdit, first_leaf, inner_node_ptr, last_leaf};
+use art_arena::{LeafPtr, NodeArena, NodeEdit, inner_node_ptr};
 use art_bytes::AsBytes;
 use art_nodes::{KindLeaf, OpaqueNodePtr, assume_proved};
 use std::alloc::AllocError;
@@ -138,15 +138,15 @@ fn neighbours_between<K: AsBytes, V, const PREFIX_LEN: usize>(
 {
     if !previous.is::<KindLeaf>() {
         return Neighbours::One(Neighbour {
-            leaf: first_leaf(arena, next),
+            leaf: leaf_at_end(arena, next, true),
             is_before: true,
         });
     }
-    let last = last_leaf(arena, previous);
+    let last = leaf_at_end(arena, previous, false);
     if next.is::<KindLeaf>() {
         return Neighbours::Both {
             previous: last,
-            next: first_leaf(arena, next),
+            next: leaf_at_end(arena, next, true),
         };
     }
     Neighbours::One(Neighbour {
@@ -175,11 +175,11 @@ fn neighbours_at<K: AsBytes, V, const PREFIX_LEN: usize>(
     match (before, following) {
         (Some(previous), Some(next)) => neighbours_between(arena, previous.1, next.1),
         (None, Some(next)) => Neighbours::One(Neighbour {
-            leaf: first_leaf(arena, next.1),
+            leaf: leaf_at_end(arena, next.1, true),
             is_before: true,
         }),
         (Some(previous), None) => Neighbours::One(Neighbour {
-            leaf: last_leaf(arena, previous.1),
+            leaf: leaf_at_end(arena, previous.1, false),
             is_before: false,
         }),
         (None, None) => {

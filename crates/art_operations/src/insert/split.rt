@@ -128,9 +128,10 @@ fn store_nodes<K: AsBytes, V, const PREFIX_LEN: usize>(
     }
 }
 
-// The leaf at one end of a part: the first, or else the last.
+/// Returns the leaf at one end of a part: the first, or else the last. Where the part is a leaf, its name tells, and no
+/// node is read.
 #[inline(always)]
-fn leaf_at_end<K: AsBytes, V, const PREFIX_LEN: usize>(
+pub(crate) fn leaf_at_end<K: AsBytes, V, const PREFIX_LEN: usize>(
     arena: &NodeArena<K, V, PREFIX_LEN>,
     node: OpaqueNodePtr,
     is_first: bool,
@@ -138,10 +139,15 @@ fn leaf_at_end<K: AsBytes, V, const PREFIX_LEN: usize>(
     requires { HasSome (StoresBelow K.bytes PREFIX_LEN arena.now node) }
     ensures { OfEach (StoresBelow K.bytes PREFIX_LEN arena.now node) (λ path s. IsEnd is_first result (leaves s)) }
 {
-    if is_first {
-        first_leaf(arena, node)
-    } else {
-        last_leaf(arena, node)
+    match node.cast::<KindLeaf>() {
+        Some(leaf) => leaf,
+        None => {
+            if is_first {
+                first_leaf(arena, node)
+            } else {
+                last_leaf(arena, node)
+            }
+        }
     }
 }
 

@@ -16,13 +16,13 @@ neighbours_between-requires g c =
     let n = next _ _ _ _ _ _ _ _ _ _ awaits _ c.inner-inner.ensures.value _ c.child_after-following.ensures c.in-Some-Some.next c.in-Some-Some.is-1 in
     (omega arith, ((p.path, p.part, p.subtree), (n.path, n.part, n.subtree)))
 
-pub last_leaf-requires : goal.last_leaf-requires
-last_leaf-requires g c =
+pub leaf_at_end-requires : goal.leaf_at_end-requires
+leaf_at_end-requires g c =
     let p = previous _ _ _ _ _ _ _ _ _ _ c.requires.6 _ c.inner-inner.ensures.value _ c.child_before-before.ensures c.in-Some-None.previous c.in-Some-None.is-0 in
     (omega arith, (p.path, p.part, p.subtree))
 
-pub first_leaf-requires : goal.first_leaf-requires
-first_leaf-requires g c =
+pub leaf_at_end-requires-in-None-Some : goal.leaf_at_end-requires-in-None-Some
+leaf_at_end-requires-in-None-Some g c =
     let n = next _ _ _ _ _ _ _ _ _ _ c.requires.6 _ c.inner-inner.ensures.value _ c.child_after-following.ensures c.in-None-Some.next c.in-None-Some.is-1 in
     (omega arith, (n.path, n.part, n.subtree))
 
@@ -40,9 +40,9 @@ returns-in-Some-Some g c = λ root leaf f outer l rest awaits.
 pub returns-in-Some-None : goal.returns-in-Some-None
 returns-in-Some-None g c = λ root leaf f outer l rest awaits.
     let p = previous _ _ _ _ _ _ _ _ _ _ awaits _ c.inner-inner.ensures.value _ c.child_before-before.ensures c.in-Some-None.previous c.in-Some-None.is-0 in
-    p.last _ (c.last_leaf.ensures p.path p.part p.subtree)
+    p.last _ (c.leaf_at_end.ensures p.path p.part p.subtree)
 
 pub returns-in-None-Some : goal.returns-in-None-Some
 returns-in-None-Some g c = λ root leaf f outer l rest awaits.
     let n = next _ _ _ _ _ _ _ _ _ _ awaits _ c.inner-inner.ensures.value _ c.child_after-following.ensures c.in-None-Some.next c.in-None-Some.is-1 in
-    n.first _ (c.first_leaf.ensures n.path n.part n.subtree)
+    n.first _ (c.leaf_at_end-in-None-Some.ensures n.path n.part n.subtree)
