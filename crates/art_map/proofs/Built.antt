@@ -4,8 +4,8 @@ use Rattle.std.specs.List.{AllByRecursion}
 use Rattle.std.specs.Prelude.{IfErr, OnOk}
 use Rattle.art_arena.proofs.Common.{Arena, Held, cell_of, inner_held, leaf_held, key_of, AscendsByKey, all_append}
 use Rattle.art_nodes.proofs.Common.{Name}
-use Rattle.art_operations.proofs.Common.{Builds, BuildsTo, HasKey, HasLeavesOf, HasPairs, IsBlocked, with_pair_put, IsEmptySpine, fresh}
-use Rattle.art_operations.specs.Builders.{IsPushRefused}
+use Rattle.art_operations.proofs.Common.{Builds, BuildsTo, HasKey, HasLeavesOf, HasPairs, IsBlocked, with_pair_put, IsEmptySpine, before, fresh}
+use Rattle.art_operations.specs.Builders.{IsAfterAll, IsPushRefused}
 use Rattle.art_operations.specs.declared.build.PushRefused.{PushRefused}
 use Rattle.art_operations.specs.declared.build.PushRefused.TheVariants.{NotAfter, Memory}
 use Rattle.art_operations.specs.declared.build.TreeBuilder.{TreeBuilder}
@@ -26,6 +26,10 @@ built-ascend {K} {V} bytes P arena builder pairs builds = of builder.last builds
 -- and none blocks the key of a pair that was taken after them
 pub free-after : {K V : Type 0} (bytes : K → List ℕ) (P : ℕ) (arena : Arena K V) (builder : TreeBuilder) (pairs : List (K × V)) (k : K) (v : V) → Builds bytes P arena builder (pairs ++ (k, v) ∷ []) → IsBlocked (key_of bytes) (bytes k) pairs → ⊥
 free-after bytes P arena builder pairs k v builds = free-last bytes pairs (k, v) (built-ascend bytes P arena builder (pairs ++ (k, v) ∷ []) builds)
+
+-- it goes after all of them
+pub after-these : {K V : Type 0} (bytes : K → List ℕ) (P : ℕ) (arena : Arena K V) (builder : TreeBuilder) (pairs : List (K × V)) (k : K) (v : V) → Builds bytes P arena builder (pairs ++ (k, v) ∷ []) → IsAfterAll bytes (bytes k) pairs
+after-these bytes P arena builder pairs k v builds = before (key_of bytes) (k, v) pairs [] (built-ascend bytes P arena builder (pairs ++ (k, v) ∷ []) builds)
 
 -- nor has one of them its key
 pub new-after : {K V : Type 0} (bytes : K → List ℕ) (P : ℕ) (arena : Arena K V) (builder : TreeBuilder) (pairs : List (K × V)) (k : K) (v : V) → Builds bytes P arena builder (pairs ++ (k, v) ∷ []) → HasKey (key_of bytes) (bytes k) pairs → ⊥
@@ -61,6 +65,9 @@ module _ {K V : Type 0} {P : ℕ} (bytes : K → List ℕ) (is_key : K → Type 
 
   pub is-in-order : b.in_order ≡ true → HasGatheredInOrder bytes is_key b pairs → HasGathered bytes is_key b pairs
   is-in-order e taken = subst (λ o. MatchBool o (HasGatheredInOrder bytes is_key b pairs) (b.map.pairs ≡ pairs)) (sym e) taken
+
+  pub has-settled : b.in_order ≡ false → b.map.pairs ≡ pairs → HasGathered bytes is_key b pairs
+  has-settled e has = subst (λ o. MatchBool o (HasGatheredInOrder bytes is_key b pairs) (b.map.pairs ≡ pairs)) (sym e) has
 
   pub is-settled : {A E : Type 0} (r : Result A E) → b.in_order ≡ false → OnOk r (b.map.pairs ≡ pairs) → OnOk r (HasGathered bytes is_key b pairs)
   is-settled (Ok x) e has = subst (λ o. MatchBool o (HasGatheredInOrder bytes is_key b pairs) (b.map.pairs ≡ pairs)) (sym e) has

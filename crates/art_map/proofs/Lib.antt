@@ -25,6 +25,7 @@ pub mod Clones
 pub mod Compacted
 pub mod Puts
 pub mod Built
+pub mod Pushed
 pub mod RoomLeft
 pub mod RoomUsed
 pub mod StoredKeys
@@ -39,6 +40,7 @@ pub mod SortedItems
 pub mod ItemCounts
 pub mod PairChanges
 pub mod EndedKeys
+pub mod MapLaws
 pub mod EmptyRooms
 pub mod Merged
 pub mod CutLeaves

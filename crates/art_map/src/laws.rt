@@ -1,6 +1,6 @@
 //! The laws of what a look-up finds after a change, how many pairs there are then, and which, in the words of the
 //! contracts of `TreeMap`. Each function does nothing, and its contract is the law.
-#![tactic(auto, using(crate::proofs::FoundAfter::laws, crate::proofs::AfterChanges::change_laws, crate::proofs::PairChanges::pair_laws, crate::proofs::EndedKeys::ended_laws))]
+#![tactic(auto, using(crate::proofs::MapLaws::all_laws))]
 
 ghost use Rattle.std.specs.Prelude.{◌≡◌};
 ghost use Rattle.art_arena.specs.arena.Shapes.{key_of};

@@ -15,6 +15,8 @@ ghost use Rattle.art_map.specs.Builders.{GathersWith, HasGathered, HasGatheredIn
 ghost use Rattle.art_map.specs.Builders.{nodes_of};
 ghost use Rattle.art_map.specs.inner.Pushes.{pair_handed_back};
 
+mod push;
+
 use crate::map::TreeMap;
 use art_arena::NodeArena;
 use art_bytes::{AsBytes, NoPrefixesBytes};
