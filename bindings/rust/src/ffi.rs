@@ -105,6 +105,10 @@ unsafe extern "C" {
     fn artmap_words_first_word(map: *mut Handle, word: *mut u64) -> u32;
     fn artmap_words_last_word(map: *mut Handle, word: *mut u64) -> u32;
     fn artmap_words_first_word_with_prefix(map: *mut Handle, prefix: *const u8, prefix_len: usize, word: *mut u64) -> u32;
+    fn artmap_words_next_word(map: *mut Handle, key: *const u8, key_len: usize, word: *mut u64) -> u32;
+    fn artmap_words_previous_word(map: *mut Handle, key: *const u8, key_len: usize, word: *mut u64) -> u32;
+    fn artmap_words_word_at_or_after(map: *mut Handle, key: *const u8, key_len: usize, word: *mut u64) -> u32;
+    fn artmap_words_word_at_or_before(map: *mut Handle, key: *const u8, key_len: usize, word: *mut u64) -> u32;
     fn artmap_words_first_with_prefix(map: *mut Handle, prefix: *const u8, prefix_len: usize, room: *mut u8, room_len: usize,
         key_len: *mut usize, word: *mut u64) -> u32;
     fn artmap_words_walk_words_on(map: *mut Handle, span: *const RawSpan, hint: *mut Hint, words: *mut u64, places: usize,
@@ -270,6 +274,33 @@ impl Words {
             match way {
                 Way::Up => artmap_words_first_word(at, &raw mut word),
                 Way::Down => artmap_words_last_word(at, &raw mut word),
+            }
+        };
+        match code {
+            DONE => Some(word),
+            NOT_FOUND | NO_MAP => None,
+            code => not_told(code),
+        }
+    }
+
+    /// The word of the pair with which a walk begins that goes to its end of the map.
+    #[inline]
+    pub(crate) fn near(&self, way: Way, from: From<'_>) -> Option<u64> {
+        let (key, is_after) = match from {
+            From::End => return self.end(way),
+            From::Key(key) => (key, false),
+            From::After(key) => (key, true),
+        };
+        let (at, mut word) = (self.handle.get(), 0);
+        let (key, len, told) = (key.as_ptr(), key.len(), &raw mut word);
+        // SAFETY: rules 1 to 4; the key is read alone, `word` is a local. Clauses of `artmap_words_word_at_or_after`,
+        // `artmap_words_next_word`, `artmap_words_word_at_or_before`, `artmap_words_previous_word`: IsPairsWordRead.
+        let code = unsafe {
+            match (way, is_after) {
+                (Way::Up, false) => artmap_words_word_at_or_after(at, key, len, told),
+                (Way::Up, true) => artmap_words_next_word(at, key, len, told),
+                (Way::Down, false) => artmap_words_word_at_or_before(at, key, len, told),
+                (Way::Down, true) => artmap_words_previous_word(at, key, len, told),
             }
         };
         match code {
@@ -545,13 +576,15 @@ impl<'a, K: Key, V, L: Limits> WalkMut<'a, K, V, L> {
         };
         let index = or_end(self.walk.next_sure(self.words, way, |_| last.expect("a key was lent")))?;
         assert!(index < self.len, "libartmap.a is not that of this crate: it told the word {index}");
-        // SAFETY: rules 1 to 4 are kept by `Words`. Clause of `artmap_words_walk_words`: IsWordsWalked: the words are those of
-        // pairs that ascend (or descend), all after the key given. `next_sure` goes on after the very pair that was lent
-        // last at this end, since `artmap_words_get` (IsWordRead) told its word for the bytes that the walk is then given, the
-        // same slice; and it ends at the word that the other end lent last. So no pair is met twice, and no number of pairs
-        // is relied on. No two pairs of a tree have one word (One slot, one word, above): a hostile `Key` can't have it
-        // otherwise, since none of its code runs between a tree's change and that of the slots. So this slot is lent once
-        // while `'a` lasts, and the slots are lent to `self` alone. The index is below `len`, as was seen.
+        // SAFETY: rules 1 to 4 are kept by `Words`. Clause of `artmap_words_walk_words`: IsWordsWalked: the words are
+        // those of pairs that ascend (or descend), all after the key given; and of `artmap_words_word_at_or_after` and
+        // the like (IsPairsWordRead): the first one is that of the pair next to the bound. `next_sure` goes on after the
+        // very pair that was lent last at this end, since `artmap_words_get` (IsWordRead) told its word for the bytes
+        // that the walk is then given, the same slice; and it ends at the word that the other end lent last. So no pair
+        // is met twice, and no number of pairs is relied on. No two pairs of a tree have one word (One slot, one word,
+        // above): a hostile `Key` can't have it otherwise, since none of its code runs between a tree's change and that
+        // of the slots. So this slot is lent once while `'a` lasts, and the slots are lent to `self` alone. The index is
+        // below `len`, as was seen.
         let slot: &'a mut Slot<K, V> = unsafe { &mut *self.slots.add(index) };
         let (key, value) = slot.lend(index);
         match way {

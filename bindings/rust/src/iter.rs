@@ -12,22 +12,24 @@ use std::slice;
 
 /// Of slots in order those within some limits.
 fn within<'a, K, V, L: Limits>(all: &'a [Slot<K, V>], words: Reader<'_>, limits: &L) -> &'a [Slot<K, V>] {
-    let end = |way| match limits.from(way) {
+    let end = |way| match (limits.from(way), limits.to(way)) {
         // (each has its index as its word)
-        From::End if matches!(limits.to(way), To::End | To::Key(_) | To::Before(_)) => {
+        (From::End, To::End | To::Key(_) | To::Before(_)) => {
             if way == Way::Up {
                 Some(0)
             } else {
                 all.len().checked_sub(1)
             }
         }
-        from => {
+        (From::End, to) => {
             let mut word = [0];
-            let (count, _) = words.call(|words| words.walk(way, from, limits.to(way), &mut word));
+            let (count, _) = words.call(|words| words.walk(way, From::End, to, &mut word));
             (count == 1).then(|| index_of(word[0]))
         }
+        (from, _) => words.call(|words| words.near(way, from)).map(index_of),
     };
     match (end(Way::Up), end(Way::Down)) {
+        // (where no pair is between two bounds, the last one is before the first)
         (Some(first), Some(last)) => all.get(first..=last).unwrap_or(&[]),
         _ => &[],
     }
@@ -60,9 +62,20 @@ impl<'a, K: Key, V, L: Limits> Pairs<'a, K, V, L> {
             return slot.and_then(Slot::pair);
         }
         let slab = self.view.slab;
-        let index = or_end(self.walk.next(&self.view.words, way, |index| slab.pair(index).0))?;
-        slab.ask_for(self.walk.soon(way));
+        let index = match self.walk.given(way, |soon| slab.ask_for(soon)) {
+            Some(index) => index,
+            None => self.next_told(way)?,
+        };
         Some(slab.pair(index))
+    }
+
+    /// The index of the next pair, where other words are to be told first.
+    #[inline(never)]
+    fn next_told(&mut self, way: Way) -> Option<usize> {
+        let slab = self.view.slab;
+        let index = or_end(self.walk.more(&self.view.words, way, |index| slab.pair(index).0, false));
+        slab.ask_for_all(self.walk.soon(way));
+        index
     }
 }
 
@@ -73,13 +86,16 @@ impl<'a, K: Key, V, L: Limits> Pairs<'a, K, V, L> {
             return slots.filter_map(Slot::pair).take(most).fold(all, call);
         }
         while most > 0 {
-            let Some(pair) = self.step(Way::Up) else { break };
-            all = call(all, pair);
-            most -= 1;
             let words = self.walk.told();
-            let words = &words[..words.len().min(most)];
-            most -= words.len();
-            all = self.view.slab.fold(words, all, &mut call);
+            if words.is_empty() {
+                let Some(pair) = self.step(Way::Up) else { break };
+                all = call(all, pair);
+                most -= 1;
+            } else {
+                let words = &words[..words.len().min(most)];
+                all = self.view.slab.fold(words, all, &mut call);
+                most -= words.len();
+            }
         }
         all
     }

@@ -5,16 +5,56 @@ pub(crate) const SMALL: usize = 120;
 
 /// Bytes that are put together. Up to 120 need no block of the heap.
 #[derive(Clone, Debug)]
-pub struct Room {
+pub struct Room(Bytes<SMALL>);
+
+/// Bytes that are put together. Up to so many need no block of the heap.
+#[derive(Clone, Debug)]
+pub(crate) struct Bytes<const SMALL: usize> {
     small: [u8; SMALL],
     /// How many there are in `small`, while `large` is not used.
     len: usize,
     large: Vec<u8>,
 }
 
+impl<const SMALL: usize> Bytes<SMALL> {
+    #[inline]
+    pub(crate) const fn new() -> Self {
+        Bytes { small: [0; SMALL], len: 0, large: Vec::new() }
+    }
+
+    #[inline]
+    pub(crate) fn get(&self) -> &[u8] {
+        if self.large.is_empty() { &self.small[..self.len] } else { &self.large }
+    }
+
+    /// Adds bytes. Without memory it holds what it held.
+    #[inline]
+    pub(crate) fn push(&mut self, bytes: &[u8]) -> Result<(), AllocError> {
+        if let (true, Some(to)) = (self.large.is_empty(), self.small.get_mut(self.len..self.len + bytes.len())) {
+            to.copy_from_slice(bytes);
+            self.len += bytes.len();
+            return Ok(());
+        }
+        self.push_large(bytes)
+    }
+
+    #[cold]
+    fn push_large(&mut self, bytes: &[u8]) -> Result<(), AllocError> {
+        if self.large.is_empty() {
+            self.large.try_reserve(self.len + bytes.len())?;
+            self.large.extend_from_slice(&self.small[..self.len]);
+        } else {
+            self.large.try_reserve(bytes.len())?;
+        }
+        self.large.extend_from_slice(bytes);
+        Ok(())
+    }
+}
+
 impl Room {
+    #[inline]
     pub(crate) const fn new() -> Room {
-        Room { small: [0; SMALL], len: 0, large: Vec::new() }
+        Room(Bytes::new())
     }
 
     /// A room with these bytes.
@@ -27,37 +67,21 @@ impl Room {
     /// A room with fewer than 120 bytes, and a zero after them if that is wanted.
     #[inline]
     pub(crate) fn small(bytes: &[u8], has_zero: bool) -> Room {
-        let mut room = Room::new();
+        let mut room = Bytes::new();
         room.small[..bytes.len()].copy_from_slice(bytes);
         room.len = bytes.len() + usize::from(has_zero);
-        room
+        Room(room)
     }
 
     #[inline]
     pub(crate) fn bytes(&self) -> &[u8] {
-        if self.large.is_empty() { &self.small[..self.len] } else { &self.large }
-    }
-
-    pub(crate) fn try_clone(&self) -> Result<Room, AllocError> {
-        Room::of(self.bytes())
+        self.0.get()
     }
 
     /// Adds bytes. Without memory it holds what it held.
+    #[inline]
     pub(crate) fn push(&mut self, bytes: &[u8]) -> Result<(), AllocError> {
-        let end = self.len + bytes.len();
-        if self.large.is_empty() {
-            if let Some(to) = self.small.get_mut(self.len..end) {
-                to.copy_from_slice(bytes);
-                self.len = end;
-                return Ok(());
-            }
-            self.large.try_reserve(end)?;
-            self.large.extend_from_slice(&self.small[..self.len]);
-        } else {
-            self.large.try_reserve(bytes.len())?;
-        }
-        self.large.extend_from_slice(bytes);
-        Ok(())
+        self.0.push(bytes)
     }
 
     #[cfg(test)]

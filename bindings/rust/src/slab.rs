@@ -192,11 +192,17 @@ impl<K, V> Slab<K, V> {
         }
     }
 
+    /// Has a slot come nearer, which is read soon.
+    #[inline]
+    pub(crate) fn ask_for(&self, index: usize) {
+        ask_for(&self.slots, index);
+    }
+
     /// Has the slots of these words come nearer, which are read soon.
     #[inline]
-    pub(crate) fn ask_for(&self, words: &[u64]) {
+    pub(crate) fn ask_for_all(&self, words: &[u64]) {
         for word in words {
-            ask_for(&self.slots, index_of(*word));
+            self.ask_for(index_of(*word));
         }
     }
 

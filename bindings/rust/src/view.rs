@@ -70,34 +70,22 @@ pub(crate) fn word_of_key<Q: Key + ?Sized>(words: &impl Reads, key: &Q) -> Resul
     }
 }
 
-/// The bytes of a bound.
-fn bound<Q: Key + ?Sized>(of: Bound<&Q>) -> Result<Bound<Room>, AllocError> {
-    let room = |key: &Q| Room::of(key.to_bytes()?.as_ref());
-    Ok(match of {
-        Bound::Unbounded => Bound::Unbounded,
-        Bound::Included(key) => Bound::Included(room(key)?),
-        Bound::Excluded(key) => Bound::Excluded(room(key)?),
-    })
-}
-
 /// Why a range has no bounds between which keys may lie.
 enum Wrong {
     Excluded,
     Crossed,
 }
 
-/// The bytes between two bounds, or what is wrong with them.
-fn limits<Q: Key + ?Sized, R: RangeBounds<Q>>(range: &R) -> Result<Result<Between, Wrong>, AllocError> {
-    let (from, to) = (bound(range.start_bound())?, bound(range.end_bound())?);
-    Ok(match (&from, &to) {
-        (Bound::Excluded(from), Bound::Excluded(to)) if from.bytes() == to.bytes() => Err(Wrong::Excluded),
-        (Bound::Included(from) | Bound::Excluded(from), Bound::Included(to) | Bound::Excluded(to))
-            if from.bytes() > to.bytes() =>
-        {
-            Err(Wrong::Crossed)
+/// What is wrong with two bounds, if that is so.
+#[inline]
+fn wrong(limits: &Between) -> Option<Wrong> {
+    match limits.bytes() {
+        (Bound::Excluded(from), Bound::Excluded(to)) if from == to => Some(Wrong::Excluded),
+        (Bound::Included(from) | Bound::Excluded(from), Bound::Included(to) | Bound::Excluded(to)) if from > to => {
+            Some(Wrong::Crossed)
         }
-        _ => Ok(Between(from, to)),
-    })
+        _ => None,
+    }
 }
 
 /// What a panic calls the two collections.
@@ -109,17 +97,20 @@ pub(crate) const SET: &str = "ArtSet";
 /// # Panics
 ///
 /// As `range` of a `BTreeMap`, and it names the collection.
+#[inline]
 pub(crate) fn between<Q: Key + ?Sized, R: RangeBounds<Q>>(range: &R, of: &str) -> Result<Between, AllocError> {
-    match limits(range)? {
-        Ok(found) => Ok(found),
-        Err(Wrong::Excluded) => panic!("range start and end are equal and excluded in {of}"),
-        Err(Wrong::Crossed) => panic!("range start is greater than range end in {of}"),
+    let limits = Between::of(range.start_bound(), range.end_bound())?;
+    match wrong(&limits) {
+        None => Ok(limits),
+        Some(Wrong::Excluded) => panic!("range start and end are equal and excluded in {of}"),
+        Some(Wrong::Crossed) => panic!("range start is greater than range end in {of}"),
     }
 }
 
 /// As `between`; none, if there can't be a key between them.
 pub(crate) fn between_if_any<Q: Key + ?Sized, R: RangeBounds<Q>>(range: &R) -> Result<Option<Between>, AllocError> {
-    Ok(limits(range)?.ok())
+    let limits = Between::of(range.start_bound(), range.end_bound())?;
+    Ok(if wrong(&limits).is_none() { Some(limits) } else { None })
 }
 
 /// The bytes of a prefix.
@@ -184,7 +175,7 @@ impl<'a, K: Key, V> View<'a, K, V> {
     where
         K: Borrow<Q>,
     {
-        or_end(self.try_range(range, of))
+        Range::new(self, or_end(between(range, of)))
     }
 
     pub(crate) fn try_prefix<P: KeyPrefix<K> + ?Sized>(self, prefix: &P) -> Result<Prefix<'a, K, V>, AllocError> {
@@ -192,6 +183,6 @@ impl<'a, K: Key, V> View<'a, K, V> {
     }
 
     pub(crate) fn prefix<P: KeyPrefix<K> + ?Sized>(self, prefix: &P) -> Prefix<'a, K, V> {
-        or_end(self.try_prefix(prefix))
+        Prefix::new(self, or_end(prefix_room(prefix)))
     }
 }

@@ -3,9 +3,11 @@
 use crate::Key;
 use crate::error::AllocError;
 use crate::ffi::{From, Hint, To, Words};
+use crate::key::sealed::Sealed;
 use crate::map::CHANGED;
-use crate::room::Room;
+use crate::room::{Bytes, Room};
 use crate::view::Reads;
+use std::mem;
 use std::ops::Bound;
 
 /// How many words are asked for first, how many next, how many times more each time from then on, and how many at most. A
@@ -15,6 +17,12 @@ const FEW: usize = 10;
 const NEXT: usize = 32;
 const TIMES: usize = 2;
 const MOST: usize = 1024;
+
+/// No word: none is an index that a slab has.
+const NONE: u64 = u64::MAX;
+
+/// So many bytes of two bounds stand in a walk itself, which is moved as a user likes: two texts of 27 bytes, say.
+const SMALL: usize = 56;
 
 /// How many words ahead slots are asked for: by then they have come from memory.
 pub(crate) const AHEAD: usize = 8;
@@ -34,14 +42,6 @@ pub(crate) trait Limits {
     fn to(&self, way: Way) -> To<'_>;
 }
 
-/// How many words are asked for first.
-fn first(from: From<'_>, to: To<'_>) -> usize {
-    match (from, to) {
-        (From::Key(_) | From::After(_), To::End) => 1,
-        _ => FEW,
-    }
-}
-
 /// All keys. How many are left is counted.
 #[derive(Clone)]
 pub(crate) struct All;
@@ -52,7 +52,13 @@ pub(crate) struct Watched;
 
 /// Keys between two bounds.
 #[derive(Clone)]
-pub(crate) struct Between(pub(crate) Bound<Room>, pub(crate) Bound<Room>);
+pub(crate) struct Between {
+    /// The bytes of the start, if it has any, and then those of the end.
+    bytes: Bytes<SMALL>,
+    middle: usize,
+    start: Bound<()>,
+    end: Bound<()>,
+}
 
 /// Keys that begin with some bytes.
 #[derive(Clone)]
@@ -80,20 +86,53 @@ impl Limits for Watched {
     }
 }
 
+impl Between {
+    /// Has the keys of two bounds tell their bytes, once each.
+    #[inline]
+    pub(crate) fn of<Q: Key + ?Sized>(start: Bound<&Q>, end: Bound<&Q>) -> Result<Between, AllocError> {
+        let mut bytes = Bytes::new();
+        let start = told(start, &mut bytes)?;
+        let middle = bytes.get().len();
+        let end = told(end, &mut bytes)?;
+        Ok(Between { bytes, middle, start, end })
+    }
+
+    /// The bytes of both.
+    #[inline]
+    pub(crate) fn bytes(&self) -> (Bound<&[u8]>, Bound<&[u8]>) {
+        let (start, end) = self.bytes.get().split_at(self.middle);
+        (self.start.map(|()| start), self.end.map(|()| end))
+    }
+}
+
+/// Adds the bytes of a bound, if it has any, to others.
+#[inline]
+fn told<Q: Key + ?Sized>(of: Bound<&Q>, to: &mut Bytes<SMALL>) -> Result<Bound<()>, AllocError> {
+    Ok(match of {
+        Bound::Unbounded => Bound::Unbounded,
+        Bound::Included(key) => Bound::Included(key.with_bytes(Sealed, |bytes| to.push(bytes))??),
+        Bound::Excluded(key) => Bound::Excluded(key.with_bytes(Sealed, |bytes| to.push(bytes))??),
+    })
+}
+
 impl Limits for Between {
+    #[inline]
     fn from(&self, way: Way) -> From<'_> {
-        match if way == Way::Up { &self.0 } else { &self.1 } {
+        let (start, end) = self.bytes();
+        match if way == Way::Up { start } else { end } {
             Bound::Unbounded => From::End,
-            Bound::Included(key) => From::Key(key.bytes()),
-            Bound::Excluded(key) => From::After(key.bytes()),
+            Bound::Included(key) => From::Key(key),
+            Bound::Excluded(key) => From::After(key),
         }
     }
 
+    #[inline]
     fn to(&self, way: Way) -> To<'_> {
-        match if way == Way::Up { &self.1 } else { &self.0 } {
+        let (start, end) = self.bytes();
+        match if way == Way::Up { end } else { start } {
             Bound::Unbounded => To::End,
-            Bound::Included(key) => To::Key(key.bytes()),
-            Bound::Excluded(key) => To::Before(key.bytes()),
+            Bound::Included(key) => To::Key(key),
+            Bound::Excluded(key) => To::Before(key),
         }
     }
 }
@@ -118,62 +157,97 @@ impl Limits for Under {
     }
 }
 
-/// Words that were told, of which some have been given.
+/// Words that were told, and not given yet.
 #[derive(Clone)]
 struct Batch {
+    /// Those that are told first: the last ones here, from a place on.
     few: [u64; FEW],
+    few_at: usize,
+    /// Those that are told after them, where there is memory, from a place on.
     many: Vec<u64>,
-    /// How many there are, and how many were given.
-    count: usize,
-    given: usize,
-    has_more: bool,
+    at: usize,
+    /// How many are asked for next, or none where no other is left.
+    wanted: usize,
 }
 
 impl Batch {
     const fn new() -> Batch {
-        Batch { few: [0; FEW], many: Vec::new(), count: 0, given: 0, has_more: true }
+        Batch { few: [0; FEW], few_at: FEW, many: Vec::new(), at: 0, wanted: FEW }
     }
 
     #[inline]
-    fn places_told(&self) -> &[u64] {
-        if self.many.is_empty() { &self.few } else { &self.many }
+    fn has_next(&self) -> bool {
+        self.few_at < FEW || self.at < self.many.len()
     }
 
-    /// The next word that was told.
+    /// The next word that was told. One that stands some places after it is told, too, so that its slot may be asked for.
     #[inline]
-    fn next(&mut self) -> Option<u64> {
-        if self.given == self.count {
-            return None;
+    fn next(&mut self, ask: impl FnOnce(u64)) -> Option<u64> {
+        if let Some(word) = self.many.get(self.at) {
+            if let Some(soon) = self.many.get(self.at + AHEAD) {
+                ask(*soon);
+            }
+            self.at += 1;
+            return Some(*word);
         }
-        let word = self.places_told()[self.given];
-        self.given += 1;
-        Some(word)
+        let word = self.few.get(self.few_at)?;
+        self.few_at += 1;
+        Some(*word)
     }
 
-    /// Each time that so many were given, those that come so far after them: each of a batch once, and first twice as many.
+    /// The words that are left.
     #[inline]
-    fn soon(&self) -> &[u64] {
-        if self.given % AHEAD != 1 {
-            return &[];
-        }
-        let from = if self.given == 1 { 1 } else { self.given + AHEAD - 1 };
-        self.places_told().get(from..self.count.min(self.given + 2 * AHEAD - 1)).unwrap_or(&[])
+    fn left(&self) -> &[u64] {
+        if self.at < self.many.len() { &self.many[self.at..] } else { &self.few[self.few_at..] }
     }
 
-    /// The places for the next words: more than before, if there is memory for them.
-    fn places(&mut self, first: usize) -> &mut [u64] {
-        if self.count == 0 {
-            return &mut self.few[..first];
+    /// The words that are left: they are given.
+    #[inline]
+    fn give(&mut self) -> &[u64] {
+        let (few, many) = (mem::replace(&mut self.few_at, FEW), mem::replace(&mut self.at, self.many.len()));
+        if many < self.at { &self.many[many..] } else { &self.few[few..] }
+    }
+
+    /// Where all were given: has a call tell the next words, more than before if there is memory for them. One that was given
+    /// already may be the first of them.
+    #[inline]
+    fn fill(&mut self, given: u64, tell: impl FnOnce(&mut [u64]) -> (usize, bool)) {
+        if self.wanted > FEW {
+            self.widen();
         }
-        if self.count < FEW {
-            return &mut self.few;
+        let is_few = self.many.is_empty();
+        let places = if is_few { &mut self.few } else { &mut self.many[..] };
+        let (count, has_more) = tell(places);
+        let from = usize::from(count > 0 && places[0] == given);
+        self.wanted = if has_more { (places.len() * TIMES).clamp(NEXT, MOST) } else { 0 };
+        if is_few {
+            if count < FEW {
+                self.few.copy_within(..count, FEW - count);
+            }
+            self.few_at = FEW - count + from;
+        } else {
+            self.many.truncate(count);
+            self.at = from;
         }
-        let had = self.many.len();
-        let wanted = (had * TIMES).clamp(NEXT, MOST);
-        if wanted > had && self.many.try_reserve_exact(wanted - had).is_ok() {
-            self.many.resize(wanted, 0);
+    }
+
+    /// Makes places for as many words as are asked for next, or for as many as there is memory.
+    #[inline(never)]
+    fn widen(&mut self) {
+        if self.wanted > self.many.capacity() {
+            // (and for those after them)
+            let mut many = Vec::new();
+            if many.try_reserve_exact((self.wanted * TIMES).min(MOST)).is_ok() {
+                self.many = many;
+            }
         }
-        if self.many.is_empty() { &mut self.few } else { &mut self.many }
+        self.many.resize(self.wanted.min(self.many.capacity()), 0);
+    }
+
+    /// Forgets all words.
+    fn end(&mut self) {
+        self.many.clear();
+        (self.few_at, self.wanted) = (FEW, 0);
     }
 }
 
@@ -181,18 +255,15 @@ impl Batch {
 #[derive(Clone)]
 struct End {
     batch: Batch,
-    last: Option<u64>,
+    last: u64,
     hint: Hint,
 }
 
 impl End {
     const fn new() -> End {
-        End { batch: Batch::new(), last: None, hint: Hint::NONE }
+        End { batch: Batch::new(), last: NONE, hint: Hint::NONE }
     }
 }
-
-/// All words that were told have been given.
-struct Used;
 
 /// What is left of a walk.
 #[derive(Clone)]
@@ -200,7 +271,6 @@ pub(crate) struct Walk<L> {
     limits: L,
     front: End,
     back: End,
-    is_done: bool,
 }
 
 fn index_of(word: u64) -> usize {
@@ -208,8 +278,9 @@ fn index_of(word: u64) -> usize {
 }
 
 impl<L: Limits> Walk<L> {
+    #[inline]
     pub(crate) const fn new(limits: L) -> Self {
-        Walk { limits, front: End::new(), back: End::new(), is_done: false }
+        Walk { limits, front: End::new(), back: End::new() }
     }
 
     /// The index of the next pair from one of the ends. `key_of` lends the key of the index that this end gave last. An error
@@ -221,54 +292,22 @@ impl<L: Limits> Walk<L> {
         way: Way,
         key_of: impl FnOnce(usize) -> &'k K,
     ) -> Result<Option<usize>, AllocError> {
-        if let Ok(index) = self.given(way) {
-            return Ok(index);
-        }
-        self.fill(words, way, key_of, false)?;
-        Ok(self.given(way).ok().flatten())
-    }
-
-    /// The words of pairs that this end gives soon, once it has given one.
-    #[inline]
-    pub(crate) fn soon(&self, way: Way) -> &[u64] {
-        if way == Way::Up { self.front.batch.soon() } else { self.back.batch.soon() }
-    }
-
-    /// The words that were told and that the front has not given yet: it gives them all. None, where others are to be told
-    /// first, or at the end of the walk.
-    pub(crate) fn told(&mut self) -> &[u64] {
-        if self.is_done {
-            return &[];
-        }
-        let End { batch, last, .. } = &mut self.front;
-        let (from, mut until) = (batch.given, batch.count);
-        if let (false, Some(met)) = (L::ARE_COUNTED, self.back.last) {
-            if let Some(at) = batch.places_told()[from..until].iter().position(|word| *word == met) {
-                until = from + at;
-                self.is_done = true;
-            }
-        }
-        batch.given = until;
-        let words = &batch.places_told()[from..until];
-        *last = words.last().copied().or(*last);
-        words
+        if let Some(index) = self.given(way, |_| {}) { Ok(Some(index)) } else { self.more(words, way, key_of, false) }
     }
 
     /// As `next`, and it is sure that the walk goes on after the pair that this end gave last: so no pair is met twice.
+    #[inline]
     pub(crate) fn next_sure<'k, K: Key + 'k>(
         &mut self,
         words: &impl Reads,
         way: Way,
         key_of: impl FnOnce(usize) -> &'k K,
     ) -> Result<Option<usize>, AllocError> {
-        if let Ok(index) = self.given(way) {
-            return Ok(index);
-        }
-        self.fill(words, way, key_of, true)?;
-        Ok(self.given(way).ok().flatten())
+        if let Some(index) = self.given(way, |_| {}) { Ok(Some(index)) } else { self.more(words, way, key_of, true) }
     }
 
     /// Has the next words told where all have been given, so that the pair that was given last may go.
+    #[inline]
     pub(crate) fn settle<'k, K: Key + 'k>(
         &mut self,
         words: &impl Reads,
@@ -276,37 +315,101 @@ impl<L: Limits> Walk<L> {
         key_of: impl FnOnce(usize) -> &'k K,
     ) -> Result<(), AllocError> {
         let end = if way == Way::Up { &self.front } else { &self.back };
-        if !self.is_done && end.batch.given == end.batch.count && end.batch.has_more {
-            self.fill(words, way, key_of, false)?;
-        }
-        Ok(())
+        if end.batch.has_next() { Ok(()) } else { self.tell(words, way, key_of, false) }
     }
 
-    /// The index of the next of the words that were told, or none at the end of the walk. An error where others are to be told
-    /// first.
+    /// The words that were told last and stand next at an end.
     #[inline]
-    fn given(&mut self, way: Way) -> Result<Option<usize>, Used> {
-        if self.is_done {
-            return Ok(None);
+    pub(crate) fn soon(&self, way: Way) -> &[u64] {
+        let left = if way == Way::Up { self.front.batch.left() } else { self.back.batch.left() };
+        &left[..left.len().min(FEW)]
+    }
+
+    /// The words that were told and that the front has not given yet: it gives them. None, where others are to be told
+    /// first, or at the end of the walk.
+    pub(crate) fn told(&mut self) -> &[u64] {
+        let End { batch, last, .. } = &mut self.front;
+        let met = self.back.last;
+        let mut len = batch.left().len();
+        if !L::ARE_COUNTED && met != NONE {
+            if let Some(at) = batch.left().iter().position(|word| *word == met) {
+                (len, batch.wanted) = (at, 0);
+                self.back.batch.end();
+            }
         }
+        let words = &batch.give()[..len];
+        *last = words.last().copied().unwrap_or(*last);
+        words
+    }
+
+    /// The index of the next of the words that were told. None, where others are to be told first, or at the end of the walk.
+    /// An index that is given some time after it is told, so that its slot may be asked for.
+    #[inline]
+    pub(crate) fn given(&mut self, way: Way, ask: impl FnOnce(usize)) -> Option<usize> {
         let (near, far) = match way {
             Way::Up => (&mut self.front, &self.back),
             Way::Down => (&mut self.back, &self.front),
         };
-        let Some(word) = near.batch.next() else {
-            self.is_done = !near.batch.has_more;
-            return if self.is_done { Ok(None) } else { Err(Used) };
-        };
-        if !L::ARE_COUNTED && far.last == Some(word) {
-            self.is_done = true;
-            return Ok(None);
+        let word = near.batch.next(|word| ask(index_of(word)))?;
+        if !L::ARE_COUNTED && far.last == word {
+            self.end();
+            return None;
         }
-        near.last = Some(word);
-        Ok(Some(index_of(word)))
+        near.last = word;
+        Some(index_of(word))
     }
 
+    /// Ends the walk, from both ends.
+    #[cold]
+    fn end(&mut self) {
+        self.front.batch.end();
+        self.back.batch.end();
+    }
+
+    /// Where all words that were told were given: the index of the next pair, for which others are told. The error is that of
+    /// `next`.
+    #[inline]
+    pub(crate) fn more<'k, K: Key + 'k>(
+        &mut self,
+        words: &impl Reads,
+        way: Way,
+        key_of: impl FnOnce(usize) -> &'k K,
+        is_sure: bool,
+    ) -> Result<Option<usize>, AllocError> {
+        let near = if way == Way::Up { &mut self.front } else { &mut self.back };
+        if near.last == NONE && near.batch.wanted != 0 {
+            let (from, to) = (self.limits.from(way), self.limits.to(way));
+            if let (From::Key(_) | From::After(_), To::End) = (from, to) {
+                let word = words.call(|words| words.near(way, from));
+                return Ok(self.begin(way, word));
+            }
+        }
+        self.tell(words, way, key_of, is_sure)?;
+        Ok(self.given(way, |_| {}))
+    }
+
+    /// Gives the first word of an end, which was told by itself.
+    #[inline]
+    fn begin(&mut self, way: Way, word: Option<u64>) -> Option<usize> {
+        let (near, far) = match way {
+            Way::Up => (&mut self.front, &self.back),
+            Way::Down => (&mut self.back, &self.front),
+        };
+        match word {
+            Some(word) if far.last != word => {
+                near.last = word;
+                Some(index_of(word))
+            }
+            _ => {
+                self.end();
+                None
+            }
+        }
+    }
+
+    /// Where all words that were told were given: has the next ones told.
     #[inline(never)]
-    fn fill<'k, K: Key + 'k>(
+    fn tell<'k, K: Key + 'k>(
         &mut self,
         words: &impl Reads,
         way: Way,
@@ -314,33 +417,31 @@ impl<L: Limits> Walk<L> {
         is_sure: bool,
     ) -> Result<(), AllocError> {
         let near = if way == Way::Up { &mut self.front } else { &mut self.back };
-        let (batch, hint, to) = (&mut near.batch, &mut near.hint, self.limits.to(way));
-        let mut given = 0;
-        let (count, has_more) = match near.last {
-            None => {
-                let from = self.limits.from(way);
-                words.call(|words| words.walk_on(way, from, to, hint, batch.places(first(from, to))))
-            }
-            Some(last) => {
-                let key = key_of(index_of(last));
-                if let Some(front) = key.without_end() {
-                    let is_last = |words: &Words| words.get_ended(front) == Some(last);
-                    assert!(!is_sure || words.call(is_last), "{CHANGED}");
-                    let places = batch.places(FEW);
-                    let told = words.call(|words| words.walk_on(way, From::After(front), to, hint, places));
-                    // (after the bytes without their end comes that key itself)
-                    given = usize::from(told.0 > 0 && places[0] == last);
-                    told
-                } else {
-                    // (once: another time it may tell others)
-                    let bytes = key.to_bytes()?;
-                    let bytes = bytes.as_ref();
-                    assert!(!is_sure || words.call(|words| words.get(bytes) == Some(last)), "{CHANGED}");
-                    words.call(|words| words.walk_on(way, From::After(bytes), to, hint, batch.places(FEW)))
-                }
-            }
-        };
-        (batch.count, batch.given, batch.has_more) = (count, given, has_more);
+        if near.batch.wanted == 0 {
+            self.end();
+            return Ok(());
+        }
+        let (batch, hint, to, last) = (&mut near.batch, &mut near.hint, self.limits.to(way), near.last);
+        if last == NONE {
+            let from = self.limits.from(way);
+            batch.fill(NONE, |places| words.call(|words| words.walk_on(way, from, to, hint, places)));
+            return Ok(());
+        }
+        let key = key_of(index_of(last));
+        if let Some(front) = key.without_end() {
+            let is_last = |words: &Words| words.get_ended(front) == Some(last);
+            assert!(!is_sure || words.call(is_last), "{CHANGED}");
+            // (after the bytes without their end comes that key itself)
+            let from = From::After(front);
+            batch.fill(last, |places| words.call(|words| words.walk_on(way, from, to, hint, places)));
+        } else {
+            // (once: another time it may tell others)
+            let bytes = key.to_bytes()?;
+            let bytes = bytes.as_ref();
+            assert!(!is_sure || words.call(|words| words.get(bytes) == Some(last)), "{CHANGED}");
+            let from = From::After(bytes);
+            batch.fill(NONE, |places| words.call(|words| words.walk_on(way, from, to, hint, places)));
+        }
         Ok(())
     }
 }

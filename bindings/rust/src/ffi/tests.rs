@@ -8,6 +8,7 @@ fn calls_answer_what_the_header_says() {
     assert_eq!((art.end(Way::Up), art.end(Way::Down), art.has_prefix(b"")), (None, None, false));
     assert_eq!(art.remove_prefix(b""), Ok(()));
     assert_eq!(art.walk(Way::Up, From::End, To::End, &mut words), (0, false));
+    assert_eq!((art.near(Way::Up, From::Key(b"")), art.near(Way::Down, From::After(b"b"))), (None, None));
     assert_eq!((art.put(b"ab", 1), art.put(b"ab", 2), art.len()), (Ok(Put::New), Ok(Put::Replaced(1)), 1));
     assert_eq!((art.put(b"a", 3), art.put(b"abc", 3)), (Ok(Put::Conflict), Ok(Put::Conflict)));
     assert_eq!((art.get(b"ab"), art.get(b"a"), art.find(b"abc"), art.find(b"b")), (Some(2), None, Some(2), None));
@@ -50,6 +51,7 @@ fn no_hint_changes_an_answer() {
             for way in [Way::Up, Way::Down] {
                 let mut words = [99; 3];
                 let plain = art.walk(way, from, to, &mut words);
+                assert!(!matches!(to, To::End) || art.near(way, from) == (plain.0 > 0).then(|| words[0]));
                 for (first, last) in hints.iter().flat_map(|first| hints.map(|last| (*first, last))) {
                     let (mut hint, mut told) = (Hint { first, last }, [99; 3]);
                     assert_eq!((art.walk_on(way, from, to, &mut hint, &mut told), told), (plain, words));

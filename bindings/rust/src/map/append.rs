@@ -1,6 +1,6 @@
 //! All pairs of a map move into another.
 use crate::error::{AllocError, or_end};
-use crate::ffi::{From, Put, To, Words};
+use crate::ffi::{From, Put, Words};
 use crate::key::sealed::Sealed;
 use crate::map::order::Order;
 use crate::map::{ArtMap, word_of};
@@ -173,7 +173,7 @@ impl<K: Key, V> ArtMap<K, V> {
 
     /// Whether a key is above those of this map.
     fn ends_before(&self, key: &K) -> Result<bool, AllocError> {
-        key.with_bytes(Sealed, |bytes| self.words.walk(Way::Up, From::Key(bytes), To::End, &mut [0]).0 == 0)
+        key.with_bytes(Sealed, |bytes| self.words.near(Way::Up, From::Key(bytes)).is_none())
     }
 
     /// Stores the pairs of another map, of which many stand before the last pair that is here.

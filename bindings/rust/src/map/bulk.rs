@@ -5,7 +5,6 @@ use crate::ffi::Stop;
 use crate::map::filling::{Filling, Run};
 use crate::map::order::Order;
 use crate::map::{ArtMap, CHANGED, word_of};
-use crate::room::Room;
 use crate::slab::Slab;
 use crate::walk::{Between, Limits};
 use std::borrow::Borrow;
@@ -111,10 +110,10 @@ impl<K: Key, V> ArtMap<K, V> {
         K: Borrow<Q>,
     {
         // (the same bytes both times)
-        let from = Room::of(key.to_bytes()?.as_ref())?;
-        let limits = Between(Bound::Included(from.try_clone()?), Bound::Unbounded);
-        let parting = self.parting(Order::within(limits))?;
-        self.words.cut_off(from.bytes())?;
+        let limits = Between::of(Bound::Included(key), Bound::Unbounded)?;
+        let parting = self.parting(Order::within(&limits))?;
+        let (Bound::Included(from), _) = limits.bytes() else { unreachable!("the bound that was given") };
+        self.words.cut_off(from)?;
         let made = parting.end(&mut self.slab);
         self.settle();
         Ok(made)

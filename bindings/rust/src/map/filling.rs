@@ -1,7 +1,7 @@
 //! Pairs that go into a map many at a time, where their keys ascend after the greatest one.
 use crate::Key;
 use crate::error::{AllocError, TryInsertError};
-use crate::ffi::{From, Pair, Stop, To, Words};
+use crate::ffi::{From, Pair, Stop, Words};
 use crate::key::sealed::Sealed;
 use crate::map::{ArtMap, CHANGED, word_of};
 use crate::parted::Parted;
@@ -81,9 +81,9 @@ impl Run {
     /// refused where the tree has a key that is not below them: so no word is replaced.
     pub(super) fn load_into(&self, words: &mut Words) -> (usize, Option<Stop>) {
         let Some(first) = self.pairs.first() else { return (0, None) };
-        match words.walk(Way::Up, From::Key(&self.bytes[..first.key_len]), To::End, &mut [0]) {
-            (0, _) => words.load(&self.bytes[..self.end], &self.pairs),
-            _ => (0, Some(Stop::NotAbove)),
+        match words.near(Way::Up, From::Key(&self.bytes[..first.key_len])) {
+            None => words.load(&self.bytes[..self.end], &self.pairs),
+            Some(_) => (0, Some(Stop::NotAbove)),
         }
     }
 
