@@ -11,12 +11,13 @@ pub use texts::{Ended, Front, PrefixBytes};
 use sealed::Sealed;
 
 use crate::error::AllocError;
+use crate::room::make_room;
 use std::ffi::{CStr, CString, OsStr, OsString};
 
 /// Adds bytes to others, and makes room for some more.
 #[inline]
 fn push(bytes: &[u8], more: usize, to: &mut Vec<u8>) -> Result<(), AllocError> {
-    to.try_reserve(bytes.len() + more)?;
+    make_room(bytes.len() + more, to)?;
     to.extend_from_slice(bytes);
     Ok(())
 }

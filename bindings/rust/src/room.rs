@@ -3,6 +3,19 @@ use crate::error::AllocError;
 
 pub(crate) const SMALL: usize = 120;
 
+/// Makes room for so many more items, where there is none yet.
+#[inline]
+pub(crate) fn make_room<T>(more: usize, to: &mut Vec<T>) -> Result<(), AllocError> {
+    if to.capacity() - to.len() < more { grow(more, to) } else { Ok(()) }
+}
+
+#[cold]
+#[inline(never)]
+fn grow<T>(more: usize, to: &mut Vec<T>) -> Result<(), AllocError> {
+    to.try_reserve(more)?;
+    Ok(())
+}
+
 /// Bytes that are put together. Up to 120 need no block of the heap.
 #[derive(Clone, Debug)]
 pub struct Room(Bytes<SMALL>);

@@ -1,6 +1,7 @@
 //! Where the pairs lie: in slots, whose indexes are the words of the proved map.
 use crate::error::AllocError;
 use crate::ffi::ask_for;
+use crate::room::make_room;
 use crate::view::index_of;
 use crate::walk::{AHEAD, Way};
 
@@ -39,13 +40,12 @@ impl<K, V> Slab<K, V> {
     }
 
     /// The index that the next pair gets, for which there is room from then on.
+    #[inline]
     pub(crate) fn next_index(&mut self) -> Result<usize, AllocError> {
         if self.free != NONE {
             return Ok(self.free);
         }
-        if self.slots.len() == self.slots.capacity() {
-            self.slots.try_reserve(1)?;
-        }
+        make_room(1, &mut self.slots)?;
         Ok(self.slots.len())
     }
 
@@ -69,14 +69,21 @@ impl<K, V> Slab<K, V> {
     }
 
     /// Puts a pair in whose key is greater than all others, and tells its index.
+    #[inline]
     pub(crate) fn fill_at_end(&mut self, key: K, value: V) -> usize {
-        let index = self.free;
-        self.is_in_order &= index == NONE;
-        self.len += 1;
-        if index == NONE {
+        if self.free == NONE {
+            self.len += 1;
             self.slots.push(Slot::Full(key, value));
             return self.slots.len() - 1;
         }
+        self.fill_free(key, value)
+    }
+
+    /// Puts a pair into the first free slot, and tells its index.
+    fn fill_free(&mut self, key: K, value: V) -> usize {
+        let index = self.free;
+        self.is_in_order = false;
+        self.len += 1;
         let slot = &mut self.slots[index];
         match slot {
             Slot::Free(next) => self.free = *next,

@@ -5,15 +5,17 @@ use crate::ffi::{From, Pair, Stop, Words};
 use crate::key::sealed::Sealed;
 use crate::map::{ArtMap, CHANGED, word_of};
 use crate::parted::Parted;
+use crate::room::make_room;
 use crate::view::index_of;
 use crate::walk::Way;
+use std::cmp::Ordering;
 use std::iter::Map;
 use std::vec;
 
 /// How many pairs go in at once, and how many bytes of keys, at most, but for a single one. (The first few of a run are
 /// inserted, and so cost more.)
 const PAIRS: usize = 4096;
-const BYTES: usize = 1 << 15;
+const BYTES: usize = 1 << 16;
 
 /// Keys that ascend, with their words.
 pub(super) struct Run {
@@ -21,11 +23,13 @@ pub(super) struct Run {
     bytes: Vec<u8>,
     end: usize,
     pairs: Vec<Pair>,
+    /// The first eight bytes of the last key of [`Filling`], as a number; the greatest one, where that key is shorter.
+    first: u64,
 }
 
 impl Run {
     pub(super) const fn new() -> Self {
-        Run { bytes: Vec::new(), end: 0, pairs: Vec::new() }
+        Run { bytes: Vec::new(), end: 0, pairs: Vec::new(), first: u64::MAX }
     }
 
     /// Makes room for so many pairs, or for as many as go in at once. Where there is no memory for them, each may have it.
@@ -43,25 +47,38 @@ impl Run {
     /// Has the next key tell its bytes, and makes room for its word.
     #[inline]
     pub(super) fn tell<K: Key>(&mut self, key: &K) -> Result<(), AllocError> {
-        self.pairs.try_reserve(1)?;
-        self.bytes.truncate(self.end);
+        make_room(1, &mut self.pairs)?;
         key.push_bytes(Sealed, &mut self.bytes)
     }
 
     /// Takes the bytes of the next key, and makes room for its word.
     #[inline]
     pub(super) fn add(&mut self, key: &[u8]) -> Result<(), AllocError> {
-        self.pairs.try_reserve(1)?;
-        self.bytes.truncate(self.end);
-        self.bytes.try_reserve(key.len())?;
+        make_room(1, &mut self.pairs)?;
+        make_room(key.len(), &mut self.bytes)?;
         self.bytes.extend_from_slice(key);
         Ok(())
+    }
+
+    /// Forgets the bytes that were told last.
+    fn forget(&mut self) {
+        self.bytes.truncate(self.end);
     }
 
     /// The bytes that were told last.
     #[inline]
     fn told(&self) -> &[u8] {
         self.bytes.get(self.end..).unwrap_or_default()
+    }
+
+    /// Whether the key that was told stands after the last one by its first eight bytes, if both have so many. It is then
+    /// taken on by `push`.
+    #[inline]
+    fn goes_up(&mut self) -> bool {
+        let Some(first) = self.told().first_chunk() else { return false };
+        let (last, first) = (self.first, u64::from_be_bytes(*first));
+        self.first = last.max(first);
+        last < first
     }
 
     /// Takes the key that was told on, with its word.
@@ -91,6 +108,7 @@ impl Run {
         self.bytes.clear();
         self.end = 0;
         self.pairs.clear();
+        self.first = u64::MAX;
     }
 }
 
@@ -120,37 +138,16 @@ enum Place {
     Elsewhere,
 }
 
-/// The first eight bytes as a number, or all of them where there are fewer.
-#[inline]
-fn eight(bytes: &[u8]) -> u64 {
-    match bytes.first_chunk() {
-        Some(eight) => u64::from_be_bytes(*eight),
-        None => bytes.iter().fold(0, |number, byte| number << 8 | u64::from(*byte)),
-    }
-}
-
 impl Place {
     /// Where a key stands that comes to the greatest one.
     #[inline]
     fn after(greatest: &[u8], key: &[u8]) -> Place {
-        let place = |one, other| if one < other { Place::AtEnd } else { Place::Elsewhere };
-        if let (Some(one), Some(other)) = (greatest.first_chunk(), key.first_chunk()) {
-            if one != other {
-                return place(u64::from_be_bytes(*one), u64::from_be_bytes(*other));
-            }
-        }
         let len = greatest.len().min(key.len());
-        let mut at = 0;
-        while at < len {
-            // (the last eight may have some of those before them)
-            let from = at.min(len.saturating_sub(8));
-            let (one, other) = (eight(&greatest[from..len]), eight(&key[from..len]));
-            if one != other {
-                return place(one, other);
-            }
-            at += 8;
+        match greatest[..len].cmp(&key[..len]) {
+            Ordering::Less => Place::AtEnd,
+            Ordering::Equal if len < key.len() => Place::Under,
+            Ordering::Equal | Ordering::Greater => Place::Elsewhere,
         }
-        if len < key.len() { Place::Under } else { Place::Elsewhere }
     }
 }
 
@@ -190,10 +187,20 @@ impl<'a, K: Key, V> Filling<'a, K, V> {
     fn wait(&mut self, key: &K) -> Result<Place, AllocError> {
         self.run.tell(key)?;
         self.map.slab.next_index()?;
-        match self.run.last() {
-            Some(last) => Ok(Place::after(last, self.run.told())),
-            None => self.first_place(),
+        if self.run.goes_up() { Ok(Place::AtEnd) } else { self.place() }
+    }
+
+    /// Where the key stands that was told. Where it comes after all others, it is then taken on.
+    #[inline(never)]
+    fn place(&mut self) -> Result<Place, AllocError> {
+        let place = match self.run.last() {
+            Some(last) => Place::after(last, self.run.told()),
+            None => self.first_place()?,
+        };
+        if let Place::AtEnd = place {
+            self.run.first = self.run.told().first_chunk().map_or(u64::MAX, |first| u64::from_be_bytes(*first));
         }
+        Ok(place)
     }
 
     /// Where the key stands that was told, while no pair waits.
@@ -228,6 +235,7 @@ impl<'a, K: Key, V> Filling<'a, K, V> {
     }
 
     /// Puts what waits into the tree. The first pair that is refused is handed back, and those after it are dropped.
+    #[inline(never)]
     fn flush(&mut self) -> Result<(), TryInsertError<K, V>> {
         let Some((stop, mut refused)) = self.load() else { return Ok(()) };
         if stop == Stop::NotAbove {
@@ -278,7 +286,10 @@ impl<'a, K: Key, V> Filling<'a, K, V> {
                         self.flush()?;
                     }
                 }
-                place => return Ok(Some((place, key, value))),
+                place => {
+                    self.run.forget();
+                    return Ok(Some((place, key, value)));
+                }
             }
         }
         Ok(None)
@@ -316,6 +327,25 @@ mod tests {
                 assert!(is_right, "{greatest:?} {key:?}");
             }
         }
+    }
+
+    /// Puts keys in, in all orders of a few, and tells whether all are there, each with its last value.
+    fn all_orders<K: crate::NoPrefixes + Ord + Clone + std::fmt::Debug>(key: impl Fn(u8) -> K) {
+        for number in 0..6u32.pow(5) {
+            let keys = (0..5).map(|place| key(u8::try_from(number / 6u32.pow(place) % 6).unwrap()));
+            let pairs: Vec<_> = keys.zip(0..).collect();
+            let (mut map, mut tree) = (ArtMap::from([(key(3), 9)]), std::collections::BTreeMap::from([(key(3), 9)]));
+            map.extend(pairs.clone());
+            tree.extend(pairs.clone());
+            assert!(map.iter().eq(&tree), "{pairs:?}");
+        }
+    }
+
+    #[test]
+    fn pairs_wait_where_they_ascend_alone() {
+        all_orders(|number| u64::from(number) << 40);
+        all_orders(|number| number);
+        all_orders(|number| format!("{}{number}", "front".repeat(usize::from(number % 3))));
     }
 
     #[test]
