@@ -175,9 +175,9 @@ impl<K, V> Slab<K, V> {
     }
 
     /// Makes room for so many more pairs after all slots.
+    #[inline]
     pub(crate) fn reserve_at_end(&mut self, additional: usize) -> Result<(), AllocError> {
-        self.slots.try_reserve(additional)?;
-        Ok(())
+        make_room(additional, &mut self.slots)
     }
 
     /// Forgets the free slots, where there is no pair: the next ones stand in a row again. Tells whether there is none.

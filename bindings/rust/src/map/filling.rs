@@ -33,7 +33,7 @@ impl Run {
     }
 
     /// Makes room for so many pairs, or for as many as go in at once. Where there is no memory for them, each may have it.
-    fn reserve(&mut self, pairs: usize) {
+    pub(super) fn reserve(&mut self, pairs: usize) {
         let pairs = pairs.min(PAIRS);
         _ = self.pairs.try_reserve_exact(pairs);
         _ = self.bytes.try_reserve_exact(8 * pairs);
