@@ -62,20 +62,8 @@ impl<'a, K: Key, V, L: Limits> Pairs<'a, K, V, L> {
             return slot.and_then(Slot::pair);
         }
         let slab = self.view.slab;
-        let index = match self.walk.given(way, |soon| slab.ask_for(soon)) {
-            Some(index) => index,
-            None => self.next_told(way)?,
-        };
+        let index = or_end(self.walk.next_of(&self.view.words, way, slab, false))?;
         Some(slab.pair(index))
-    }
-
-    /// The index of the next pair, where other words are to be told first.
-    #[inline(never)]
-    fn next_told(&mut self, way: Way) -> Option<usize> {
-        let slab = self.view.slab;
-        let index = or_end(self.walk.more(&self.view.words, way, |index| slab.pair(index).0, false));
-        slab.ask_for_all(self.walk.soon(way));
-        index
     }
 }
 

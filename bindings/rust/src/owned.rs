@@ -70,7 +70,7 @@ impl<K: Key, V> IntoIter<K, V> {
             return None;
         }
         let ArtMap { words, slab } = &mut self.map;
-        let index = or_end(self.walk.next(&*words, way, |index| slab.pair(index).0))?;
+        let index = or_end(self.walk.next_of(&*words, way, slab, false))?;
         // (after the pair the walk finds no way once its key has gone)
         or_end(self.walk.settle(&*words, way, |index| slab.pair(index).0));
         Some(slab.take(index))
@@ -82,7 +82,7 @@ impl<K: Key, V> IntoIter<K, V> {
         let mut walk = self.walk.clone();
         let slots = self.slots.iter().flat_map(|slots| slots.as_slice().iter().filter_map(Slot::pair));
         slots.chain((0..self.map.slab.len()).map_while(move |_| {
-            let index = or_end(walk.next(&view.words, Way::Up, |index| view.slab.pair(index).0))?;
+            let index = or_end(walk.next_of(&view.words, Way::Up, view.slab, false))?;
             Some(view.slab.pair(index))
         }))
     }

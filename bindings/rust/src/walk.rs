@@ -6,7 +6,8 @@ use crate::ffi::{From, Hint, To, Words};
 use crate::key::sealed::Sealed;
 use crate::map::CHANGED;
 use crate::room::{Bytes, Room};
-use crate::view::Reads;
+use crate::slab::Slab;
+use crate::view::{Reads, index_of};
 use std::mem;
 use std::ops::Bound;
 
@@ -201,6 +202,13 @@ impl Batch {
         if self.at < self.many.len() { &self.many[self.at..] } else { &self.few[self.few_at..] }
     }
 
+    /// Those of them that are given next.
+    #[inline]
+    fn soon(&self) -> &[u64] {
+        let left = self.left();
+        &left[..left.len().min(FEW)]
+    }
+
     /// The words that are left: they are given.
     #[inline]
     fn give(&mut self) -> &[u64] {
@@ -273,29 +281,15 @@ pub(crate) struct Walk<L> {
     back: End,
 }
 
-fn index_of(word: u64) -> usize {
-    usize::try_from(word).unwrap_or(usize::MAX)
-}
-
 impl<L: Limits> Walk<L> {
     #[inline]
     pub(crate) const fn new(limits: L) -> Self {
         Walk { limits, front: End::new(), back: End::new() }
     }
 
-    /// The index of the next pair from one of the ends. `key_of` lends the key of the index that this end gave last. An error
-    /// where there is no memory for the bytes of that key: the walk is as it was.
-    #[inline]
-    pub(crate) fn next<'k, K: Key + 'k>(
-        &mut self,
-        words: &impl Reads,
-        way: Way,
-        key_of: impl FnOnce(usize) -> &'k K,
-    ) -> Result<Option<usize>, AllocError> {
-        if let Some(index) = self.given(way, |_| {}) { Ok(Some(index)) } else { self.more(words, way, key_of, false) }
-    }
-
-    /// As `next`, and it is sure that the walk goes on after the pair that this end gave last: so no pair is met twice.
+    /// The index of the next pair from one of the ends, and it is sure that the walk goes on after the pair that this end gave
+    /// last: so no pair is met twice. `key_of` lends the key of the index that it gave last. An error where there is no
+    /// memory for the bytes of that key: the walk is as it was.
     #[inline]
     pub(crate) fn next_sure<'k, K: Key + 'k>(
         &mut self,
@@ -304,6 +298,35 @@ impl<L: Limits> Walk<L> {
         key_of: impl FnOnce(usize) -> &'k K,
     ) -> Result<Option<usize>, AllocError> {
         if let Some(index) = self.given(way, |_| {}) { Ok(Some(index)) } else { self.more(words, way, key_of, true) }
+    }
+
+    /// The same of pairs that lie in slots, which come nearer ahead of it. `is_sure`: whether it is to be sure of that.
+    #[inline]
+    pub(crate) fn next_of<K: Key, V>(
+        &mut self,
+        words: &impl Reads,
+        way: Way,
+        slab: &Slab<K, V>,
+        is_sure: bool,
+    ) -> Result<Option<usize>, AllocError> {
+        match self.given(way, |soon| slab.ask_for(soon)) {
+            Some(index) => Ok(Some(index)),
+            None => self.more_of(words, way, slab, is_sure),
+        }
+    }
+
+    #[inline(never)]
+    fn more_of<K: Key, V>(
+        &mut self,
+        words: &impl Reads,
+        way: Way,
+        slab: &Slab<K, V>,
+        is_sure: bool,
+    ) -> Result<Option<usize>, AllocError> {
+        let index = self.more(words, way, |index| slab.pair(index).0, is_sure)?;
+        let end = if way == Way::Up { &self.front } else { &self.back };
+        slab.ask_for_all(end.batch.soon());
+        Ok(index)
     }
 
     /// Has the next words told where all have been given, so that the pair that was given last may go.
@@ -316,13 +339,6 @@ impl<L: Limits> Walk<L> {
     ) -> Result<(), AllocError> {
         let end = if way == Way::Up { &self.front } else { &self.back };
         if end.batch.has_next() { Ok(()) } else { self.tell(words, way, key_of, false) }
-    }
-
-    /// The words that were told last and stand next at an end.
-    #[inline]
-    pub(crate) fn soon(&self, way: Way) -> &[u64] {
-        let left = if way == Way::Up { self.front.batch.left() } else { self.back.batch.left() };
-        &left[..left.len().min(FEW)]
     }
 
     /// The words that were told and that the front has not given yet: it gives them. None, where others are to be told
@@ -345,7 +361,7 @@ impl<L: Limits> Walk<L> {
     /// The index of the next of the words that were told. None, where others are to be told first, or at the end of the walk.
     /// An index that is given some time after it is told, so that its slot may be asked for.
     #[inline]
-    pub(crate) fn given(&mut self, way: Way, ask: impl FnOnce(usize)) -> Option<usize> {
+    fn given(&mut self, way: Way, ask: impl FnOnce(usize)) -> Option<usize> {
         let (near, far) = match way {
             Way::Up => (&mut self.front, &self.back),
             Way::Down => (&mut self.back, &self.front),
@@ -367,9 +383,9 @@ impl<L: Limits> Walk<L> {
     }
 
     /// Where all words that were told were given: the index of the next pair, for which others are told. The error is that of
-    /// `next`.
+    /// `next_sure`.
     #[inline]
-    pub(crate) fn more<'k, K: Key + 'k>(
+    fn more<'k, K: Key + 'k>(
         &mut self,
         words: &impl Reads,
         way: Way,

@@ -373,7 +373,7 @@ impl<K: Key, V> ArtMap<K, V> {
     fn indexes(&self, prefix: &[u8]) -> Result<Vec<usize>, AllocError> {
         let mut found = Vec::new();
         let (mut walk, slab) = (Walk::new(Under(Room::of(prefix)?)), &self.slab);
-        while let Some(index) = walk.next_sure(&self.words, Way::Up, |index| slab.pair(index).0)? {
+        while let Some(index) = walk.next_of(&self.words, Way::Up, slab, true)? {
             found.try_reserve(1)?;
             found.push(index);
         }

@@ -44,7 +44,7 @@ impl<K: Key, V, F: Goes<K, V>, L: Limits> Extraction<'_, K, V, F, L> {
     fn next_that_goes(&mut self) -> Result<Option<(K, V)>, AllocError> {
         let Some(walk) = self.walk.as_mut().map_err(|why| *why)? else { return Ok(None) };
         let ArtMap { words, slab } = &mut *self.map;
-        while let Some(index) = walk.next(&*words, Way::Up, |index| slab.pair(index).0)? {
+        while let Some(index) = walk.next_of(&*words, Way::Up, slab, false)? {
             let (key, value) = slab.pair_mut(index);
             if self.goes.goes(key, value) {
                 // (after the pair the walk finds no way once its key has gone)

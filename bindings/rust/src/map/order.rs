@@ -30,11 +30,6 @@ impl<L: Limits> Order<L> {
         if let Some(slots) = &mut self.slots {
             return Ok(slots.next());
         }
-        if let Some(index) = self.walk.given(Way::Up, |soon| map.slab.ask_for(soon)) {
-            return Ok(Some(index));
-        }
-        let index = self.walk.more(&map.words, Way::Up, |index| map.slab.pair(index).0, true)?;
-        map.slab.ask_for_all(self.walk.soon(Way::Up));
-        Ok(index)
+        self.walk.next_of(&map.words, Way::Up, &map.slab, true)
     }
 }
