@@ -116,6 +116,19 @@ impl<K, V> Slab<K, V> {
         }
     }
 
+    /// Moves pairs here from some slots of another slab. Their keys ascend, and are greater than all that are here.
+    #[inline]
+    pub(crate) fn gather(&mut self, from: &mut Self, indexes: impl Iterator<Item = usize> + Clone) {
+        let mut soon = indexes.clone().skip(AHEAD);
+        for index in indexes {
+            if let Some(index) = soon.next() {
+                from.ask_for(index);
+            }
+            let (key, value) = from.take(index);
+            self.fill_at_end(key, value);
+        }
+    }
+
     /// Puts a pair after all slots. Its key need not be the greatest.
     pub(crate) fn push(&mut self, key: K, value: V) {
         self.is_in_order = false;

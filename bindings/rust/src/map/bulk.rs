@@ -20,10 +20,7 @@ struct Parting<K, V> {
 impl<K, V> Parting<K, V> {
     /// Moves the pairs. It needs no memory.
     fn end(mut self, from: &mut Slab<K, V>) -> ArtMap<K, V> {
-        for index in self.indexes {
-            let (key, value) = from.take(index);
-            self.made.slab.fill_at_end(key, value);
-        }
+        self.made.slab.gather(from, self.indexes.iter().copied());
         self.made
     }
 

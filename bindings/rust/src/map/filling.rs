@@ -182,14 +182,6 @@ impl<'a, K: Key, V> Filling<'a, K, V> {
         }
     }
 
-    /// Has a key tell its bytes, which may wait where it stands after all others. Then there is room for its pair.
-    #[inline]
-    fn wait(&mut self, key: &K) -> Result<Place, AllocError> {
-        self.run.tell(key)?;
-        self.map.slab.next_index()?;
-        if self.run.goes_up() { Ok(Place::AtEnd) } else { self.place() }
-    }
-
     /// Where the key stands that was told. Where it comes after all others, it is then taken on.
     #[inline(never)]
     fn place(&mut self) -> Result<Place, AllocError> {
@@ -278,18 +270,19 @@ impl<'a, K: Key, V> Filling<'a, K, V> {
         pairs: &mut impl Iterator<Item = (K, V)>,
     ) -> Result<Option<Other<K, V>>, TryInsertError<K, V>> {
         for (key, value) in pairs {
-            match self.wait(&key) {
-                Ok(Place::AtEnd) => {
-                    let index = self.map.slab.fill_at_end(key, value);
-                    self.run.push(word_of(index));
-                    if self.run.is_full() {
-                        self.flush()?;
-                    }
-                }
-                place => {
+            // (for its bytes, its word, and itself)
+            let has_room = self.run.tell(&key).is_ok() && self.map.slab.next_index().is_ok();
+            if !has_room || !self.run.goes_up() {
+                let place = if has_room { self.place() } else { Err(AllocError) };
+                if !matches!(place, Ok(Place::AtEnd)) {
                     self.run.forget();
                     return Ok(Some((place, key, value)));
                 }
+            }
+            let index = self.map.slab.fill_at_end(key, value);
+            self.run.push(word_of(index));
+            if self.run.is_full() {
+                self.flush()?;
             }
         }
         Ok(None)

@@ -34,11 +34,29 @@ struct Told {
 fn first_eight(bytes: &[u8]) -> u64 {
     match bytes.first_chunk() {
         Some(first) => u64::from_be_bytes(*first),
-        None => bytes.iter().rfold(0, |number, byte| number >> 8 | u64::from(*byte) << 56),
+        None => with_zeros(bytes),
     }
 }
 
+#[cold]
+#[inline(never)]
+fn with_zeros(bytes: &[u8]) -> u64 {
+    bytes.iter().rfold(0, |number, byte| number >> 8 | u64::from(*byte) << 56)
+}
+
 impl Told {
+    /// Has the key of the next slot tell its bytes.
+    #[inline]
+    fn tell<K: Key>(&mut self, key: &K, order: &mut Vec<Place>) -> Result<(), AllocError> {
+        let from = self.bytes.len();
+        key.push_bytes(Sealed, &mut self.bytes)?;
+        make_room(1, &mut self.ends)?;
+        make_room(1, order)?;
+        order.push((first_eight(&self.bytes[from..]), self.ends.len()));
+        self.ends.push(self.bytes.len());
+        Ok(())
+    }
+
     #[inline]
     fn by(&self, index: usize) -> &[u8] {
         let from = if index == 0 { 0 } else { self.ends[index - 1] };
@@ -76,27 +94,14 @@ impl<K: Key, V> Sorted<K, V> {
         _ = made.told.ends.try_reserve_exact(most);
         _ = made.order.try_reserve_exact(most);
         for index in 0..made.slab.end() {
-            made.tell(index)?;
+            made.told.tell(made.slab.pair(index).0, &mut made.order)?;
         }
         for (key, value) in pairs {
             made.slab.reserve_at_end(1)?;
+            made.told.tell(&key, &mut made.order)?;
             made.slab.push(key, value);
-            made.tell(made.slab.end() - 1)?;
         }
         Ok(made)
-    }
-
-    /// Has the key of the next slot tell its bytes.
-    #[inline]
-    fn tell(&mut self, index: usize) -> Result<(), AllocError> {
-        let Told { bytes, ends } = &mut self.told;
-        let from = bytes.len();
-        self.slab.pair(index).0.push_bytes(Sealed, bytes)?;
-        make_room(1, ends)?;
-        make_room(1, &mut self.order)?;
-        ends.push(bytes.len());
-        self.order.push((first_eight(&bytes[from..]), index));
-        Ok(())
     }
 
     /// Puts the keys into a tree, sorted, and tells it. The slots that are left stand in that order then. None, where a key
@@ -130,10 +135,7 @@ impl<K: Key, V> Sorted<K, V> {
     pub(super) fn into_map(mut self) -> Result<Option<ArtMap<K, V>>, AllocError> {
         let Some(mut made) = self.load()? else { return Ok(None) };
         made.slab.reserve_exact(self.order.len())?;
-        for (_, index) in self.order {
-            let (key, value) = self.slab.take(index);
-            made.slab.fill_at_end(key, value);
-        }
+        made.slab.gather(&mut self.slab, self.order.iter().map(|it| it.1));
         made.words.shrink();
         // (what gives way, before the map is told)
         drop(self.slab);
