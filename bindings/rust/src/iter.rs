@@ -2,7 +2,6 @@
 use crate::Key;
 use crate::error::or_end;
 use crate::ffi::{From, To};
-use crate::room::Room;
 use crate::slab::Slot;
 use crate::view::{Reader, Reads, View, index_of};
 use crate::walk::{All, Between, Limits, Under, Walk, Way};
@@ -148,8 +147,8 @@ impl<'a, K: Key, V> Range<'a, K, V> {
 pub struct Prefix<'a, K, V>(Pairs<'a, K, V, Under>);
 
 impl<'a, K: Key, V> Prefix<'a, K, V> {
-    pub(crate) fn new(view: View<'a, K, V>, prefix: Room) -> Self {
-        Prefix(Pairs::new(view, Under(prefix)))
+    pub(crate) fn new(view: View<'a, K, V>, prefix: Under) -> Self {
+        Prefix(Pairs::new(view, prefix))
     }
 
     #[inline]

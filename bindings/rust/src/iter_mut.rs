@@ -2,7 +2,6 @@
 use crate::Key;
 use crate::ffi::WalkMut;
 use crate::map::ArtMap;
-use crate::room::Room;
 use crate::walk::{Between, Under, Walk, Watched, Way};
 use std::fmt;
 use std::iter::FusedIterator;
@@ -77,8 +76,8 @@ impl<'a, K: Key, V> RangeMut<'a, K, V> {
 }
 
 impl<'a, K: Key, V> PrefixMut<'a, K, V> {
-    pub(crate) fn new(map: &'a mut ArtMap<K, V>, prefix: Room) -> Self {
-        PrefixMut(WalkMut::new(&mut map.words, &mut map.slab, Walk::new(Under(prefix))))
+    pub(crate) fn new(map: &'a mut ArtMap<K, V>, prefix: Under) -> Self {
+        PrefixMut(WalkMut::new(&mut map.words, &mut map.slab, Walk::new(prefix)))
     }
 }
 

@@ -5,9 +5,8 @@ use crate::iter::{Iter, Prefix, Range};
 use crate::key::sealed::Sealed;
 use crate::pool::Pool;
 use crate::prefixes::longest;
-use crate::room::Room;
 use crate::slab::Slab;
-use crate::walk::{Between, Way};
+use crate::walk::{Between, Under, Way};
 use crate::{Key, KeyPrefix};
 use std::borrow::Borrow;
 use std::ops::{Bound, RangeBounds};
@@ -113,9 +112,10 @@ pub(crate) fn between_if_any<Q: Key + ?Sized, R: RangeBounds<Q>>(range: &R) -> R
     Ok(if wrong(&limits).is_none() { Some(limits) } else { None })
 }
 
-/// The bytes of a prefix.
-pub(crate) fn prefix_room<K, P: KeyPrefix<K> + ?Sized>(prefix: &P) -> Result<Room, AllocError> {
-    Room::of(prefix.to_prefix()?.as_ref())
+/// The keys with a prefix.
+#[inline]
+pub(crate) fn under<K, P: KeyPrefix<K> + ?Sized>(prefix: &P) -> Result<Under, AllocError> {
+    Under::of(prefix.to_prefix()?.as_ref())
 }
 
 impl<'a, K: Key, V> View<'a, K, V> {
@@ -179,10 +179,10 @@ impl<'a, K: Key, V> View<'a, K, V> {
     }
 
     pub(crate) fn try_prefix<P: KeyPrefix<K> + ?Sized>(self, prefix: &P) -> Result<Prefix<'a, K, V>, AllocError> {
-        Ok(Prefix::new(self, prefix_room(prefix)?))
+        Ok(Prefix::new(self, under(prefix)?))
     }
 
     pub(crate) fn prefix<P: KeyPrefix<K> + ?Sized>(self, prefix: &P) -> Prefix<'a, K, V> {
-        Prefix::new(self, or_end(prefix_room(prefix)))
+        Prefix::new(self, or_end(under(prefix)))
     }
 }

@@ -5,7 +5,7 @@ use crate::error::AllocError;
 use crate::ffi::{From, Hint, To, Words};
 use crate::key::sealed::Sealed;
 use crate::map::CHANGED;
-use crate::room::{Bytes, Room};
+use crate::room::Bytes;
 use crate::slab::Slab;
 use crate::view::{Reads, index_of};
 use std::mem;
@@ -22,7 +22,7 @@ const MOST: usize = 1024;
 /// No word: none is an index that a slab has.
 const NONE: u64 = u64::MAX;
 
-/// So many bytes of two bounds stand in a walk itself, which is moved as a user likes: two texts of 27 bytes, say.
+/// So many bytes of a prefix or of two bounds stand in a walk itself, which is moved as a user likes: two texts of 27, say.
 const SMALL: usize = 56;
 
 /// How many words ahead slots are asked for: by then they have come from memory.
@@ -63,7 +63,17 @@ pub(crate) struct Between {
 
 /// Keys that begin with some bytes.
 #[derive(Clone)]
-pub(crate) struct Under(pub(crate) Room);
+pub(crate) struct Under(Bytes<SMALL>);
+
+impl Under {
+    /// A prefix.
+    #[inline]
+    pub(crate) fn of(prefix: &[u8]) -> Result<Under, AllocError> {
+        let mut bytes = Bytes::new();
+        bytes.push(prefix)?;
+        Ok(Under(bytes))
+    }
+}
 
 impl Limits for All {
     const ARE_COUNTED: bool = true;
@@ -154,7 +164,7 @@ impl Limits for Under {
     }
 
     fn to(&self, _: Way) -> To<'_> {
-        To::Prefix(self.0.bytes())
+        To::Prefix(self.0.get())
     }
 }
 
@@ -377,6 +387,7 @@ impl<L: Limits> Walk<L> {
 
     /// Ends the walk, from both ends.
     #[cold]
+    #[inline(never)]
     fn end(&mut self) {
         self.front.batch.end();
         self.back.batch.end();
@@ -393,7 +404,11 @@ impl<L: Limits> Walk<L> {
         is_sure: bool,
     ) -> Result<Option<usize>, AllocError> {
         let near = if way == Way::Up { &mut self.front } else { &mut self.back };
-        if near.last == NONE && near.batch.wanted != 0 {
+        if near.batch.wanted == 0 {
+            self.end();
+            return Ok(None);
+        }
+        if near.last == NONE {
             let (from, to) = (self.limits.from(way), self.limits.to(way));
             if let (From::Key(_) | From::After(_), To::End) = (from, to) {
                 let word = words.call(|words| words.near(way, from));

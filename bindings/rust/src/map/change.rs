@@ -4,7 +4,6 @@ use crate::ffi::{Put, Words};
 use crate::key::sealed::Sealed;
 use crate::map::{ArtMap, Entry, OccupiedEntry, word_of};
 use crate::parted::{Parted, value_of};
-use crate::room::Room;
 use crate::view::{index_of, word_of_key};
 use crate::walk::{Under, Walk, Way};
 use crate::{Key, KeyPrefix, NoPrefixes};
@@ -372,7 +371,7 @@ impl<K: Key, V> ArtMap<K, V> {
     /// The indexes of all pairs whose keys begin with a prefix.
     fn indexes(&self, prefix: &[u8]) -> Result<Vec<usize>, AllocError> {
         let mut found = Vec::new();
-        let (mut walk, slab) = (Walk::new(Under(Room::of(prefix)?)), &self.slab);
+        let (mut walk, slab) = (Walk::new(Under::of(prefix)?), &self.slab);
         while let Some(index) = walk.next_of(&self.words, Way::Up, slab, true)? {
             found.try_reserve(1)?;
             found.push(index);

@@ -4,8 +4,8 @@ use crate::error::{AllocError, TryInsertError, TryKeyError, no_memory, or_end};
 use crate::iter::Prefix;
 use crate::iter_mut::PrefixMut;
 use crate::map::{ArtMap, OccupiedEntry};
-use crate::room::Room;
 use crate::view::index_of;
+use crate::walk::Under;
 
 /// The place of a key in a map, with what stands in its way. [`ArtMap::prefix_entry`] finds it.
 ///
@@ -153,8 +153,8 @@ impl<'a, K: Key, V> PrefixEntry<'a, K, V> {
 
 #[allow(clippy::iter_without_into_iter, reason = "it is an entry, as in blart")]
 impl<'a, K: Key, V> InnerEntry<'a, K, V> {
-    fn room(&self) -> Result<Room, AllocError> {
-        Room::of(self.key.to_bytes()?.as_ref())
+    fn under(&self) -> Result<Under, AllocError> {
+        Under::of(self.key.to_bytes()?.as_ref())
     }
 
     /// The key that was asked for.
@@ -181,7 +181,7 @@ impl<'a, K: Key, V> InnerEntry<'a, K, V> {
     /// assert_eq!(entry.iter().count(), 2);
     /// ```
     pub fn iter(&self) -> Prefix<'_, K, V> {
-        Prefix::new(self.map.view(), or_end(self.room()))
+        Prefix::new(self.map.view(), or_end(self.under()))
     }
 
     /// The pairs whose keys begin with the key, with values to be written.
@@ -195,8 +195,8 @@ impl<'a, K: Key, V> InnerEntry<'a, K, V> {
     /// assert!(map.values().eq(&['c', 'c']));
     /// ```
     pub fn iter_mut(&mut self) -> PrefixMut<'_, K, V> {
-        let room = or_end(self.room());
-        PrefixMut::new(self.map, room)
+        let under = or_end(self.under());
+        PrefixMut::new(self.map, under)
     }
 
     /// Stores the key with a value, in the place of those that begin with it.

@@ -4,7 +4,7 @@ use crate::iter::{Iter, IterBytes, Keys, Prefix, Range, Values};
 use crate::iter_mut::{IterMut, PrefixMut, RangeMut, ValuesMut};
 use crate::map::ArtMap;
 use crate::owned::{IntoIter, IntoKeys, IntoValues};
-use crate::view::{MAP, between, index_of, prefix_room, word_of_key};
+use crate::view::{MAP, between, index_of, under, word_of_key};
 use crate::walk::Way;
 use crate::{Key, KeyPrefix};
 use std::borrow::Borrow;
@@ -291,6 +291,6 @@ impl<K: Key, V> ArtMap<K, V> {
     /// assert!(map.values().eq(&[2, 2, 1]));
     /// ```
     pub fn prefix_mut<P: KeyPrefix<K> + ?Sized>(&mut self, prefix: &P) -> PrefixMut<'_, K, V> {
-        PrefixMut::new(self, or_end(prefix_room(prefix)))
+        PrefixMut::new(self, or_end(under(prefix)))
     }
 }

@@ -4,7 +4,7 @@ use crate::iter::{Prefix, Range};
 use crate::iter_mut::{PrefixMut, RangeMut};
 use crate::map::ArtMap;
 use crate::prefixes::longest;
-use crate::view::{MAP, between, index_of, prefix_room, word_of_key};
+use crate::view::{MAP, between, index_of, under, word_of_key};
 use crate::{Key, KeyPrefix};
 use std::borrow::Borrow;
 use std::ops::RangeBounds;
@@ -210,6 +210,6 @@ impl<K: Key, V> ArtMap<K, V> {
     ///
     /// As [`try_prefix`](Self::try_prefix).
     pub fn try_prefix_mut<P: KeyPrefix<K> + ?Sized>(&mut self, prefix: &P) -> Result<PrefixMut<'_, K, V>, AllocError> {
-        Ok(PrefixMut::new(self, prefix_room(prefix)?))
+        Ok(PrefixMut::new(self, under(prefix)?))
     }
 }
