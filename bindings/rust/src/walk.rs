@@ -19,6 +19,9 @@ const NEXT: usize = 32;
 const TIMES: usize = 2;
 const MOST: usize = 1024;
 
+/// How many words are asked for at least, after the first few, where all are wanted for sure.
+const ALL: usize = 128;
+
 /// No word: none is an index that a slab has.
 const NONE: u64 = u64::MAX;
 
@@ -253,9 +256,10 @@ impl Batch {
     #[inline(never)]
     fn widen(&mut self) {
         if self.wanted > self.many.capacity() {
-            // (and for those after them)
+            // (and for those after them, where these are few)
+            let times = if self.wanted < ALL { TIMES } else { 1 };
             let mut many = Vec::new();
-            if many.try_reserve_exact((self.wanted * TIMES).min(MOST)).is_ok() {
+            if many.try_reserve_exact(self.wanted * times).is_ok() {
                 self.many = many;
             }
         }
@@ -352,9 +356,12 @@ impl<L: Limits> Walk<L> {
     }
 
     /// The words that were told and that the front has not given yet: it gives them. None, where others are to be told
-    /// first, or at the end of the walk.
+    /// first, or at the end of the walk. All that are left are wanted.
     pub(crate) fn told(&mut self) -> &[u64] {
         let End { batch, last, .. } = &mut self.front;
+        if batch.wanted > FEW {
+            batch.wanted = batch.wanted.max(ALL);
+        }
         let met = self.back.last;
         let mut len = batch.left().len();
         if !L::ARE_COUNTED && met != NONE {
