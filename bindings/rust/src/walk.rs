@@ -264,6 +264,8 @@ impl Batch {
             }
         }
         self.many.resize(self.wanted.min(self.many.capacity()), 0);
+        // (none of them is a word yet)
+        self.at = self.many.len();
     }
 
     /// Forgets all words.
