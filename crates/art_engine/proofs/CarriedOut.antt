@@ -32,7 +32,7 @@ on_ok : {T E A B : Type 0} (r : Result T E) → (A → B) → OnOk r A → OnOk 
 on_ok (Ok x) f a = f a
 on_ok (Err e) f a = tt
 
-always : {T E A : Type 0} (r : Result T E) → A → OnOk r A
+pub always : {T E A : Type 0} (r : Result T E) → A → OnOk r A
 always (Ok x) a = a
 always (Err e) a = tt
 

@@ -47,6 +47,8 @@ pub mod Undoing
 pub mod LinesAhead
 pub mod WaysAhead
 pub mod PathsAhead
+pub mod WholeWays
+pub mod LandedLines
 pub mod OwnAhead
 pub mod OwnPathsAhead
 pub mod Terms

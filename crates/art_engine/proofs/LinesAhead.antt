@@ -1,5 +1,5 @@
 -- Lines that were read before their turn: what the next one is, and what is left.
-use Rattle.std.proofs.Common.{◌≡◌, ℕ, suc, zero, ◌+◌, ◌<◌, ◌≤◌, Some, List, [], ◌∷◌, ◌++◌, map, take, drop, length, get_or, refl, ap, sym, ◌∙◌, subst, arith}
+use Rattle.std.proofs.Common.{◌≡◌, ℕ, Bool, true, false, suc, zero, ◌+◌, ◌<◌, ◌≤◌, Some, List, [], ◌∷◌, ◌++◌, map, take, drop, length, get_or, refl, ap, sym, ◌∙◌, subst, arith}
 use Rattle.std.proofs.lemmas.List.Sums.{sum_by-append, sum_by-cons, sum_by_push}
 use Rattle.std.proofs.Math.ListN.{set}
 use Rattle.std.specs.Prelude.{Option, None, option_map}
@@ -11,8 +11,14 @@ use Rattle.art_lines.specs.declared.command.word.Word.{Word}
 use Rattle.art_lines.specs.Lines.{whole_lines_of}
 use Rattle.std.specs.Prelude.{slice_get}
 use Rattle.art_engine.specs.declared.read_ahead.line.Line.{Line}
-use Rattle.art_engine.specs.ReadAhead.{line_or}
-use Rattle.art_engine.proofs.Terms.{AreNext, IsNextLine, NoNewline, most_ahead, read_of, texts_of, total}
+use Rattle.std.proofs.lemmas.Bool.{false≢true}
+use Rattle.std.specs.List.{AllByRecursion}
+use Rattle.std.specs.Prelude.{if◌then◌else◌}
+use Rattle.art_engine.specs.Landed.{IsLandingOf}
+use Rattle.art_engine.specs.ReadAhead.{AreLanded, IsLandedLine, line_or, to_come}
+use Rattle.art_engine.specs.declared.read_ahead.ReadAhead.{ReadAhead}
+use Rattle.art_engine.specs.declared.read_ahead.landing.Landing.TheVariants.{Open}
+use Rattle.art_engine.proofs.Terms.{AreNext, IsNextLine, NoNewline, Records, most_ahead, read_of, texts_of, total}
 use Rattle.art_engine.proofs.LineLemmas.{whole_lines_of-front, no_whole_line}
 
 -- the lines of a text that begins with a line: if any are to come, that is the first, and the others come after it
@@ -131,3 +137,30 @@ own_there lines zero at low fits = absurd (omega arith)
 own_there [] (suc len) at low fits = absurd (omega arith)
 own_there (x ∷ xs) (suc len) zero low fits = (refl, refl)
 own_there (x ∷ xs) (suc len) (suc at) low fits = own_there xs len at (omega arith) (omega arith)
+
+-- lines to come are told of as before
+pub landed_same : (P : ℕ) (records : Records) (old new : ReadAhead) → to_come new ≡ to_come old → new.fresh ≡ old.fresh → AreLanded P records old → AreLanded P records new
+landed_same P records old new come fresh all = λ now. subst (AllByRecursion (IsLandedLine P records)) (sym come) (all (sym fresh ∙ now))
+
+-- where none are to come, or nothing is told, that is so of all
+pub landed_none : (P : ℕ) (records : Records) (ahead : ReadAhead) → to_come ahead ≡ [] → AreLanded P records ahead
+landed_none P records ahead none = λ now. subst (AllByRecursion (IsLandedLine P records)) (sym none) tt
+
+pub landed_forgotten : (P : ℕ) (records : Records) (ahead : ReadAhead) → ahead.fresh ≡ false → AreLanded P records ahead
+landed_forgotten P records ahead apart = λ now. absurd (false≢true (sym apart ∙ now))
+
+-- what is told of the line at a place
+pub landed_there : (P : ℕ) (records : Records) (lines : List Line) (len at : ℕ) (fresh : Bool) (word : Option Word) (fields : Fields) → at < len → at < length lines
+    → (fresh ≡ true → AllByRecursion (IsLandedLine P records) (drop at (take len lines)))
+    → IsLandingOf P records (option_map (λ w. command_with w (line_or fields (λ (x : Line). x.fields) (slice_get lines at))) (line_or word (λ (x : Line). x.word) (slice_get lines at)))
+    (line_or Open (λ (x : Line). if fresh then x.landing else Open) (slice_get lines at)) (line_or [] (λ (x : Line). x.value.items) (slice_get lines at)) (line_or 0 (λ (x : Line). x.read) (slice_get lines at))
+landed_there P records lines zero at fresh word fields low fits all = absurd (omega (arith, low))
+landed_there P records [] (suc len) at fresh word fields low fits all = absurd (omega (arith, fits))
+landed_there P records (x ∷ xs) (suc len) zero true word fields low fits all = subst (λ o. IsLandingOf P records o x.landing x.value.items x.read) (sym x.spelled) (all refl).0
+landed_there P records (x ∷ xs) (suc len) zero false word fields low fits all = tt
+landed_there P records (x ∷ xs) (suc len) (suc at) fresh word fields low fits all = landed_there P records xs len at fresh word fields (omega (arith, low)) (omega (arith, fits)) all
+
+-- of all but the first
+pub landed_rest : (P : ℕ) (records : Records) (lines : List Line) → AllByRecursion (IsLandedLine P records) lines → AllByRecursion (IsLandedLine P records) (drop 1 lines)
+landed_rest P records [] all = tt
+landed_rest P records (x ∷ xs) all = all.1

@@ -25,6 +25,7 @@ use Rattle.art_engine.proofs.Conflicts.{bytes_of}
 use Rattle.art_engine.proofs.CountLaws.{own_way_of, own_way_of_number}
 use Rattle.art_engine.proofs.MappedReads.{paths_by_keys}
 use Rattle.art_engine.proofs.NumberPlaces.{are_in_order, number_bytes, number_keys_are}
+use Rattle.art_engine.proofs.LandedLines.{all_landed}
 use Rattle.art_engine.proofs.PathsAhead.{first_few, root_first}
 
 -- no names are on any path
@@ -40,8 +41,8 @@ module _ (P : ℕ) (keys : Arena (Vec ℕ) (Vec ℕ)) (keys_root : Option Name) 
   on_path line own = go line.of_number own
     where
       go : (b : Bool) → IsOnWayOf keys keys_root numbers numbers_root b line → AreOnPath P keys ps numbers ns b (Some line.key.items) line.visited.items
-      go true way = root_first P numbers line.key.items (λ k. k) numbers_root ns line.visited.items numbers_held way.way
-      go false way = root_first P keys line.key.items (λ k. k.items) keys_root ps line.visited.items keys_held way.way
+      go true way = root_first P numbers line.key.items (λ k. k) numbers_root ns line.visited.items numbers_held way.ahead.way
+      go false way = root_first P keys line.key.items (λ k. k.items) keys_root ps line.visited.items keys_held way.ahead.way
 
   -- that is its own
   read_ahead : (line : Line) → IsOnOwnWay keys keys_root numbers numbers_root line → IsReadAhead P keys ps numbers ns line
@@ -95,6 +96,7 @@ module _ (P : ℕ) (keys : Contents (Vec ℕ) (Vec ℕ)) (numbers : Contents (Li
         hold = hold;
         paths = paths;
         few = all_weaker (IsReadAhead P keys.nodes keys.pairs numbers.nodes numbers.pairs) (λ (line : Line). line.read ≤ own_path_nodes (command_of line.text.items) records) line_few lines paths;
+        landed = all_landed P keys numbers records hold lines own;
       }
 
 -- fewer than the nodes of an own path

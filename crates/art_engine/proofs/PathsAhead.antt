@@ -7,10 +7,11 @@ use Rattle.art_nodes.proofs.Common.{Name, child_at}
 use Rattle.art_nodes.specs.InnerNode.{InnerNode}
 use Rattle.art_arena.proofs.Common.{Arena, AreHeld, Branches, Cell, Shape, Tree, all_left, all_right, branch, branches, cell_of, cells, cells_in, children_at, erase, erase_in, inner_at, key_of, leaf_at, name_of, no_branch, node_at, node_of, pair, path_in, path_of, tree_of}
 use Rattle.art_arena.proofs.shapes.Finding.{dropped}
+use Rattle.art_arena.specs.tree.Paths.{look_up_in, look_up_path}
 use Rattle.art_operations.specs.Runs.{HoldsTreeOf}
 use Rattle.art_engine.specs.Ahead.{AreNodesAlong, IsWay, nodes_to}
 
-drop-drop : (a b : ℕ) (k : List ℕ) → drop a (drop b k) ≡ drop (b + a) k
+pub drop-drop : (a b : ℕ) (k : List ℕ) → drop a (drop b k) ≡ drop (b + a) k
 drop-drop a zero k = let same : a ≡ zero + a = omega arith in ap (λ n. drop n k) same
 drop-drop a (suc b) [] = drop-nil a ∙ sym (drop-nil (suc b + a))
 drop-drop a (suc b) (x ∷ xs) = let same : suc (b + a) ≡ suc b + a = omega arith in drop-drop a b xs ∙ ap (λ n. drop n (x ∷ xs)) same
@@ -21,7 +22,7 @@ below (leaf_at slot k v) key = []
 below (inner_at n prefix kids) key = path_in (erase_in kids) (drop (length prefix) key)
 
 -- the inner node that a cell is
-abbrev node_in : {K V : Type 0} → Option (Cell K V) → InnerNode → InnerNode
+abbrev pub node_in : {K V : Type 0} → Option (Cell K V) → InnerNode → InnerNode
 node_in (Some (branches node)) other = node
 node_in cell other = other
 
@@ -32,13 +33,14 @@ module _ {K V : Type 0} (P : ℕ) (arena : Arena K V) where
   first_of n names (inner_at m prefix kids) key is held rest = ((inner_at m prefix kids, sym is, held, refl), rest)
 
   -- the child under a byte
-  record KidAt (kids : Branches K V) (byte : ℕ) (rest : List ℕ) (child : Name) : Type 0 where
-    shape : Shape K V
-    named : name_of shape ≡ child
-    held : AreHeld (node_at arena) (cells P shape)
-    path : path_in (erase_in kids) (byte ∷ rest) ≡ path_of (erase shape) rest
+  pub record KidAt (kids : Branches K V) (byte : ℕ) (rest : List ℕ) (child : Name) : Type 0 where
+    pub shape : Shape K V
+    pub named : name_of shape ≡ child
+    pub held : AreHeld (node_at arena) (cells P shape)
+    pub path : path_in (erase_in kids) (byte ∷ rest) ≡ path_of (erase shape) rest
+    pub look_up : look_up_in P (erase_in kids) (byte ∷ rest) ≡ look_up_path P (erase shape) rest
 
-  kid_at : (kids : Branches K V) (byte : ℕ) (rest : List ℕ) (child : Name) → child_at (children_at kids) byte ≡ Some child → AreHeld (node_at arena) (cells_in P kids) → KidAt kids byte rest child
+  pub kid_at : (kids : Branches K V) (byte : ℕ) (rest : List ℕ) (child : Name) → child_at (children_at kids) byte ≡ Some child → AreHeld (node_at arena) (cells_in P kids) → KidAt kids byte rest child
   kid_at no_branch byte rest child is held = absurd (cc)
   kid_at (branch c s more) byte rest child is held =
       elim (eqb_tells c byte) [
@@ -48,6 +50,7 @@ module _ {K V : Type 0} (P : ℕ) (arena : Arena K V) where
             named = let e = rw same.0 at is in cc;
             held = all_left (λ x. node_at arena x.0 ≡ Some x.1) (cells P s) (cells_in P more) held;
             path = rw back.0 refl;
+            look_up = rw back.0 refl;
           }
           | inr other ↦ absurd (other.1 (sym same.1))
         ]
@@ -55,7 +58,7 @@ module _ {K V : Type 0} (P : ℕ) (arena : Arena K V) where
           | inl back ↦ absurd (other.1 (sym back.1))
           | inr apart ↦
               let k = kid_at more byte rest child (rw other.0 at is) (all_right (λ x. node_at arena x.0 ≡ Some x.1) (cells P s) (cells_in P more) held) in
-              record { shape = k.shape; named = k.named; held = k.held; path = rw apart.0 k.path }
+              record { shape = k.shape; named = k.named; held = k.held; path = rw apart.0 k.path; look_up = rw apart.0 k.look_up }
         ]
       ]
 

@@ -1,5 +1,5 @@
 -- What is read ahead of a line.
-use Rattle.std.specs.Prelude.{◌≡◌, ◌⊎◌, ℕ, suc, ◌+◌, ◌<◌, int_lt, if◌then◌else◌, List, [], ◌∷◌, ◌++◌, length}
+use Rattle.std.specs.Prelude.{◌≡◌, ◌⊎◌, ℕ, suc, ◌+◌, ◌<◌, int_lt, if◌then◌else◌, List, [], ◌∷◌, ◌++◌, length, bytes_eq}
 use Rattle.std.specs.Prelude.{Option, Some, None, IsSome, MatchOption, option_map, unwrap_or, Bool, true, false}
 use Rattle.std.specs.Global.{Vec}
 use Rattle.std.specs.List.{sum_by}
@@ -9,9 +9,10 @@ use Rattle.art_nodes.specs.Name.{Name}
 use Rattle.art_nodes.specs.InnerNode.{InnerNode}
 use Rattle.art_arena.specs.arena.Arena.{Arena, held_at, inner_held, node_at}
 use Rattle.art_arena.specs.arena.Cells.{AreHeld}
-use Rattle.art_arena.specs.arena.Descents.{GoesOn, MeetsStored}
+use Rattle.art_arena.specs.arena.Descents.{GoesNoFurther, GoesOn, MeetsStored}
 use Rattle.art_arena.specs.arena.Shapes.{Shape, cells, erase, name_of}
 use Rattle.art_arena.specs.tree.Paths.{path_of}
+use Rattle.art_arena.specs.tree.Tenants.{begins_with}
 use Rattle.art_arena.specs.tree.TreeOf.{tree_of}
 use Rattle.art_arena.specs.tree.Trees.{Tree}
 use Rattle.art_lines.specs.Commands.{Command, of_tenant, over, del, get, find, list, span, nget, ndel, nspan}
@@ -54,6 +55,16 @@ shows_value (Some (of_tenant tenant (nget number))) = true
 shows_value (Some (of_tenant tenant (nspan low high))) = true
 shows_value other = false
 
+-- Whether a look-up of a command with this full key finds the record with this one: it is the same, or for a `find` a
+-- front of it.
+abbrev pub finds_key : Option Command → List ℕ → List ℕ → Bool
+finds_key (Some (of_tenant tenant (find key))) full stored = begins_with stored full
+finds_key other full stored = bytes_eq stored full
+
+-- the key goes no further from this node: it doesn't meet its prefix, as much as is stored, or has no child there
+abbrev pub IsDeadEnd : List ℕ → ℕ → InnerNode → Type 0
+IsDeadEnd key depth node = (MeetsStored key depth node → ⊥) ⊎ GoesNoFurther key depth node
+
 module _ {K V : Type 0} (arena : Arena K V) (key : List ℕ) where
   -- From one place of a path, a node and how many bytes of the key lead there, to the next: the node is an inner one
   -- from which the key goes on by its next byte, and whose prefix, as much as is stored, the key meets.
@@ -81,6 +92,14 @@ module _ {K V : Type 0} (arena : Arena K V) (key : List ℕ) where
   pub record IsWayAhead (root : Option Name) (names : List Name) (left : ℕ) (here : Name × ℕ) : Type 0 where
     pub way : MatchOption root (names ≡ []) (λ r. IsWay (r, 0) names)
     pub goes_on : 0 < left → (r : Name) × (root ≡ Some r) × AllLeadTo (r, 0) names here
+
+  -- From the root on these nodes lead to this place, and the node there is the last of them.
+  pub record IsWholeWay (root : Option Name) (names : List Name) (here : Name × ℕ) : Type 0 where
+    pub from : Name
+    pub root_is : root ≡ Some from
+    pub above : List Name
+    pub names_are : names ≡ above ++ here.0 ∷ []
+    pub leads : AllLeadTo (from, 0) above here
 
 module _ {K V : Type 0} (P : ℕ) (arena : Arena K V) where
   -- the node under this name and those below it are those of this tree

@@ -2,6 +2,7 @@ pub mod Keys
 pub mod Records
 pub mod State
 pub mod Ahead
+pub mod Landed
 pub mod ReadAhead
 pub mod Replies
 pub mod Refusals

@@ -11,7 +11,7 @@ use Rattle.art_nodes.specs.Name.{Name}
 use Rattle.art_engine.specs.Ahead.{AreOnOwnPath, is_in_numbers, path_ahead}
 use Rattle.art_engine.specs.Counts.{fronts_shared, path_nodes}
 use Rattle.art_engine.specs.Keys.{full_key_of, number_key_of}
-use Rattle.art_engine.specs.ReadAhead.{IsOnOwnWay, IsReadAhead}
+use Rattle.art_engine.specs.ReadAhead.{IsLandedLine, IsOnOwnWay, IsReadAhead}
 use Rattle.art_engine.specs.Records.{AreRecords, Records, own}
 use Rattle.art_engine.specs.Stored.{ArePairs, AreNumberPairs, all_records_of}
 use Rattle.art_engine.specs.declared.read_ahead.line.Line.{Line}
@@ -55,13 +55,15 @@ pub record HoldRecords (P : ℕ) (keys : Contents (Vec ℕ) (Vec ℕ)) (numbers 
   pub records_are : all_records_of keys.pairs numbers.pairs ≡ records
 
 -- Of two maps that hold the records, what was visited ahead of each of these lines are the first nodes of the path of
--- its own full key, and as many as are told for it: no more than that path has.
+-- its own full key, and as many as are told for it: no more than that path has. What its path came to tells how its
+-- look-up is answered.
 pub record AreReadAhead (P : ℕ) (records : Records) (lines : List Line) : Type 0 where
   pub keys : Contents (Vec ℕ) (Vec ℕ)
   pub numbers : Contents (List ℕ) (Vec ℕ)
   pub hold : HoldRecords P keys numbers records
   pub paths : AllByRecursion (IsReadAhead P keys.nodes keys.pairs numbers.nodes numbers.pairs) lines
   pub few : AllByRecursion (λ line. line.read ≤ own_path_nodes (command_of line.text.items) records) lines
+  pub landed : AllByRecursion (IsLandedLine P records) lines
 
 -- Nodes on the path of a command's full key are nodes of the path in its own tenant's tree and at most four more, if
 -- that tenant has a record there.

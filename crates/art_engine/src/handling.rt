@@ -1,25 +1,31 @@
 //! What a line does: it is parsed, and its word's arm does the work and writes the answer. No map is at hand here, and
 //! what an arm has read can't be let go: it is told, and the index counts it.
-ghost use Rattle.std.specs.Prelude.{◌≡◌, ◌∷◌, [], ◌++◌, OnErr, IfOk, IfErr, is_err, true, List, ℕ};
-ghost use Rattle.std.specs.Prelude.{option_map, false, Some, None};
+ghost use Rattle.std.specs.Prelude.{◌≡◌, ◌∷◌, [], ◌++◌, OnErr, IfOk, IfErr, IfSome, is_err, true, List, ℕ};
+ghost use Rattle.std.specs.Prelude.{false, flat_map, Some, None};
 ghost use Rattle.art_lines.specs.Commands.{audit, dump, Spells};
-ghost use Rattle.art_lines.specs.Parsed.{changes, command_with, drops, looks_up};
+ghost use Rattle.art_lines.specs.Parsed.{changes, drops, looks_up};
 ghost use Rattle.art_lines.specs.Reading.{command_of};
-ghost use Rattle.art_engine.specs.Counts.{IsShort, IsWithin, ReadsOwnPath, line_visits};
+ghost use Rattle.art_lines.specs.Words.{line_of};
+ghost use Rattle.art_lines.specs.Writes.{Writes};
+ghost use Rattle.art_engine.specs.Counts.{IsShort, IsWithin, ReadsOwnPath, line_visits, visits_of};
 ghost use Rattle.art_engine.specs.Done.{IsCommandDone};
 ghost use Rattle.art_engine.specs.Faults.{IsCutLine};
+ghost use Rattle.art_engine.specs.Landed.{IsLandingOf};
 ghost use Rattle.art_engine.specs.Outcome.{answer, left_by};
+ghost use Rattle.art_engine.specs.ReadAhead.{command_parsed, IsLandedParsed};
 ghost use Rattle.art_engine.specs.Refusals.{LineMayRefuse};
+ghost use Rattle.art_engine.specs.Replies.{command_reply};
 
 use crate::audit::write_audit;
 use crate::change::write_changed;
 use crate::drop_tenant::write_dropped;
 use crate::index::{Index, Reads};
+use crate::read_ahead::{Landing, ParsedLine};
 use crate::records::Records;
 use art_lines::command::fields::Fields;
 use art_lines::command::read_line;
 use art_lines::command::word::{Change, LookUp, Whole, Word};
-use art_lines::reply::write_piece;
+use art_lines::reply::{write_piece, write_prefix_pair, write_value};
 use art_lines::{Sink, WriteFailed};
 use thiserror::Error;
 
@@ -93,7 +99,14 @@ impl<const PREFIX_LEN: usize> Index<PREFIX_LEN> {
     {
         let mut fields = Fields::new();
         let word = read_line(line, &mut fields);
-        self.execute_parsed(word, &fields, 0, sink)
+        let parsed = ParsedLine {
+            word,
+            fields: &fields,
+            ahead: 0,
+            landing: Landing::Open,
+            value: &[],
+        };
+        self.execute_parsed(&parsed, sink)
     }
 }
 
@@ -108,21 +121,17 @@ pub(crate) struct Done {
 }
 
 impl<const PREFIX_LEN: usize> Records<PREFIX_LEN> {
-    /// Executes a line whose word and fields were read, and writes its answer.
-    pub(crate) fn execute<W: Sink>(
-        &mut self,
-        word: Option<Word>,
-        fields: &Fields,
-        sink: &mut W,
-    ) -> Done
+    /// Executes a line that was parsed, and writes its answer.
+    pub(crate) fn execute<W: Sink>(&mut self, line: &ParsedLine<'_>, sink: &mut W) -> Done
         requires open { W.has_failed sink.old ≡ false }
-        requires read { (line : List ℕ) × (option_map (λ word. command_with word fields.now) word ≡ command_of line) }
-        ensures { IsCommandDone PREFIX_LEN (option_map (λ word. command_with word fields.now) word) result.memory
-            result.reads.number self.old self.new result.written (W.taken sink.old) (W.taken sink.new)
-            (W.has_failed sink.new) }
+        requires read { (text : List ℕ) × (command_parsed line.now ≡ command_of text) }
+        requires landed { IsLandedParsed PREFIX_LEN self.old line.now }
+        ensures { IsCommandDone PREFIX_LEN (command_parsed line.now) result.memory result.reads.number
+            self.old self.new result.written (W.taken sink.old) (W.taken sink.new) (W.has_failed sink.new) }
     {
-        match word {
-            Some(Word::LookUp(word)) => self.execute_look_up(word, fields, sink),
+        let fields = line.fields;
+        match line.word {
+            Some(Word::LookUp(word)) => self.execute_look_up(word, line, sink),
             Some(Word::Change(word)) => self.execute_change(word, fields, sink),
             Some(Word::Drop) => self.execute_drop(fields, sink),
             Some(Word::Whole(Whole::Dump)) => self.execute_dump(sink),
@@ -131,17 +140,69 @@ impl<const PREFIX_LEN: usize> Records<PREFIX_LEN> {
         }
     }
 
-    /// Answers a look-up.
-    fn execute_look_up<W: Sink>(&self, word: LookUp, fields: &Fields, sink: &mut W) -> Done
-        requires { W.has_failed sink.old ≡ false }
-        ensures { IsCommandDone PREFIX_LEN (Some (looks_up word fields.now)) result.memory result.reads.number
-            self.now self.now result.written (W.taken sink.old) (W.taken sink.new) (W.has_failed sink.new) }
+    /// Answers a look-up: by what is known of its record, if that is so, and else by the maps.
+    fn execute_look_up<W: Sink>(&self, word: LookUp, line: &ParsedLine<'_>, sink: &mut W) -> Done
+        requires open { W.has_failed sink.old ≡ false }
+        requires landed { IsLandingOf PREFIX_LEN self.now (Some (looks_up word line.now.fields.now)) line.now.landing
+            line.now.value.now line.now.ahead }
+        ensures { IsCommandDone PREFIX_LEN (Some (looks_up word line.now.fields.now)) result.memory
+            result.reads.number self.now self.now result.written (W.taken sink.old) (W.taken sink.new)
+            (W.has_failed sink.new) }
     {
-        let (written, reads) = self.look_up(word, fields, sink);
+        self.are_records();
+        if let Some(written) = self.reply_landed(word, line, sink) {
+            return Done {
+                written,
+                memory: false,
+                reads: Reads::of(line.ahead),
+            };
+        }
+        let (written, reads) = self.look_up(word, line.fields, sink);
         Done {
             written,
             memory: false,
             reads,
+        }
+    }
+
+    /// Answers a look-up of one record by what its path came to. If that isn't known, it does nothing.
+    #[inline(always)]
+    fn reply_landed<W: Sink>(
+        &self,
+        word: LookUp,
+        line: &ParsedLine<'_>,
+        sink: &mut W,
+    ) -> Option<Result<(), WriteFailed>>
+        requires open { W.has_failed sink.old ≡ false }
+        requires landed { IsLandingOf PREFIX_LEN self.now (Some (looks_up word line.now.fields.now)) line.now.landing
+            line.now.value.now line.now.ahead }
+        ensures left_alone { result ≡ None → sink.new ≡ sink.old }
+        ensures output { IfSome result (λ written. Writes written (W.taken sink.old) (W.taken sink.new)
+            (flat_map line_of (command_reply (Some (looks_up word line.now.fields.now)) self.now))
+            (W.has_failed sink.new)) }
+        ensures visits { IfSome result (λ _.
+            IsWithin (visits_of PREFIX_LEN (Some (looks_up word line.now.fields.now)) self.now) line.now.ahead) }
+    {
+        let len = match line.landing {
+            Landing::Open => return None,
+            Landing::Leaf => return None,
+            Landing::Missed => None,
+            Landing::Found(len) => Some(len),
+        };
+        match word {
+            LookUp::Get => Some(write_value(sink, len.and(Some(line.value)))),
+            LookUp::NGet => Some(write_value(sink, len.and(Some(line.value)))),
+            LookUp::Find => {
+                let key = line.fields.key();
+                let pair = match len {
+                    Some(len) => Some((&key[..len.saturating_sub(4).min(key.len())], line.value)),
+                    None => None,
+                };
+                Some(write_prefix_pair(sink, pair))
+            }
+            LookUp::List => None,
+            LookUp::Span => None,
+            LookUp::NSpan => None,
         }
     }
 

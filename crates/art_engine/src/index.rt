@@ -1,7 +1,6 @@
 //! An index: the records, and for proofs alone what its lines have read.
-ghost use Rattle.std.specs.Prelude.{◌≡◌, ◌⊎◌, ◌+◌, ◌≤◌, ◌∷◌, [], ◌++◌, map, OnErr, IfErr, IfOk, is_err, option_map};
+ghost use Rattle.std.specs.Prelude.{◌≡◌, ◌⊎◌, ◌+◌, ◌≤◌, ◌∷◌, [], ◌++◌, map, OnErr, IfErr, IfOk, is_err};
 ghost use Rattle.std.specs.Prelude.{false, List, ℕ};
-ghost use Rattle.art_lines.specs.Parsed.{command_with};
 ghost use Rattle.art_lines.specs.Reading.{command_of};
 ghost use Rattle.art_engine.specs.Ahead.{AreNext, most_ahead, total};
 ghost use Rattle.art_engine.specs.Done.{IsLineAnswered};
@@ -11,15 +10,14 @@ ghost use Rattle.art_engine.specs.OwnAhead.{AreReadAhead};
 ghost use Rattle.art_engine.specs.Records.{AreRecords, no_records};
 ghost use Rattle.art_engine.specs.State.{unread};
 ghost use Rattle.art_engine.specs.Stored.{all_records_of, ArePairs, AreNumberPairs};
-ghost use Rattle.art_engine.specs.ReadAhead.{to_come, read_of, texts_of};
+ghost use Rattle.art_engine.specs.ReadAhead.{command_parsed, to_come, read_of, texts_of, AreLanded, IsLandedParsed};
 
 use crate::handling::{Done, Handled, RunFault};
-use crate::read_ahead::ReadAhead;
+use crate::read_ahead::{ParsedLine, ReadAhead};
 use crate::records::Records;
 use art_bytes::{Count, History};
 use art_lines::Sink;
-use art_lines::command::fields::{Fields, NUMBER_KEY};
-use art_lines::command::word::Word;
+use art_lines::command::fields::NUMBER_KEY;
 use art_map::TreeMap;
 use std::alloc::Global;
 use std::marker::Model;
@@ -193,6 +191,8 @@ impl<const PREFIX_LEN: usize> Index<PREFIX_LEN> {
             ≡ total self.old.prefetched + read_of (to_come read_ahead.new) }
         ensures ahead { (to_come read_ahead.new ≡ to_come read_ahead.old)
             ⊎ AreReadAhead PREFIX_LEN self.old.records (to_come read_ahead.new) }
+        ensures landed { AreLanded PREFIX_LEN self.old.records read_ahead.old
+            → AreLanded PREFIX_LEN self.new.records read_ahead.new }
         ensures kept { (self.new.records ≡ self.old.records) × (self.new.reads ≡ self.old.reads)
             × (self.new.ahead ≡ self.old.ahead) }
     {
@@ -224,35 +224,35 @@ impl<const PREFIX_LEN: usize> Index<PREFIX_LEN> {
         self.prefetched = self.prefetched.then_count(&Count { number });
     }
 
-    /// Executes one line as `handle` does, whose word and fields were read, as were so many nodes ahead of it.
+    /// Executes one line as `handle` does, which was parsed. If its record is known from what was read ahead of it,
+    /// that is what it has read.
     pub(crate) fn execute_parsed<W: Sink>(
         &mut self,
-        word: Option<Word>,
-        fields: &Fields,
-        ahead: u64,
+        line: &ParsedLine<'_>,
         sink: &mut W,
     ) -> Result<Handled, RunFault>
         requires open { W.has_failed sink.old ≡ false }
-        requires read { (line : List ℕ) × (option_map (λ word. command_with word fields.now) word ≡ command_of line) }
-        requires few { ahead ≤ most_ahead (option_map (λ word. command_with word fields.now) word) }
-        ensures done { (line : List ℕ) → option_map (λ word. command_with word fields.now) word ≡ command_of line
-            → IfOk result (λ done. IsLineAnswered done.memory done.visits line self.old self.new
+        requires read { (text : List ℕ) × (command_parsed line.now ≡ command_of text) }
+        requires few { line.now.ahead ≤ most_ahead (command_parsed line.now) }
+        requires landed { IsLandedParsed PREFIX_LEN self.old.records line.now }
+        ensures done { (text : List ℕ) → command_parsed line.now ≡ command_of text
+            → IfOk result (λ done. IsLineAnswered done.memory done.visits text self.old self.new
             (W.taken sink.old) (W.taken sink.new)) }
-        ensures ahead { self.new.ahead ≡ self.old.ahead ++ ahead ∷ [] }
+        ensures ahead { self.new.ahead ≡ self.old.ahead ++ line.now.ahead ∷ [] }
         ensures prefetched { self.new.prefetched ≡ self.old.prefetched }
         ensures err { IfErr result (λ fault. fault ≡ RunFault.Write) }
         ensures failed { is_err result ≡ W.has_failed sink.new }
-        ensures cut { (line : List ℕ) → option_map (λ word. command_with word fields.now) word ≡ command_of line
-            → OnErr result (IsCutLine self.old line (W.taken sink.old) (W.taken sink.new) self.new) }
+        ensures cut { (text : List ℕ) → command_parsed line.now ≡ command_of text
+            → OnErr result (IsCutLine self.old text (W.taken sink.old) (W.taken sink.new) self.new) }
     {
-        let done = self.records.execute(word, fields, sink);
+        let done = self.records.execute(line, sink);
         let Done {
             written,
             memory,
             reads,
         } = done;
         let visits = self.count(reads);
-        self.count_ahead(ahead);
+        self.count_ahead(line.ahead);
         written?;
         Ok(Handled { memory, visits })
     }

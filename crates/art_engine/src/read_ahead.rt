@@ -3,32 +3,37 @@
 //! they are executed. So the paths of several are descended at a time, a step of each in turn. The processor waits for
 //! many nodes at once, and each line then finds in the cache what it reads.
 //!
-//! A descent follows the line's full key and no further, and each node is counted. It passes prefixes as the look-up
-//! of the line does, by their lengths or by their bytes. No reply rests on what is prefetched: if a line between
-//! changes a tree, a later path may have been prefetched in vain.
+//! A descent follows the line's full key and no further, and each node is counted. It goes as the look-up of the line
+//! does. So a look-up of one record is answered by what its path came to, and goes down no second time. If a line
+//! between changes the records, it goes down in its turn, and its path was prefetched in vain.
 ghost use Rattle.std.specs.Prelude.{◌≡◌, ◌≤◌, ◌<◌, ◌+◌, [], None, IfSome, IsTrue, drop, length};
 ghost use Rattle.std.specs.Prelude.{option_map, take, ◌++◌, map, Option, slice_get};
-ghost use Rattle.std.specs.List.{AllByRecursion, AllZip, sum_by};
+ghost use Rattle.std.specs.List.{AllByRecursion, sum_by};
 ghost use Rattle.art_nodes.specs.Name.{Name};
-ghost use Rattle.std.specs.Prelude.{if◌then◌else◌};
+ghost use Rattle.std.specs.Prelude.{if◌then◌else◌, ℕ, false};
 ghost use Rattle.art_arena.specs.arena.Visited.{count_of};
 ghost use Rattle.art_lines.specs.Lines.{whole_lines_of};
 ghost use Rattle.art_lines.specs.Parsed.{command_with};
 ghost use Rattle.art_lines.specs.Reading.{command_of};
 ghost use Rattle.art_engine.specs.Ahead.{AreNext, IsNextLine, most_ahead};
 ghost use Rattle.art_engine.specs.ReadAhead.{ahead_now, fields_now, line_now, to_come, read_of, texts_of, word_now};
-ghost use Rattle.art_engine.specs.ReadAhead.{IsAtStart, IsDescended, IsOnOwnWay};
+ghost use Rattle.art_engine.specs.ReadAhead.{landing_now, value_now, AreLanded, IsAtStart};
+ghost use Rattle.art_engine.specs.ReadAhead.{IsLandedNow, IsOnOwnWay};
+ghost use Rattle.art_engine.specs.Records.{Records};
 
+mod descents;
+mod landing;
 mod line;
 pub(crate) mod names;
 
 pub use crate::records::PathReader;
-use art_bytes::AsBytes;
 use art_lines::command::fields::{Fields, NUMBER_KEY};
 use art_lines::command::read_line;
 use art_lines::command::word::Word;
 use art_nodes::OpaqueNodePtr;
-use line::{KEY, Line, SHORT};
+use descents::{Prefetched, descend_both};
+pub use landing::Landing;
+use line::{Line, SHORT};
 use memchr::memchr;
 use std::alloc::Global;
 
@@ -47,7 +52,7 @@ const PAUSE: usize = 128;
 /// For a map of fewer records nothing is prefetched: it stands in a cache, and a line hardly waits.
 pub const MIN_RECORDS: usize = 16_384;
 
-/// A parsed line, and how many nodes were prefetched for it.
+/// A parsed line, how many nodes were prefetched for it, and what its path came to.
 #[derive(Clone, Copy, Drop)]
 pub struct ParsedLine<'a> {
     /// Its word, or `None` if the line spells no command.
@@ -56,6 +61,10 @@ pub struct ParsedLine<'a> {
     pub fields: &'a Fields,
     /// How many nodes were prefetched for it: 0 if it was not parsed before its turn.
     pub ahead: u64,
+    /// What is known of the record that it looks up.
+    pub landing: Landing,
+    /// The value of that record, if one was found. Else it doesn't matter.
+    pub value: &'a [u8],
 }
 
 /// The roots of the maps that are prefetched.
@@ -72,112 +81,6 @@ impl Roots {
     {
         if number { self.numbers } else { self.keys }
     }
-}
-
-/// The leaves at the ends of paths: how many there were, and a checksum that no one knows without having read their
-/// keys and values, so that no compiler leaves the reads out.
-#[derive(Default, Drop)]
-struct Prefetched {
-    leaves: usize,
-    checksum: u8,
-}
-
-impl Prefetched {
-    /// Reads the keys of leaves, and the values that are shown. Where these are is read before, of all of them. It is
-    /// given nothing else, so no other bytes are read early.
-    fn read<K: AsBytes>(&mut self, leaves: &[Option<(&K, Option<&Vec<u8>>)>; LINES]) {
-        for leaf in leaves {
-            if let Some((key, value)) = *leaf {
-                self.checksum ^= match value {
-                    Some(value) => u8::from(value.is_empty()),
-                    None => u8::from(key.as_bytes().is_empty()),
-                };
-                self.leaves = self.leaves.saturating_add(1);
-            }
-        }
-        for leaf in leaves {
-            if let Some((key, value)) = *leaf {
-                let bytes = key.as_bytes();
-                let shown = value.and_then(|it| it.first());
-                let ends = [bytes.first(), bytes.last(), shown];
-                for end in ends {
-                    self.checksum ^= end.copied().unwrap_or_default();
-                }
-            }
-        }
-    }
-}
-
-/// Reads the next node of the path of each line that goes on in this map, and returns whether there was one. What is
-/// read early of the leaf that a path ends at is kept at the line's place.
-fn step_each<'a, K, const PREFIX_LEN: usize>(
-    lines: &mut [Line],
-    reader: &mut PathReader<'a, K, PREFIX_LEN>,
-    of_number: bool,
-    leaves: &mut [Option<(&'a K, Option<&'a Vec<u8>>)>; LINES],
-) -> bool
-    ensures counted { read_of lines.new + count_of reader.old.reader ≡ read_of lines.old + count_of reader.new.reader }
-    ensures texts { texts_of lines.new ≡ texts_of lines.old }
-    ensures long { length lines.new ≡ length lines.old }
-    ensures descended { AllZip (IsDescended reader.old.arena.now of_number) lines.old lines.new }
-    ensures same_tree { (reader.new.arena.now ≡ reader.old.arena.now) × (reader.new.root ≡ reader.old.root) }
-{
-    let mut goes_on = false;
-    'lines: for at in 0..lines.len().min(LINES) {
-        if lines[at].goes_on(of_number) {
-            goes_on = true;
-            if let Some(reached) = lines[at].step(reader) {
-                leaves[at] = Some(reached);
-            }
-        }
-    }
-    goes_on
-}
-
-/// Descends the paths of some lines in one map, a step of each in turn, and reads the leaves that they end at.
-fn descend_all<K: AsBytes, const PREFIX_LEN: usize>(
-    lines: &mut [Line],
-    reader: &mut PathReader<'_, K, PREFIX_LEN>,
-    of_number: bool,
-    prefetched: &mut Prefetched,
-)
-    ensures counted { read_of lines.new + count_of reader.old.reader ≡ read_of lines.old + count_of reader.new.reader }
-    ensures texts { texts_of lines.new ≡ texts_of lines.old }
-    ensures long { length lines.new ≡ length lines.old }
-    ensures descended { AllZip (IsDescended reader.old.arena.now of_number) lines.old lines.new }
-    ensures same_tree { (reader.new.arena.now ≡ reader.old.arena.now) × (reader.new.root ≡ reader.old.root) }
-{
-    let mut leaves = [None; LINES];
-    'steps: for _ in 0..KEY + 1 {
-        if !step_each(lines, reader, of_number, &mut leaves) {
-            break;
-        }
-    }
-    prefetched.read(&leaves);
-}
-
-/// Descends the paths of the first lines in both maps.
-fn descend_both<const PREFIX_LEN: usize>(
-    lines: &mut [Line],
-    len: usize,
-    keys: &mut PathReader<'_, Vec<u8>, PREFIX_LEN>,
-    numbers: &mut PathReader<'_, [u8; NUMBER_KEY], PREFIX_LEN>,
-    prefetched: &mut Prefetched,
-)
-    requires { len ≤ length lines.old }
-    ensures counted { read_of (take len lines.new) + count_of keys.old.reader + count_of numbers.old.reader
-        ≡ read_of (take len lines.old) + count_of keys.new.reader + count_of numbers.new.reader }
-    ensures texts { texts_of (take len lines.new) ≡ texts_of (take len lines.old) }
-    ensures long { length lines.new ≡ length lines.old }
-    ensures ways { (keys_root numbers_root : Option Name)
-        → AllByRecursion (IsOnOwnWay keys.old.arena.now keys_root numbers.old.arena.now numbers_root)
-        (take len lines.old)
-        → AllByRecursion (IsOnOwnWay keys.old.arena.now keys_root numbers.old.arena.now numbers_root)
-        (take len lines.new) }
-{
-    let first = &mut lines[..len];
-    descend_all(first, keys, false, prefetched);
-    descend_all(first, numbers, true, prefetched);
 }
 
 /// Reads lines at the front of a text, as many as there are places and up to one that is not whole or not short. It
@@ -204,14 +107,15 @@ fn read_lines(lines: &mut [Line], roots: &Roots, text: &[u8]) -> usize
     len
 }
 
-/// The lines that are parsed before their turn: how many they are, and which is next. Where there is no memory for them
-/// there are none, and each line is parsed in its turn.
+/// The lines that are parsed before their turn: how many they are, which is next, and whether what their paths came to
+/// still holds. Where there is no memory for them there are none, and each line is parsed in its turn.
 #[derive(Drop)]
 pub struct ReadAhead {
     alloc: Global,
     lines: Vec<Line>,
     len: usize,
     at: usize,
+    fresh: bool,
     pause: usize,
     leaves: usize,
     checksum: u8,
@@ -235,6 +139,7 @@ impl ReadAhead {
             lines: Vec::new(alloc),
             len: 0,
             at: 0,
+            fresh: false,
             pause: 0,
             leaves: 0,
             checksum: 0,
@@ -264,6 +169,8 @@ impl ReadAhead {
         ensures following { texts_of (to_come self.new) ≡ drop 1 (texts_of (to_come self.old)) }
         ensures own { (line_now self.new ≡ slice_get (to_come self.old) 0)
             × (to_come self.new ≡ drop 1 (to_come self.old)) }
+        ensures landed { (P : ℕ) (records : Records) → AreLanded P records self.old
+            → AreLanded P records self.new × IsLandedNow P records self.new }
     {
         let at = self.at;
         if at < self.len && at < self.lines.len() {
@@ -284,7 +191,7 @@ impl ReadAhead {
         let at = self.at;
         if at < self.len && at < self.lines.len() {
             self.at += 1;
-            return Some(self.lines[at].parsed().ahead);
+            return Some(self.lines[at].parsed(false).ahead);
         }
         None
     }
@@ -295,8 +202,9 @@ impl ReadAhead {
         ensures read { option_map (λ word. command_with word (fields_now self.new)) (word_now self.new)
             ≡ command_of line.now }
         ensures ahead { ahead_now self.new ≡ 0 }
-        ensures kept { to_come self.new ≡ to_come self.old }
+        ensures kept { (to_come self.new ≡ to_come self.old) × (self.new.fresh ≡ self.old.fresh) }
         ensures alone { line_now self.new ≡ None }
+        ensures unlanded { (P : ℕ) (records : Records) → IsLandedNow P records self.new }
     {
         self.current = None;
         self.word = read_line(line, &mut self.fields);
@@ -315,17 +223,28 @@ impl ReadAhead {
         ensures word { result.word ≡ word_now self.now }
         ensures fields { result.fields.now ≡ fields_now self.now }
         ensures ahead { result.ahead ≡ ahead_now self.now }
+        ensures landing { result.landing ≡ landing_now self.now }
+        ensures value { result.value.now ≡ value_now self.now }
     {
         if let Some(at) = self.current {
             if let Some(line) = self.lines.get(at) {
-                return line.parsed();
+                return line.parsed(self.fresh);
             }
         }
         ParsedLine {
             word: self.word,
             fields: &self.fields,
             ahead: 0,
+            landing: Landing::Open,
+            value: &[],
         }
+    }
+
+    /// The records have changed: what the paths of lines came to tells no more of them.
+    pub(crate) fn forget_landings(&mut self)
+        ensures { (to_come self.new ≡ to_come self.old) × (self.new.fresh ≡ false) }
+    {
+        self.fresh = false;
     }
 
     /// Returns whether the next lines are to be read now, where the larger of both maps has so many records: those that
@@ -333,7 +252,7 @@ impl ReadAhead {
     #[inline]
     pub(crate) fn should_read(&mut self, records: usize) -> bool
         ensures used_up { IsTrue result → to_come self.old ≡ [] }
-        ensures kept { to_come self.new ≡ to_come self.old }
+        ensures kept { (to_come self.new ≡ to_come self.old) × (self.new.fresh ≡ self.old.fresh) }
     {
         if self.at < self.len {
             return false;
@@ -381,6 +300,7 @@ impl ReadAhead {
             },
             text,
         );
+        self.fresh = true;
         self.leaves = 0;
         if self.len < MIN_LINES {
             return;

@@ -3,13 +3,18 @@
 //! The order of calls is no value that a clause could name. So `read_piece` alone reads from the source. It requires of
 //! the sink that nothing is held back in it (`is_out`), which `send` ensures.
 ghost use Rattle.std.specs.Prelude.{◌≡◌, ℕ, ◌+◌, ◌<◌, ◌≤◌, ◌++◌, ◌∷◌, ◌↔◌, ◌⊎◌, [], List, length, take, OnOk, OnErr};
-ghost use Rattle.std.specs.Prelude.{Bool, IfErr, IfOk, IsTrue, is_err, true, false, suc, Err, Ok};
+ghost use Rattle.std.specs.Prelude.{Bool, IfErr, IfOk, IsTrue, is_err, true, false, suc, Err, Ok, option_map};
 ghost use Rattle.art_lines.specs.Ends.{bytes_taken, calls_to_flush, has_write_failed, writes_unflushed};
 ghost use Rattle.art_lines.specs.Lines.{lines_of, whole_lines_of, lines_so_far};
 ghost use Rattle.art_engine.specs.State.{State};
 ghost use Rattle.art_lines.specs.Reading.{command_of};
 ghost use Rattle.art_engine.specs.Ahead.{AreNext, IsAllTold, Tells, most_ahead, total};
+ghost use Rattle.art_lines.specs.Parsed.{command_with};
+ghost use Rattle.art_lines.specs.declared.command.fields.Fields.{Fields};
+ghost use Rattle.art_engine.specs.Done.{records_left};
 ghost use Rattle.art_engine.specs.ReadAhead.{ahead_now, command_now, to_come, read_of, texts_of};
+ghost use Rattle.art_engine.specs.ReadAhead.{AreLanded, IsLandedNow};
+ghost use Rattle.art_engine.specs.Records.{Records};
 ghost use Rattle.art_engine.specs.Outcome.{IsLineDone, IsOutcome, answer};
 ghost use Rattle.art_engine.specs.Faults.{AfterWriteFault, IsCutLine};
 ghost use Rattle.art_engine.specs.Progress.{Carried, IsCutRun, NoNewline};
@@ -20,6 +25,7 @@ use crate::piece::PieceRoom;
 use crate::read_ahead::ReadAhead;
 use arrayvec::ArrayVec;
 use art_lines::command::LINE_ROOM;
+use art_lines::command::word::Word;
 use art_lines::{ReadFailed, Sink, Source, ToWriter};
 use memchr::memchr;
 use std::io::Write;
@@ -194,6 +200,7 @@ fn finish_line<W: Sink, const PREFIX_LEN: usize>(
     requires open { W.has_failed sink.old ≡ false }
     requires part { NoNewline part.now × ((following : List ℕ) × (rest.now ≡ (part.now ++ 10 ∷ []) ++ following)) }
     requires comes { AreNext (texts_of (to_come read_ahead.old)) rest.now }
+    requires landed { AreLanded PREFIX_LEN index.old.records read_ahead.old }
     requires cut { (held.old.items ≡ []) ⊎ (to_come read_ahead.old ≡ []) }
     ensures carried { OnOk result ((start : State PREFIX_LEN) (text before : List ℕ)
         → NoNewline part.now
@@ -203,6 +210,7 @@ fn finish_line<W: Sink, const PREFIX_LEN: usize>(
     ensures emptied { OnOk result (held.new.items ≡ []) }
     ensures comes { OnOk result ((following : List ℕ) → rest.now ≡ (part.now ++ 10 ∷ []) ++ following
         → AreNext (texts_of (to_come read_ahead.new)) following) }
+    ensures landed { OnOk result (AreLanded PREFIX_LEN index.new.records read_ahead.new) }
     ensures used_up { OnErr result (to_come read_ahead.new ≡ []) }
     ensures counted { Tells index.old (read_of (to_come read_ahead.old)) index.new (read_of (to_come read_ahead.new)) }
     ensures cut { OnErr result ((start : State PREFIX_LEN) (text before : List ℕ)
@@ -226,7 +234,22 @@ fn finish_line<W: Sink, const PREFIX_LEN: usize>(
     Ok(())
 }
 
+/// Whether a line with this word leaves the records as they are.
+fn keeps_records(word: Option<Word>) -> bool
+    ensures { IsTrue result → (fields : Fields) (memory : Bool) (records : Records)
+        → records_left memory (option_map (λ word. command_with word fields) word) records ≡ records }
+{
+    match word {
+        None => true,
+        Some(Word::LookUp(_)) => true,
+        Some(Word::Whole(_)) => true,
+        Some(Word::Change(_)) => false,
+        Some(Word::Drop) => false,
+    }
+}
+
 /// Executes the line that came last. If the sink fails, what was read ahead of lines that do not come is counted, too.
+/// If it may change the records, what the paths of lines to come came to is forgotten.
 fn execute_current<W: Sink, const PREFIX_LEN: usize>(
     index: &mut Index<PREFIX_LEN>,
     read_ahead: &mut ReadAhead,
@@ -235,6 +258,9 @@ fn execute_current<W: Sink, const PREFIX_LEN: usize>(
     requires open { W.has_failed sink.old ≡ false }
     requires read { (line : List ℕ) × (command_now read_ahead.old ≡ command_of line) }
     requires few { ahead_now read_ahead.old ≤ most_ahead (command_now read_ahead.old) }
+    requires now { IsLandedNow PREFIX_LEN index.old.records read_ahead.old }
+    requires landed { AreLanded PREFIX_LEN index.old.records read_ahead.old }
+    ensures landed { OnOk result (AreLanded PREFIX_LEN index.new.records read_ahead.new) }
     ensures done { (line : List ℕ) → command_now read_ahead.old ≡ command_of line
         → OnOk result ((memory : Bool) × (done : IsLineDone memory index.old line index.new)
         × (W.taken sink.new ≡ W.taken sink.old ++ answer memory index.old.records line)
@@ -251,9 +277,13 @@ fn execute_current<W: Sink, const PREFIX_LEN: usize>(
     ensures failed { is_err result ≡ W.has_failed sink.new }
 {
     let parsed = read_ahead.parsed();
-    match index.execute_parsed(parsed.word, parsed.fields, parsed.ahead, sink) {
+    let keeps = keeps_records(parsed.word);
+    match index.execute_parsed(&parsed, sink) {
         Ok(_handled) => {
             index.holds_records();
+            if !keeps {
+                read_ahead.forget_landings();
+            }
             Ok(())
         }
         Err(fault) => {

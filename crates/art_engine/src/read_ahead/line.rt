@@ -1,22 +1,25 @@
 //! A line that is parsed before its turn, and how far the path of its key is descended.
 ghost use Rattle.std.specs.Prelude.{◌≡◌, ℕ, ◌+◌, ◌<◌, ◌≤◌, ◌++◌, List, [], true, IsTrue, IfSome, length};
-ghost use Rattle.std.specs.Prelude.{Option, Some, option_map, if◌then◌else◌};
+ghost use Rattle.std.specs.Prelude.{Option, Some, None, option_map, if◌then◌else◌};
 ghost use Rattle.art_arena.specs.arena.Visited.{count_of};
-ghost use Rattle.art_arena.specs.arena.Arena.{held_at, leaf_held};
+ghost use Rattle.art_arena.specs.arena.Arena.{Arena};
 ghost use Rattle.art_arena.specs.arena.Descents.{GoesOn, MeetsStored};
+ghost use Rattle.art_nodes.specs.declared.leaf.LeafNode.{LeafNode};
 ghost use Rattle.art_lines.specs.Parsed.{command_with};
 ghost use Rattle.art_lines.specs.Reading.{command_of};
 ghost use Rattle.art_lines.specs.declared.command.fields.Fields.{Fields};
 ghost use Rattle.art_nodes.specs.Name.{Name};
 ghost use Rattle.art_engine.specs.Ahead.{path_ahead, most_ahead, is_in_numbers, shows_value};
-ghost use Rattle.art_engine.specs.Ahead.{IsStepAhead, IsWayAhead};
-ghost use Rattle.art_nodes.specs.declared.leaf.LeafNode.{LeafNode};
+ghost use Rattle.art_engine.specs.Ahead.{IsStepAhead, IsDeadEnd};
+ghost use Rattle.art_engine.specs.declared.read_ahead.landing.Landing.TheVariants.{Open};
 ghost use Rattle.std.specs.Global.{Vec};
 
+use crate::read_ahead::landing::{Landing, MAX_VALUE, takes};
 use crate::read_ahead::names::Names;
 use crate::read_ahead::{ParsedLine, PathReader, Roots};
 use arrayvec::ArrayVec;
 use art_arena::{InnerRef, NextStep};
+use art_bytes::AsBytes;
 use art_lines::command::fields::Fields;
 use art_lines::command::read_line;
 use art_lines::command::word::{Change, LookUp, Whole, Word};
@@ -30,7 +33,8 @@ pub(crate) const KEY: usize = 132;
 
 /// A line that is parsed before its turn. It has the node that comes next on the path of its key, how many bytes of the
 /// key lead there, how many nodes were read, and how many may be still. Of a line that has a path the key is that of
-/// its command. For proofs alone it keeps the names of the nodes that were read.
+/// its command. It has what its path came to, and the value of the record that was found there. For proofs alone it
+/// keeps the names of the nodes that were read.
 #[derive(Drop)]
 pub(crate) struct Line {
     text: ArrayVec<u8, SHORT>,
@@ -42,6 +46,8 @@ pub(crate) struct Line {
     depth: usize,
     read: u64,
     left: u64,
+    landing: Landing,
+    value: ArrayVec<u8, MAX_VALUE>,
     visited: Names,
     ghost spelled: { option_map (λ word. command_with word fields) word ≡ command_of text.items },
     ghost few: { read + left ≤ most_ahead (command_of text.items) },
@@ -49,6 +55,7 @@ pub(crate) struct Line {
     ghost path: { 0 < read + left → path_ahead (command_of text.items) ≡ Some key.items },
     ghost map: { 0 < read + left → of_number ≡ is_in_numbers (command_of text.items) },
     ghost told: { length visited.items ≡ read },
+    ghost unlanded: { 0 < left → landing ≡ Open },
 }
 
 /// The child to which a key goes on from an inner node after so many of its bytes. It goes no further where it doesn't
@@ -61,6 +68,7 @@ fn next_of<K, const PREFIX_LEN: usize>(
 ) -> Option<NextStep>
     ensures goes { IfSome result (λ step. GoesOn key.now depth inner.now.node step.byte step.child step.depth) }
     ensures meets { IfSome result (λ step. MeetsStored key.now depth inner.now.node) }
+    ensures stops { result ≡ None → IsDeadEnd key.now depth inner.now.node }
 {
     if depth <= key.len() && inner.meets_stored(key, depth) {
         return inner.next_step(key, depth);
@@ -68,12 +76,12 @@ fn next_of<K, const PREFIX_LEN: usize>(
     None
 }
 
-/// Sets a key to these bytes, and returns whether there is room for them.
-fn set_key(key: &mut ArrayVec<u8, KEY>, bytes: &[u8]) -> bool
-    ensures { IsTrue result → key.new.items ≡ bytes.now }
+/// Sets a list to these bytes, and returns whether there is room for them.
+fn set_bytes<const N: usize>(list: &mut ArrayVec<u8, N>, bytes: &[u8]) -> bool
+    ensures { IsTrue result → list.new.items ≡ bytes.now }
 {
-    key.clear();
-    key.try_extend_from_slice(bytes).is_ok()
+    list.clear();
+    list.try_extend_from_slice(bytes).is_ok()
 }
 
 /// Sets a key to the one whose path is prefetched for a command, and returns whether there is one and it is short.
@@ -81,19 +89,19 @@ fn set_path_key(word: Word, fields: &Fields, key: &mut ArrayVec<u8, KEY>) -> boo
     ensures { IsTrue result → path_ahead (Some (command_with word fields.now)) ≡ Some key.new.items }
 {
     match word {
-        Word::LookUp(LookUp::Get) => set_key(key, fields.full_key()),
-        Word::LookUp(LookUp::Find) => set_key(key, fields.full_key()),
-        Word::LookUp(LookUp::List) => set_key(key, fields.full_key()),
+        Word::LookUp(LookUp::Get) => set_bytes(key, fields.full_key()),
+        Word::LookUp(LookUp::Find) => set_bytes(key, fields.full_key()),
+        Word::LookUp(LookUp::List) => set_bytes(key, fields.full_key()),
         Word::LookUp(LookUp::Span) => {
-            !fields.upper().cmp(fields.key()).is_lt() && set_key(key, fields.full_key())
+            !fields.upper().cmp(fields.key()).is_lt() && set_bytes(key, fields.full_key())
         }
-        Word::LookUp(LookUp::NGet) => set_key(key, &fields.number_key()),
+        Word::LookUp(LookUp::NGet) => set_bytes(key, &fields.number_key()),
         Word::LookUp(LookUp::NSpan) => {
-            fields.number() <= fields.bound() && set_key(key, &fields.number_key())
+            fields.number() <= fields.bound() && set_bytes(key, &fields.number_key())
         }
-        Word::Change(Change::Over) => set_key(key, fields.full_key()),
-        Word::Change(Change::Del) => set_key(key, fields.full_key()),
-        Word::Change(Change::NDel) => set_key(key, &fields.number_key()),
+        Word::Change(Change::Over) => set_bytes(key, fields.full_key()),
+        Word::Change(Change::Del) => set_bytes(key, fields.full_key()),
+        Word::Change(Change::NDel) => set_bytes(key, &fields.number_key()),
         Word::Change(Change::Put) => false,
         Word::Change(Change::NPut) => false,
         Word::Whole(_) => false,
@@ -156,6 +164,8 @@ fn early_of<'a, K>(
 }
 
 impl Line {
+    ghost use Rattle.art_engine.specs.ReadAhead.{IsOnWayIn, IsReadEarly};
+
     /// The empty line.
     pub(crate) fn new() -> Self {
         let text: ArrayVec<u8, SHORT> = ArrayVec::new();
@@ -171,6 +181,8 @@ impl Line {
             depth: 0,
             read: 0,
             left: 0,
+            landing: Landing::Open,
+            value: ArrayVec::new(),
             visited: Names::new(),
         }
     }
@@ -179,6 +191,7 @@ impl Line {
     pub(crate) fn read(&mut self, text: &[u8], roots: &Roots)
         ensures none { self.new.read ≡ 0 }
         ensures unvisited { self.new.visited.items ≡ [] }
+        ensures unlanded { self.new.landing ≡ Open }
         ensures start { 0 < self.new.left → (self.new.depth ≡ 0)
             × ((if self.new.of_number then roots.now.numbers else roots.now.keys) ≡ Some self.new.node) }
         ensures text { length text.now ≤ 256 → self.new.text.items ≡ text.now }
@@ -189,6 +202,7 @@ impl Line {
         self.read = 0;
         self.left = 0;
         self.depth = 0;
+        self.landing = Landing::Open;
         self.visited = Names::new();
         let Some(word) = self.word else {
             return;
@@ -212,16 +226,24 @@ impl Line {
         ensures told { length self.now.visited.items ≡ self.now.read }
     {}
 
-    /// Returns it parsed.
-    pub(crate) fn parsed(&self) -> ParsedLine<'_>
+    /// Returns it parsed, with what its path came to if the records are still those in which it was descended.
+    pub(crate) fn parsed(&self, is_fresh: bool) -> ParsedLine<'_>
         ensures word { result.word ≡ self.now.word }
         ensures fields { result.fields.now ≡ self.now.fields }
         ensures own { result.ahead ≡ self.now.read }
+        ensures landing { result.landing ≡ (if is_fresh then self.now.landing else Open) }
+        ensures value { result.value.now ≡ self.now.value.items }
     {
         ParsedLine {
             word: self.word,
             fields: &self.fields,
             ahead: self.read,
+            landing: if is_fresh {
+                self.landing
+            } else {
+                Landing::Open
+            },
+            value: self.value.as_slice(),
         }
     }
 
@@ -236,9 +258,10 @@ impl Line {
     /// Reads the next node of the path, if there is one. That is the node under the name that the step before came to.
     /// The next name is its child under the key's next byte. So what was visited for the line stays a way from the
     /// root, and what the reader has visited more is what the line has more. If the node is a leaf, it returns what is
-    /// read of it early: its key, and its value if the line's answer shows it.
+    /// read of it early: its key, and its value if the line's answer shows it. If the key goes on from an inner node to
+    /// no child, there is no record.
     #[inline(always)]
-    pub(crate) fn step<'a, K, const PREFIX_LEN: usize>(
+    pub(crate) fn step<'a, K: AsBytes, const PREFIX_LEN: usize>(
         &mut self,
         reader: &mut PathReader<'a, K, PREFIX_LEN>,
     ) -> Option<(&'a K, Option<&'a Vec<u8>>)>
@@ -248,13 +271,9 @@ impl Line {
             × (reader.new.visited.items ≡ reader.old.visited.items ++ more) }
         ensures along { IsStepAhead reader.old.arena.now self.old.key.items
             (self.old.node, self.old.depth) (self.new.node, self.new.depth) }
-        ensures way { (root : Option Name) → IsWayAhead reader.old.arena.now self.old.key.items root
-            self.old.visited.items self.old.left (self.old.node, self.old.depth)
-            → IsWayAhead reader.new.arena.now self.new.key.items root
-            self.new.visited.items self.new.left (self.new.node, self.new.depth) }
-        ensures leaf { IfSome result (λ early. (leaf : LeafNode K (Vec ℕ))
-            × (held_at reader.old.arena.now self.old.node ≡ Some (leaf_held leaf))
-            × (early.0.now ≡ leaf.key) × IfSome early.1 (λ value. value.now ≡ leaf.value)) }
+        ensures way { (root : Option Name) → IsOnWayIn K.bytes reader.old.arena.now root self.old
+            → IsOnWayIn K.bytes reader.new.arena.now root self.new }
+        ensures leaf { IfSome result (λ early. IsReadEarly reader.old.arena.now self.new.node early) }
         ensures shown { IfSome result (λ early. IfSome early.1 (λ _.
             shows_value (command_of self.old.text.items) ≡ true)) }
         ensures text { self.new.text.items ≡ self.old.text.items }
@@ -274,6 +293,7 @@ impl Line {
         match node.leaf() {
             Ok(leaf) => {
                 self.left = 0;
+                self.landing = Landing::Leaf;
                 Some(early_of(self.word, leaf))
             }
             Err(inner) => {
@@ -282,9 +302,39 @@ impl Line {
                         self.node = next.child;
                         self.depth = next.depth;
                     }
-                    None => self.left = 0,
+                    None => {
+                        self.left = 0;
+                        self.landing = Landing::Missed;
+                    }
                 }
                 None
+            }
+        }
+    }
+
+    /// Finds out by the key of the leaf at which its path ended whether that is the record that its look-up is for, and
+    /// keeps the record's value if it is short. Of a line that looks up no single record it finds out nothing.
+    #[inline(always)]
+    pub(crate) fn land<K: AsBytes>(&mut self, early: (&K, Option<&Vec<u8>>))
+        ensures way { (arena : Arena K (Vec ℕ)) (root : Option Name) → IsReadEarly arena self.old.node early.entry
+            → IsOnWayIn K.bytes arena root self.old → IsOnWayIn K.bytes arena root self.new }
+        ensures kept { (self.new.text ≡ self.old.text) × (self.new.read ≡ self.old.read)
+            × (self.new.of_number ≡ self.old.of_number) × (self.new.node ≡ self.old.node) }
+    {
+        let Landing::Leaf = self.landing else {
+            return;
+        };
+        let (Some(word), Some(value)) = (self.word, early.1) else {
+            return;
+        };
+        let stored = early.0.as_bytes();
+        match takes(word, stored, self.key.as_slice()) {
+            None => {}
+            Some(false) => self.landing = Landing::Missed,
+            Some(true) => {
+                if set_bytes(&mut self.value, value) {
+                    self.landing = Landing::Found(stored.len());
+                }
             }
         }
     }

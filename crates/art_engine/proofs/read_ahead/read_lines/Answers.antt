@@ -22,7 +22,7 @@ lines-preserved c =
       within = let long = i.long in omega arith;
       none = ap (λ n. read_of (take n (set l.lines l.len y))) on ∙ (let more = read_more l.lines l.len y low in let none = i.none in let read = c.read.ensures.none in omega arith);
       start = subst (λ n. AllByRecursion (IsAtStart c.args.roots.now.keys c.args.roots.now.numbers) (take n (set l.lines l.len y))) (sym on)
-          (start_more c.args.roots.now.keys c.args.roots.now.numbers l.lines l.len y low i.start (record { unvisited = c.read.ensures.unvisited; starts = c.read.ensures.start }));
+          (start_more c.args.roots.now.keys c.args.roots.now.numbers l.lines l.len y low i.start (record { unvisited = c.read.ensures.unvisited; unlanded = c.read.ensures.unlanded; starts = c.read.ensures.start }));
       next = next_more c.args.text.now rest (take end rest) (take (length rest - (end + 1)) (drop (end + 1) rest)) (texts_of (take l.len l.lines)) (texts_of (take (l.len + 1) (set l.lines l.len y)))
           i.next (after_newline rest end _ refl high found.1) (none_before rest end found.0.before)
           (ap (λ n. texts_of (take n (set l.lines l.len y))) on ∙ texts_more l.lines l.len y low ∙ ap (λ t. texts_of (take l.len l.lines) ++ t ∷ []) (c.read.ensures.text short));

@@ -3,7 +3,7 @@ use Rattle.std.proofs.Common.{inl, inr, arith, rules}
 use Rattle.art_lines.specs.Lines.{whole_lines_of}
 use Rattle.art_engine.specs.declared.read_ahead.line.Line.{Line}
 use Rattle.art_engine.proofs.Terms.{AreNext, Carried, NoNewline, to_come, read_of, texts_of}
-use Rattle.art_engine.proofs.LinesAhead.{none_to_come}
+use Rattle.art_engine.proofs.LinesAhead.{landed_none, none_to_come}
 use Rattle.art_engine.proofs.LineLemmas.{none_before, none_at_all, after_newline}
 use Rattle.art_engine.proofs.Carrying.{carried_part}
 use Rattle.art_lines.proofs.Common.{when_err}
@@ -20,7 +20,7 @@ pub finish_line-requires : goal.finish_line-requires
 finish_line-requires g c =
     let i = c.lines.invariant in
     let rest : List ℕ = c.lines.rest.now in let at : ℕ = c.in-Some.at in let found = c.in-Some.ensures in
-    (search rules, (i.fine, ((none_before rest at found.0.before, (take (length rest - (at + 1)) (drop (at + 1) rest), after_newline rest at _ refl found.0.high found.1)), (i.comes, i.cut))))
+    (search rules, (i.fine, ((none_before rest at found.0.before, (take (length rest - (at + 1)) (drop (at + 1) rest), after_newline rest at _ refl found.0.high found.1)), (i.comes, (i.landed, i.cut)))))
 
 pub lines-init : goal.lines-init
 lines-init g c = record {
@@ -32,6 +32,7 @@ lines-init g c = record {
         (subst (λ t. Carried start c.args.index.now t c.args.held.now.items before (g.W.Sink.taken c.args.sink.now) []) (sym (append-nil text)) h),
   );
   comes = subst (λ (ls : List Line). AreNext (texts_of ls) c.args.piece.now) (sym c.requires.used_up) (whole_lines_of c.args.piece.now, refl);
+  landed = landed_none g.row.PREFIX_LEN c.args.index.now.records c.args.read_ahead.now c.requires.used_up;
   cut = inr c.requires.used_up;
   counted = let none = ap read_of c.requires.used_up in omega arith;
   fine = c.requires.open;
@@ -55,6 +56,7 @@ lines-preserved g c =
             (e.carried start (text ++ done) before none (i.2 start text before h)),
       );
       comes = e.comes (take (length rest - (at + 1)) (drop (at + 1) rest)) (after_newline rest at _ refl found.0.high found.1);
+      landed = e.landed;
       cut = inl e.emptied;
       counted = let before = c.lines.invariant.counted in let now = e.counted in omega arith;
       fine = sym e.failed;

@@ -12,7 +12,7 @@ use Rattle.art_engine.proofs.Carrying.{carried_line, done_from, whole_in_piece, 
 use Rattle.art_engine.proofs.OwnPathsAhead.{after_prefetch, fewer_on, next_on_path, none_ahead, now_is_in}
 use Rattle.art_lines.proofs.Common.{when_err}
 use Rattle.art_engine.proofs.CutRuns.{cut_from, cut_run-line}
-use Rattle.art_engine.proofs.LinesAhead.{next_is}
+use Rattle.art_engine.proofs.LinesAhead.{landed_same, next_is}
 use Rattle.art_engine.proofs.running.finish_line.Goals as goal
 
 pub next-requires : goal.next-requires
@@ -24,13 +24,16 @@ pub execute_current-requires : goal.execute_current-requires
 execute_current-requires g c =
     let e = c.next.ensures in
     let few : ahead_now c.next.new.self ≤ most_ahead (command_now c.next.new.self) = subst (λ o. ahead_now c.next.new.self ≤ most_ahead o) (sym e.read) e.few in
-    (search rules, (c.requires.open, ((c.args.part.now, e.read), few)))
+    let told = e.landed g.row.PREFIX_LEN c.prefetch.new.self.records (c.prefetch.ensures.landed c.requires.landed) in
+    (search rules, (c.requires.open, ((c.args.part.now, e.read), (few, (told.1, told.0)))))
 
 pub execute_current-requires-2 : goal.execute_current-requires-2
 execute_current-requires-2 g c =
     let e = c.parse_now.ensures in let none = e.ahead in
     let few : ahead_now c.parse_now.new.self ≤ most_ahead (command_now c.parse_now.new.self) = omega arith in
-    (search rules, (c.requires.open, ((c.as_slice-line.result.now, e.read), few)))
+    let now = e.unlanded g.row.PREFIX_LEN c.args.index.now.records in
+    let all = landed_same g.row.PREFIX_LEN c.args.index.now.records c.args.read_ahead.now c.parse_now.new.self e.kept.0 e.kept.1 c.requires.landed in
+    (search rules, (c.requires.open, ((c.as_slice-line.result.now, e.read), (few, (now, all)))))
 
 pub returns-then-is_empty-clause-carried : goal.returns-then-is_empty-clause-carried
 unfolding done_from
@@ -81,7 +84,7 @@ returns-clause-carried g c = λ start text before none h.
     h none (put_together start c.args.index.now text held before (g.W.Sink.taken c.args.sink.now) c.args.part.now handled came h (c.as_slice-line.ensures.value ∙ c.append_capped.ensures))
     d.1 d.2 c.clear.ensures
     (none_ahead (records_in h.outcome) c.args.index.now.records (command_of handled) d.1.visits_ahead (now_is_in [] start c.args.index.now h.outcome.asked h.outcome.done) none_read)
-    (subst (AllOnOwnPath (records_in h.outcome)) (sym (c.in_ok-execute_current-2.ensures.kept ∙ c.parse_now.ensures.kept)) h.own)
+    (subst (AllOnOwnPath (records_in h.outcome)) (sym (c.in_ok-execute_current-2.ensures.kept ∙ c.parse_now.ensures.kept.0)) h.own)
 
 pub returns-clause-comes : goal.returns-clause-comes
 returns-clause-comes g c = λ following is.
@@ -89,18 +92,18 @@ returns-clause-comes g c = λ following is.
       | inl empty ↦ let some = eqb-false _ _ (sym c.if-is_empty.ensures) in let l = ap (λ (bs : List ℕ). length bs) empty in absurd (omega arith)
       | inr none ↦ none
     ] in
-    subst (λ ls. AreNext (texts_of ls) following) (sym (c.in_ok-execute_current-2.ensures.kept ∙ c.parse_now.ensures.kept ∙ none)) (whole_lines_of following, refl)
+    subst (λ ls. AreNext (texts_of ls) following) (sym (c.in_ok-execute_current-2.ensures.kept ∙ c.parse_now.ensures.kept.0 ∙ none)) (whole_lines_of following, refl)
 
 pub returns-clause-counted : goal.returns-clause-counted
 returns-clause-counted g c =
     let e = c.execute_current-2.ensures in let none = c.parse_now.ensures.ahead in
-    let prefetched = ap total e.prefetched in let left = ap read_of c.parse_now.ensures.kept in let now = e.counted in
+    let prefetched = ap total e.prefetched in let left = ap read_of c.parse_now.ensures.kept.0 in let now = e.counted in
     omega arith
 
 pub returns-in_err-execute_current-2-clause-counted : goal.returns-in_err-execute_current-2-clause-counted
 returns-in_err-execute_current-2-clause-counted g c =
     let e = c.execute_current-2.ensures in let none = c.parse_now.ensures.ahead in
-    let prefetched = ap total e.prefetched in let left = ap read_of c.parse_now.ensures.kept in let now = e.counted in
+    let prefetched = ap total e.prefetched in let left = ap read_of c.parse_now.ensures.kept.0 in let now = e.counted in
     omega arith
 
 pub returns-in_err-execute_current-clause-cut : goal.returns-in_err-execute_current-clause-cut

@@ -7,6 +7,7 @@ use Rattle.art_engine.proofs.OwnPathsAhead.{none_ahead, now_is_in}
 use Rattle.art_engine.proofs.Terms.{answer, most_ahead, records_in, AfterWriteFault, Carried, read_of, total}
 use Rattle.art_engine.proofs.Carrying.{carried_none, outcome_last}
 use Rattle.art_engine.proofs.CutRuns.{cut_run-last}
+use Rattle.art_engine.proofs.LinesAhead.{landed_none}
 use Rattle.art_engine.proofs.running.run_held.Goals as goal
 
 -- a read of no byte gives nothing
@@ -27,7 +28,9 @@ pub execute_current-requires : goal.execute_current-requires
 execute_current-requires g c =
     let e = c.parse_now.ensures in let none = e.ahead in
     let few : ahead_now c.parse_now.new.self ≤ most_ahead (command_now c.parse_now.new.self) = omega arith in
-    (search rules, (search rules, ((c.as_slice-line.result.now, e.read), few)))
+    let now = e.unlanded g.row.PREFIX_LEN c.reads.index.records in
+    let all = landed_none g.row.PREFIX_LEN c.reads.index.records c.parse_now.new.self (e.kept.0 ∙ c.reads.invariant.used_up) in
+    (search rules, (search rules, ((c.as_slice-line.result.now, e.read), (few, (now, all)))))
 
 pub returns-clause-outcome : goal.returns-clause-outcome
 returns-clause-outcome g c =
@@ -49,8 +52,8 @@ pub returns-clause-ahead : goal.returns-clause-ahead
 returns-clause-ahead g c =
     let counted = c.reads.invariant.counted in let e = c.execute_current.ensures in let now = e.counted in
     let none = c.parse_now.ensures.ahead in let prefetched = ap total e.prefetched in
-    let left = ap read_of (c.in_ok-execute_current.ensures.kept ∙ c.parse_now.ensures.kept ∙ c.reads.invariant.used_up) in
-    let due = ap read_of (c.parse_now.ensures.kept ∙ c.reads.invariant.used_up) in
+    let left = ap read_of (c.in_ok-execute_current.ensures.kept ∙ c.parse_now.ensures.kept.0 ∙ c.reads.invariant.used_up) in
+    let due = ap read_of (c.parse_now.ensures.kept.0 ∙ c.reads.invariant.used_up) in
     omega arith
 
 pub returns-in_err-execute_current-clause-ahead : goal.returns-in_err-execute_current-clause-ahead
@@ -58,7 +61,7 @@ returns-in_err-execute_current-clause-ahead g c =
     let counted = c.reads.invariant.counted in let e = c.execute_current.ensures in let now = e.counted in
     let none = c.parse_now.ensures.ahead in let prefetched = ap total e.prefetched in
     let left = ap read_of c.in_err-execute_current.ensures.used_up in
-    let due = ap read_of (c.parse_now.ensures.kept ∙ c.reads.invariant.used_up) in
+    let due = ap read_of (c.parse_now.ensures.kept.0 ∙ c.reads.invariant.used_up) in
     omega arith
 
 pub returns-in_err-feed-clause-ahead : goal.returns-in_err-feed-clause-ahead

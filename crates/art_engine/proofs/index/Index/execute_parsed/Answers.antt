@@ -17,8 +17,8 @@ returns-clause-done g c = λ line read.
 pub returns-in_err-written-clause-cut : goal.returns-in_err-written-clause-cut
 returns-in_err-written-clause-cut g c = λ line read.
     let n = c.count-visits.ensures in let a = c.count_ahead.ensures in let visits = c.execute-done.result.reads.number in
-    when_err _ (told_ahead c.args.self.now c.count-visits.new.self c.count_ahead.new.self line _ _ c.args.ahead
+    when_err _ (told_ahead c.args.self.now c.count-visits.new.self c.count_ahead.new.self line _ _ c.args.line.now.ahead
     (line_cut _ line c.execute-done.result.memory visits _ c.execute-done.new.self c.execute-done.result.written _ _ _ _ c.args.self.now c.count-visits.new.self
     read c.execute-done.ensures (ap (λ (s : State g.row.PREFIX_LEN). s.records) c.self.view_is) n.kept.0 c.in_err-written.was
     (n.counted ∙ ap (λ (s : State g.row.PREFIX_LEN). s.reads ++ visits ∷ []) c.self.view_is))
-    (n.kept.1 ∙ ap (λ (s : State g.row.PREFIX_LEN). s.ahead) c.self.view_is) (subst (λ o. c.args.ahead ≤ most_ahead o) read c.requires.few) a.kept.0 a.kept.1 a.counted)
+    (n.kept.1 ∙ ap (λ (s : State g.row.PREFIX_LEN). s.ahead) c.self.view_is) (subst (λ o. c.args.line.now.ahead ≤ most_ahead o) read c.requires.few) a.kept.0 a.kept.1 a.counted)

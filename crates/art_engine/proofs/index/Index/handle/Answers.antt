@@ -3,7 +3,7 @@ use Rattle.art_engine.proofs.CarriedOut.{if_ok}
 use Rattle.art_engine.proofs.index.Index.handle.Goals as goal
 
 pub execute_parsed-requires : goal.execute_parsed-requires
-execute_parsed-requires g c = (search rules, (c.requires, ((c.args.line.now, c.read_line-word.ensures), omega arith)))
+execute_parsed-requires g c = (search rules, (c.requires, ((c.args.line.now, c.read_line-word.ensures), (omega arith, tt))))
 
 pub returns-clause-output : goal.returns-clause-output
 returns-clause-output g c = if_ok c.execute_parsed.result (λ d e. e.output) (c.execute_parsed.ensures.done c.args.line.now c.read_line-word.ensures)

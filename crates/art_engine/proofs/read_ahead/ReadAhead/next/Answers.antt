@@ -1,9 +1,10 @@
-use Rattle.std.proofs.Common.{◌≡◌, suc, ◌+◌, ◌<◌, length, drop, take, Some, ap, sym, ◌∙◌, arith}
+use Rattle.std.proofs.Common.{subst, ◌≡◌, suc, ◌+◌, ◌<◌, length, drop, take, Some, ap, sym, ◌∙◌, arith}
 use Rattle.std.specs.Prelude.{slice_get}
-use Rattle.art_engine.specs.ReadAhead.{line_or}
+use Rattle.std.specs.List.{AllByRecursion}
+use Rattle.art_engine.specs.ReadAhead.{IsLandedLine, line_or, to_come}
 use Rattle.art_engine.specs.declared.read_ahead.line.Line.{Line}
 use Rattle.art_engine.proofs.Terms.{read_of}
-use Rattle.art_engine.proofs.LinesAhead.{few_there, found_there, next_there, own_there, read_there, counted_after}
+use Rattle.art_engine.proofs.LinesAhead.{counted_after, few_there, found_there, landed_rest, landed_same, landed_there, next_there, own_there, read_there}
 use Rattle.art_engine.proofs.read_ahead.ReadAhead.next.Goals as goal
 
 pub returns-then-at-len-clause-read : goal.returns-then-at-len-clause-read
@@ -36,3 +37,17 @@ returns-then-at-len-clause-own c =
     let on : s.at + 1 ≡ suc s.at = omega arith in
     let own = own_there s.lines.items s.len s.at c.if-at-self.true fits in
     (own.0, ap (λ n. drop n (take s.len s.lines.items)) on ∙ own.1)
+
+pub returns-then-at-len-clause-landed : goal.returns-then-at-len-clause-landed
+returns-then-at-len-clause-landed c = λ P records all.
+    let s = c.args.self.now in
+    let fits : s.at < length s.lines.items = let l = c.len.ensures in let i = c.if-at-len.true in omega arith in
+    let on : s.at + 1 ≡ suc s.at = omega arith in
+    let own = own_there s.lines.items s.len s.at c.if-at-self.true fits in (
+      λ now. subst (AllByRecursion (IsLandedLine P records)) (sym (ap (λ n. drop n (take s.len s.lines.items)) on ∙ own.1)) (landed_rest P records (to_come s) (all now)),
+      landed_there P records s.lines.items s.len s.at s.fresh s.word s.fields c.if-at-self.true fits all,
+    )
+
+pub returns-clause-landed : goal.returns-clause-landed
+returns-clause-landed c = λ P records all.
+    let k = c.parse_now.ensures in (landed_same P records c.args.self.now c.parse_now.new.self k.kept.0 k.kept.1 all, k.unlanded P records)

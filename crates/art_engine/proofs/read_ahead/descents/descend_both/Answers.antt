@@ -3,7 +3,7 @@ use Rattle.std.proofs.lemmas.List.{length-take-le}
 use Rattle.std.specs.List.{AllByRecursion}
 use Rattle.art_engine.specs.ReadAhead.{IsOnOwnWay}
 use Rattle.art_engine.proofs.WaysAhead.{all_own, take_first}
-use Rattle.art_engine.proofs.read_ahead.descend_both.Goals as goal
+use Rattle.art_engine.proofs.read_ahead.descents.descend_both.Goals as goal
 
 pub returns-clause-ways : goal.returns-clause-ways
 returns-clause-ways g c = λ keys_root numbers_root own.
