@@ -1,13 +1,19 @@
 -- A load, as far as it has come.
-use Rattle.std.proofs.Common.{◌≡◌, ℕ, ◌+◌, ◌≤◌, Bool, true, false, List, [], ◌∷◌, ◌++◌, length, Option, Some, None, refl, sym, ap, ap₂, ◌∙◌, subst, append_assoc, arith}
+use Rattle.std.proofs.Common.{◌≡◌, ℕ, ◌+◌, ◌≤◌, Bool, true, false, List, [], ◌∷◌, ◌++◌, length, Option, Some, None, refl, sym, ap, ap₂, ◌∙◌, inl, inr, subst, append_assoc, arith}
 use Rattle.std.proofs.lemmas.List.{length-append}
-use Rattle.std.specs.Prelude.{IsTrue, if◌then◌else◌, is_ok, IfErr, OnErr, OnOk, Result, Ok, Err}
+use Rattle.std.specs.Ordering.{is_lt}
+use Rattle.std.specs.Prelude.{IsTrue, if◌then◌else◌, is_ok, IfErr, IfSome, OnErr, OnOk, Result, Ok, Err}
+use Rattle.art_bytes.proofs.Common.{IsBefore, before_cmp, bytes_cmp}
+use Rattle.art_arena.proofs.Common.{all_at, key_of}
+use Rattle.art_operations.specs.Builders.{IsAfterAll}
+use Rattle.art_operations.specs.KeyedLists.{HasKey}
 use Rattle.art_operations.specs.Insertions.{IsForConflict, IsPairRefused}
 use Rattle.art_operations.specs.declared.insert.result.PairRefused.{PairRefused}
 use Rattle.art_operations.specs.declared.insert.result.PairRefused.TheVariants as refused_by
 use Rattle.art_operations.proofs.Common.{with_pair_put}
 use Rattle.art_map.proofs.Common.{with_pairs_put}
 use Rattle.art_map.proofs.Puts.{put-more}
+use Rattle.art_map.proofs.StoredKeys.{puts-have}
 use Rattle.art_c.specs.Calls.{IsPutRefused, whole}
 use Rattle.art_c.specs.Handles.{Pairs}
 use Rattle.art_c.specs.Layouts.{end_to_end, items_of_pairs}
@@ -27,6 +33,11 @@ module _ {V : Type 0} where
   key-more [] p = refl
   key-more (q ∷ []) p = refl
   key-more (q ∷ r ∷ ps) p = key-more (r ∷ ps) p
+
+  pub last-in : (ps : Pairs V) (b : List ℕ) → last_key ps ≡ Some b → HasKey (key_of whole) b ps
+  last-in [] b is = absurd (cc)
+  last-in (p ∷ []) b is = let e : p.0 ≡ b = cc in (p, inl refl, e)
+  last-in (p ∷ q ∷ ps) b is = let (x, i, e) = last-in (q ∷ ps) b is in (x, inr i, e)
 
   -- why a pair does not go in, by why a put of it does not
   pub not_in : (before : Option (List ℕ)) (key : List ℕ) (pairs : Pairs V) (code : Code) → is_above before key ≡ true
@@ -60,17 +71,32 @@ module _ {V E : Type 0} (k key : List ℕ) (v value : V) (Had Has : Pairs V → 
 pub short-key : (bytes : List ℕ) (n : ℕ) → length bytes ≡ n → n ≤ 30 → IsLong bytes → ⊥
 short-key bytes n same few many = omega (arith, same, few, many)
 
--- what room a put leaves, and why it is refused
-module _ {K V : Type 0} (r : Result (Unit {0}) (PairRefused K V)) (is : Bool) (told : is ≡ is_ok r) where
+-- room that is used or not is some
+pub some-room : (is : Bool) (n : ℕ) → 1 ≤ n → 1 ≤ (if is then n + 2 else n)
+some-room true n one = omega arith
+some-room false n one = one
+
+-- what room a put leaves
+module _ {E : Type 0} (r : Result (Unit {0}) E) (is : Bool) (told : is ≡ is_ok r) where
   pub put_room : (Was Has : ℕ → Type 0) → ((n : ℕ) → Was (n + 2) → Has n) → OnErr r ((n : ℕ) → 1 ≤ n → Was n → Has n)
       → (n : ℕ) → 1 ≤ n → Was (if is then n + 2 else n) → Has n
   put_room Was Has room kept n one has = step r (subst (λ b. Was (if b then n + 2 else n)) told has) kept
     where
-      step : (r : Result (Unit {0}) (PairRefused K V)) → Was (if is_ok r then n + 2 else n)
+      step : (r : Result (Unit {0}) E) → Was (if is_ok r then n + 2 else n)
           → OnErr r ((n : ℕ) → 1 ≤ n → Was n → Has n) → Has n
       step (Ok _) has kept = room n has
       step (Err e) has kept = kept n one has
 
+  -- what is so of a success is so where it is told
+  pub put_so : {P : Type 0} → OnOk r P → IsTrue is → P
+  put_so {P} so passed = step r so (sym told ∙ passed)
+    where
+      step : (r : Result (Unit {0}) E) → OnOk r P → is_ok r ≡ true → P
+      step (Ok _) so passed = so
+      step (Err e) so passed = absurd (cc)
+
+-- why one is refused
+module _ {K V : Type 0} (r : Result (Unit {0}) (PairRefused K V)) (is : Bool) (told : is ≡ is_ok r) where
   pub put_blocked : (k : K) (v : V) (Had : List (K × V) → Type 0) (Blocked : List (K × V) → Type 0) (Room : Type 0)
       → IfErr r (λ e. (pairs : List (K × V)) → Had pairs → IsPairRefused k v (Blocked pairs) e)
       → IfErr r (λ e. Room → IsForConflict e)
@@ -84,6 +110,14 @@ module _ {K V : Type 0} (r : Result (Unit {0}) (PairRefused K V)) (is : Bool) (t
       step (Err (refused_by.Conflict x y)) refused free out = (refused pairs had).2
       step (Err (refused_by.Memory x y)) refused free out = absurd (free room)
 
+-- a key that goes after all is above that of one of them
+pub after-above : {V : Type 0} (before : Option (List ℕ)) (key : List ℕ) (pairs : Pairs V) → IsAfterAll whole key pairs
+    → IfSome before (λ b. HasKey (key_of whole) b pairs) → IsTrue (is_above before key)
+after-above None key pairs following has = refl
+after-above (Some b) key pairs following (p, i, is) =
+    let before = all_at (λ (q : List ℕ × _). IsBefore q.0 key) p pairs following i in
+    ap is_lt (ap (λ k. bytes_cmp k key) (sym is) ∙ before_cmp p.0 key before)
+
 module _ {V I : Type 0} (text : V → List ℕ) (item : List ℕ → V → I) (bytes : List ℕ) (items : List I) (old : Pairs V) where
   -- so many pairs were taken, and this is what is left of the buffer
   pub record Taken (rest : List ℕ) (left : List I) (at : ℕ) (before : Option (List ℕ)) (now : Pairs V) : Type 0 where
@@ -94,6 +128,15 @@ module _ {V I : Type 0} (text : V → List ℕ) (item : List ℕ → V → I) (b
     pub rises : Rises taken
     pub key : before ≡ last_key taken
     pub put : now ≡ with_pairs_put whole taken old
+
+  -- the last that was taken is in
+  pub before-in : {rest : List ℕ} {left : List I} {at : ℕ} {before : Option (List ℕ)} {now : Pairs V} → Taken rest left at before now
+      → IfSome before (λ b. HasKey (key_of whole) b now)
+  before-in {rest} {left} {at} {before} {now} t = go before t.key
+    where
+      go : (o : Option (List ℕ)) → o ≡ last_key t.taken → IfSome o (λ b. HasKey (key_of whole) b now)
+      go None is = tt
+      go (Some b) is = subst (HasKey (key_of whole) b) (sym t.put) (puts-have whole b t.taken old (last-in t.taken b (sym is)))
 
   -- none is taken yet
   pub none-loaded : Taken bytes items 0 None old

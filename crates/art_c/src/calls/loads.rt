@@ -1,5 +1,6 @@
 //! Many pairs are put in.
-ghost use Rattle.std.specs.Prelude.{◌≡◌, ◌+◌, ◌*◌, ◌≤◌, ℕ, suc, false, if◌then◌else◌, IfOk, MatchResult, option_map};
+ghost use Rattle.std.specs.Prelude.{◌≡◌, ◌+◌, ◌*◌, ◌≤◌, ℕ, suc, false, if◌then◌else◌, IfOk, IfSome, IsTrue};
+ghost use Rattle.std.specs.Prelude.{MatchResult, option_map};
 ghost use Rattle.art_arena.specs.arena.Shapes.{key_of};
 ghost use Rattle.art_bytes.specs.Keys.{AreBytes};
 ghost use Rattle.art_c.specs.Calls.{IsPutRefused, whole};
@@ -8,7 +9,8 @@ ghost use Rattle.art_c.specs.Loads.{AreShort, is_above, IsLoaded, IsLoadedIn};
 ghost use Rattle.art_c.specs.Placed.{IsLong};
 ghost use Rattle.art_c.specs.declared.code.Code.TheVariants.{NoMemory};
 ghost use Rattle.art_map.specs.Builders.{HasGathered, HasRoomLeft};
-ghost use Rattle.art_operations.specs.KeyedLists.{IsBlocked};
+ghost use Rattle.art_operations.specs.Builders.{IsAfterAll};
+ghost use Rattle.art_operations.specs.KeyedLists.{HasKey, IsBlocked};
 ghost use Rattle.art_operations.specs.Pairs.{with_pair_put};
 
 use crate::bytes::Bytes;
@@ -32,9 +34,40 @@ fn is_above(before: Option<&[u8]>, key: &[u8]) -> bool
 /// A map in the making.
 type Builder<V> = TreeMapBuilder<Bytes, V, 16>;
 
-/// Puts a pair in, after the others where its key is above theirs. It tells whether it did. It did not where a stored
-/// key blocks the key, or there is no memory.
-fn put_after<V: Value>(
+/// Puts a pair in after all others, if all before it went there. It tells whether it did. It did not where its key
+/// doesn't go after all, or there is no memory.
+fn push_after<V: Value>(
+    builder: &mut Builder<V>,
+    alloc: Global,
+    at_end: bool,
+    key: &[u8],
+    item: V::Item,
+    text: &[u8],
+) -> bool
+    requires taken { (pairs : Pairs V) × HasGathered whole AreBytes builder.old pairs }
+    ensures pairs { (pairs : Pairs V) → HasGathered whole AreBytes builder.old pairs
+        → HasGathered whole AreBytes builder.new
+        (if result then with_pair_put whole key.now (V.value_of item text.now) pairs else pairs) }
+    ensures after { IsTrue result → (pairs : Pairs V) → HasGathered whole AreBytes builder.old pairs
+        → IsAfterAll whole key.now pairs }
+    ensures room { (n : ℕ) → 1 ≤ n → HasRoomLeft builder.old (if result then n + 2 else n)
+        → HasRoomLeft builder.new n }
+{
+    if !at_end {
+        return false;
+    }
+    let Ok(key) = Bytes::copied(alloc, key) else {
+        return false;
+    };
+    let Ok(value) = V::made(alloc, item, text) else {
+        return false;
+    };
+    builder.push(key, value).is_ok()
+}
+
+/// Puts a pair in where its key belongs. It tells whether it did. It did not where a stored key blocks the key, or
+/// there is no memory.
+fn put_inside<V: Value>(
     builder: &mut Builder<V>,
     alloc: Global,
     key: &[u8],
@@ -45,7 +78,8 @@ fn put_after<V: Value>(
     ensures pairs { (pairs : Pairs V) → HasGathered whole AreBytes builder.old pairs
         → HasGathered whole AreBytes builder.new
         (if result then with_pair_put whole key.now (V.value_of item text.now) pairs else pairs) }
-    ensures room { (n : ℕ) → 1 ≤ n → HasRoomLeft builder.old (if result then n + 2 else n) → HasRoomLeft builder.new n }
+    ensures room { (n : ℕ) → 1 ≤ n → HasRoomLeft builder.old (if result then n + 2 else n)
+        → HasRoomLeft builder.new n }
     ensures refused { result ≡ false → (pairs : Pairs V) → HasGathered whole AreBytes builder.old pairs
         → HasRoomLeft builder.old 2 → (IsLong key.now → ⊥) → (IsLong text.now → ⊥)
         → IsBlocked (key_of whole) key.now pairs }
@@ -57,6 +91,43 @@ fn put_after<V: Value>(
         return false;
     };
     builder.try_put(key, value).is_ok()
+}
+
+/// Puts a pair in whose key is above the one before it, which is in. It tells whether it did. It did not where the key
+/// isn't above, where a stored key blocks it, or there is no memory. As long as keys go after all, each is compared
+/// once.
+fn put_above<V: Value>(
+    builder: &mut Builder<V>,
+    alloc: Global,
+    at_end: &mut bool,
+    before: Option<&[u8]>,
+    key: &[u8],
+    item: V::Item,
+    text: &[u8],
+) -> bool
+    requires taken { (pairs : Pairs V) × HasGathered whole AreBytes builder.old pairs }
+    ensures pairs { (pairs : Pairs V) → HasGathered whole AreBytes builder.old pairs
+        → HasGathered whole AreBytes builder.new
+        (if result then with_pair_put whole key.now (V.value_of item text.now) pairs else pairs) }
+    ensures above { IsTrue result → (pairs : Pairs V) → HasGathered whole AreBytes builder.old pairs
+        → IfSome (option_map (λ bytes. bytes.now) before.entry) (λ b. HasKey (key_of whole) b pairs)
+        → IsTrue (is_above (option_map (λ bytes. bytes.now) before.entry) key.now) }
+    ensures room { (n : ℕ) → 1 ≤ n → HasRoomLeft builder.old (if result then n + 2 else n)
+        → HasRoomLeft builder.new n }
+    ensures refused { result ≡ false → (pairs : Pairs V) → HasGathered whole AreBytes builder.old pairs
+        → IsTrue (is_above (option_map (λ bytes. bytes.now) before.entry) key.now)
+        → HasRoomLeft builder.old 2 → (IsLong key.now → ⊥) → (IsLong text.now → ⊥)
+        → IsBlocked (key_of whole) key.now pairs }
+{
+    *at_end = push_after(builder, alloc, *at_end, key, item, text);
+    if *at_end {
+        return true;
+    }
+    let rises = is_above(before, key);
+    if !rises {
+        return false;
+    }
+    put_inside(builder, alloc, key, item, text)
 }
 
 /// Puts in the pairs of a buffer, and tells how it ends, or the key of the first pair that is not put in.
@@ -80,16 +151,16 @@ fn put_rising<'a, V: Value>(
     ensures room { (n : ℕ) → 1 ≤ n → HasRoomLeft builder.old (n + 2 * taken.new) → HasRoomLeft builder.new n }
     ensures ended { IfOk result (λ code. code ≡ NoMemory → ⊥) }
 {
-    let (mut rest, mut before) = (bytes, None);
+    let (mut rest, mut before, mut at_end) = (bytes, None, true);
     for (at, item) in items.iter().enumerate() {
         *taken = at;
         let Some((key, text, following)) = V::parts(*item, rest) else {
             return Ok(Code::CutOff);
         };
-        if !is_above(before, key) {
-            return Ok(Code::NotAbove);
-        }
-        if !put_after(builder, alloc, key, *item, text) {
+        if !put_above(builder, alloc, &mut at_end, before, key, *item, text) {
+            if !is_above(before, key) {
+                return Ok(Code::NotAbove);
+            }
             return Err(key);
         }
         (rest, before) = (following, Some(key));

@@ -5,7 +5,7 @@ use Rattle.art_map.specs.Builders.{HasGathered, HasRoomLeft}
 use Rattle.art_operations.specs.KeyedLists.{IsBlocked}
 use Rattle.art_c.specs.Calls.{whole}
 use Rattle.art_c.proofs.Loads.{put_blocked, put_room, put_told}
-use Rattle.art_c.proofs.calls.loads.put_after.Goals as goal
+use Rattle.art_c.proofs.calls.loads.put_inside.Goals as goal
 
 pub returns-in_default-clause-refused : goal.returns-in_default-clause-refused
 returns-in_default-clause-refused g c = λ _ pairs had room short_key short. absurd (short_key c.in_default.ensures.long)
