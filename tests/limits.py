@@ -28,6 +28,8 @@ PAGES, STEP = 200, 9
 SAMPLED = 4
 # KiB.
 STACKS = (64, 96, 128)
+# So many records that lines are read ahead, and what is asked of each.
+AHEAD, READ_AHEAD = 17_000, ((b"put", b" 61"), (b"get", b""))
 # Puts; the leaves of a slab that has only doubled; and spaces in MiB in which such a slab can't double once more.
 MANY, DOUBLED, SPACES = 140_000, 1 << 17, (27, 28, 29, 30)
 # (Linux's ADDR_NO_RANDOMIZE: what a program takes to begin with is then the same in each run)
@@ -154,9 +156,12 @@ def space_is_short(every, program, word):
 
 
 def stack_is_short(program, kib):
-    """Each line, with keys and values of any length, and what is said to an argument."""
+    """Each line, with keys and values of any length, those that are read ahead, and what is said to an argument."""
     found = run(program, b"\n".join(LONG), stack=kib << 10)
     assert found == (wanted(), b"", 0), f"{found[0][-100:], *found[1:]} under {kib} KiB"
+    puts, gets = (b"".join(b"%b 1 %08x%b\n" % (word, it, more) for it in range(AHEAD)) for word, more in READ_AHEAD)
+    found = run(program, puts + gets, stack=kib << 10)
+    assert found == (b"new\n" * AHEAD + b"is 61\n" * AHEAD, b"", 0), f"{found[1:]} under {kib} KiB, read ahead"
     told = (b"", b"art_index: takes no arguments\n", 2)
     for words in (["-"], ["x" * 100] * 8):
         found = run(program, b"", stack=kib << 10, words=words)

@@ -25,8 +25,7 @@ use art_engine::{Index, RunFault, flushed, run};
 use art_lines::buffered::reserve_buffer;
 use art_lines::{Buffered, FromReader, ToWriter};
 use buffered::{Gathering, run_buffered};
-use serving::{Ends, report, touch_stack};
-use std::env;
+use serving::{Ends, count_args, report, touch_stack};
 use std::process::ExitCode;
 
 /// The number of bytes of a prefix that an inner node stores.
@@ -105,15 +104,12 @@ fn serve_at_once(rt: &HostRuntime, index: &mut Index<PREFIX_LEN>) -> Ends
 }
 
 fn main(rt: HostRuntime) -> ExitCode {
-    let count = match env::args(&rt) {
-        Ok(args) => args.count(),
-        Err(_) => usize::MAX,
-    };
+    let count = count_args(&rt);
     if count > 1 {
         let _ = eprintln!(rt; "art_index: takes no arguments");
         return ExitCode::from(2);
     }
-    let filler = touch_stack(count, count / 2);
+    let filler = touch_stack(count, count_args(&rt) / 2);
     let mut index: Index<PREFIX_LEN> = Index::new(rt.alloc());
     let ends = match reserve_buffer(rt.alloc(), filler) {
         Ok(room) => serve(&rt, &mut index, room),

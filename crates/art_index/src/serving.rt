@@ -4,6 +4,7 @@ ghost use Rattle.std.specs.Process.{exit_status};
 
 use art_engine::RunFault;
 use art_lines::{FromReader, ToWriter};
+use std::env;
 use std::io::{Stdin, Stdout};
 use std::process::ExitCode;
 
@@ -15,8 +16,18 @@ pub(crate) struct Ends {
     pub(crate) done: Result<(), RunFault>,
 }
 
+/// Counts the words of the command, its name included: as many as there can be, where they can't be read. (It is called
+/// twice: Rattle's own compiler puts what is called once into the frame around it, and the 8 KiB by which words are read
+/// would lie below every line.)
+pub(crate) fn count_args(rt: &HostRuntime) -> usize {
+    match env::args(rt) {
+        Ok(args) => args.count(),
+        Err(_) => usize::MAX,
+    }
+}
+
 /// The bytes of the stack that a line may need, and some more.
-const DEPTH: usize = 48_128;
+const DEPTH: usize = 58_368;
 
 /// Has the stack grow, so that no line needs it to grow when memory is short: where it can't grow, a program is ended.
 /// The byte that it answers follows from two numbers that no compiler knows, so that none leaves out its room.
