@@ -25,7 +25,8 @@ use art_engine::{Index, RunFault, flushed, run};
 use art_lines::buffered::reserve_buffer;
 use art_lines::{Buffered, FromReader, ToWriter};
 use buffered::{Gathering, run_buffered};
-use serving::{Ends, count_args, report, touch_stack};
+use serving::{Ends, report, touch_stack};
+use std::env;
 use std::process::ExitCode;
 
 /// The number of bytes of a prefix that an inner node stores.
@@ -101,6 +102,15 @@ fn serve_at_once(rt: &HostRuntime, index: &mut Index<PREFIX_LEN>) -> Ends
     let ran = run(index, &mut source, &mut sink);
     let done = flushed(ran, &mut sink);
     Ends { source, sink, done }
+}
+
+/// Counts the words of the command, its name included. (It is called twice: Rattle's own compiler puts what is called
+/// once into the frame around it, and the 8 KiB by which words are read would lie below every line.)
+fn count_args(rt: &HostRuntime) -> usize {
+    match env::args(rt) {
+        Ok(args) => args.count(),
+        Err(_) => usize::MAX,
+    }
 }
 
 fn main(rt: HostRuntime) -> ExitCode {

@@ -4,7 +4,6 @@ ghost use Rattle.std.specs.Process.{exit_status};
 
 use art_engine::RunFault;
 use art_lines::{FromReader, ToWriter};
-use std::env;
 use std::io::{Stdin, Stdout};
 use std::process::ExitCode;
 
@@ -14,16 +13,6 @@ pub(crate) struct Ends {
     pub(crate) source: FromReader<Stdin>,
     pub(crate) sink: ToWriter<Stdout>,
     pub(crate) done: Result<(), RunFault>,
-}
-
-/// Counts the words of the command, its name included: as many as there can be, where they can't be read. (It is called
-/// twice: Rattle's own compiler puts what is called once into the frame around it, and the 8 KiB by which words are read
-/// would lie below every line.)
-pub(crate) fn count_args(rt: &HostRuntime) -> usize {
-    match env::args(rt) {
-        Ok(args) => args.count(),
-        Err(_) => usize::MAX,
-    }
 }
 
 /// The bytes of the stack that a line may need, and some more.
