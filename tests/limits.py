@@ -155,13 +155,14 @@ def space_is_short(every, program, word):
     assert refused[-1] == 0, "the last limit is not ample"
 
 
-def stack_is_short(program, kib):
-    """Each line, with keys and values of any length, those that are read ahead, and what is said to an argument."""
+def stack_is_short(every, program, kib):
+    """Each line, with keys and values of any length, those that are read ahead, and what is said to an argument. (Of a
+    build without proofs none is read ahead: it takes more.)"""
     found = run(program, b"\n".join(LONG), stack=kib << 10)
     assert found == (wanted(), b"", 0), f"{found[0][-100:], *found[1:]} under {kib} KiB"
     puts, gets = (b"".join(b"%b 1 %08x%b\n" % (word, it, more) for it in range(AHEAD)) for word, more in READ_AHEAD)
-    found = run(program, puts + gets, stack=kib << 10)
-    assert found == (b"new\n" * AHEAD + b"is 61\n" * AHEAD, b"", 0), f"{found[1:]} under {kib} KiB, read ahead"
+    found = run(program, puts + gets, stack=kib << 10) if every == 1 else None
+    assert found in (None, (b"new\n" * AHEAD + b"is 61\n" * AHEAD, b"", 0)), f"{found[1:]} under {kib} KiB, read ahead"
     told = (b"", b"art_index: takes no arguments\n", 2)
     for words in (["-"], ["x" * 100] * 8):
         found = run(program, b"", stack=kib << 10, words=words)
@@ -185,7 +186,7 @@ def slab_grows_by_less(program, spaces):
 
 
 def tests(every):
-    named = [(f"the stack has {it} KiB", stack_is_short, it) for it in STACKS]
+    named = [(f"the stack has {it} KiB", functools.partial(stack_is_short, every), it) for it in STACKS]
     named += [(f"space is short for {it}", functools.partial(space_is_short, every), it) for it in LAST]
     return named + [(f"a slab grows by less in {SPACES[0]} to {SPACES[-1]} MiB", slab_grows_by_less, SPACES)]
 
