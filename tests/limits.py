@@ -7,7 +7,7 @@
 The address space is limited by the page, from the least at which the program answers to where all that is put has room.
 Under each limit some thousand puts are answered `new` or `memory`, and then a line is answered, of each kind in turn; a
 dump tells exactly what was answered `new`. Where no slab can double it grows by less. And the stack is limited: 64 KiB are
-enough for any line.
+enough for any line of a proved build.
 """
 import collections
 import ctypes
@@ -156,8 +156,8 @@ def space_is_short(every, program, word):
 
 
 def stack_is_short(every, program, kib):
-    """Each line, with keys and values of any length, those that are read ahead, and what is said to an argument. (Of a
-    build without proofs none is read ahead: it takes more.)"""
+    """Each line, with keys and values of any length, those that are read ahead, and what is said to an argument. (Lines that
+    are read ahead take more in a build without proofs: there they aren't tried.)"""
     found = run(program, b"\n".join(LONG), stack=kib << 10)
     assert found == (wanted(), b"", 0), f"{found[0][-100:], *found[1:]} under {kib} KiB"
     puts, gets = (b"".join(b"%b 1 %08x%b\n" % (word, it, more) for it in range(AHEAD)) for word, more in READ_AHEAD)
